@@ -1,0 +1,5 @@
+pub mod Lists
+pub mod Order
+pub mod Agree
+pub mod Programs
+pub mod Kept
