@@ -17,7 +17,7 @@ use Rattle.swap_record.specs.declared.Op.TheVariants as op
 use Rattle.swap_queue.specs.Queue as queue
 use Rattle.swap_queue.specs.Queue.{Queue, Places, Copy, places_of, newest, next, flying, first_of}
 use Rattle.swap_disk.specs.Disk.{Flight, Write, Read, Finished, which_of, same_which, is_flight_of, without}
-use Rattle.swap_disk.specs.Port.{writes_in, is_write, kept_by, settled_with, bytes_given}
+use Rattle.swap_disk.specs.Port.{writes_in, is_write, kept_by, settled_with}
 use Rattle.swap_calls.specs.Calls as calls
 use Rattle.swap_calls.specs.Calls.{Call, Calls, state_of, call_of, idle}
 use Rattle.swap_calls.specs.declared.Arrived.{Arrived}

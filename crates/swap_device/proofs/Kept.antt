@@ -18,8 +18,8 @@ use Rattle.swap_record.specs.History.{History, array, last, is_out_of, is_zero, 
 use Rattle.swap_queue.specs.Queue as queue
 use Rattle.swap_queue.specs.Queue.{Queue, Places, Copy, places_of, newest, next, flying, first_of}
 use Rattle.swap_disk.specs.declared.DiskDone.{DiskDone}
-use Rattle.swap_disk.specs.Disk.{Flight, Write, Read, Finished, Taken, which_of, page_of, is_flight_of, without}
-use Rattle.swap_disk.specs.Port.{Port, DiskCall, DiskAnswer, StartWrite, StartRead, TakeDone, LetFinish, Follows, Takes, EndsOne, EndsNone, TakesTold, LetsFinish, Finishes, started, settled_with, bytes_given, done_of, kept_by}
+use Rattle.swap_disk.specs.Disk.{Flight, Write, Read, Finished, Taken, which_of, page_of, is_flight_of, without, bytes_given, done_of}
+use Rattle.swap_disk.specs.Port.{Port, DiskCall, DiskAnswer, StartWrite, StartRead, TakeDone, LetFinish, Follows, Takes, EndsOne, EndsNone, TakesTold, LetsFinish, Finishes, started, settled_with, kept_by}
 use Rattle.swap_calls.specs.Calls as calls
 use Rattle.swap_calls.specs.Calls.{Call, Calls, state_of, call_of, idle, is_idle}
 use Rattle.swap_calls.specs.declared.Arrived.{Arrived}
@@ -146,10 +146,14 @@ wrote_back T d p now page bytes false (Some copy) h eb ef en there settled e =
     rw (eb, ef, en) (wrote_agrees T _ _ (zeros d.sizes) d.history d.queue p.blocks p.flights p.finished d.calls page bytes (newest d.queue page) true h there (λ _. some_first (next d.queue page) (flying d.queue page) (copy_flies T bytes (flying d.queue page) w.1))
     (after_bad (block_in p.blocks page) (next d.queue page) (flying d.queue page) copy _ e (h.held page w.0)))
 
+not_finished : (f : Finished) (o : Option Finished) → o ≡ None → o ≡ Some f → ⊥
+not_finished f None e h = cc
+not_finished f (Some g) e h = cc
+
 -- where blocks are told, the block of a write that came back ok holds its bytes
 is_settled : (bl : Option (List (List ℕ))) (fs : List Flight) (fin : Option Finished) (page : Page) (bytes given : List ℕ) (ok : Bool) → IsUnderWay bl fs fin → TakesTold bl fin (Write page bytes) ok given → ok ≡ true → IsBlock (block_in bl page) bytes
 is_settled None fs fin page bytes given ok u told is_ok = tt
-is_settled (Some blocks) fs None page bytes given ok u told is_ok = let e : None ≡ Some (record { flight = Write page bytes; ok = ok }) = told.0 in cc
+is_settled (Some blocks) fs None page bytes given ok u told is_ok = absurd (not_finished _ None refl told.0)
 is_settled (Some blocks) fs (Some f) page bytes given ok u told is_ok =
     let e : Some f ≡ Some (record { flight = Write page bytes; ok = ok }) = told.0 in
     let same : f ≡ record { flight = Write page bytes; ok = ok } = cc in

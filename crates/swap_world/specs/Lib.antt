@@ -1,0 +1,5 @@
+pub mod World
+pub mod Laws
+pub mod Rows
+pub mod Answered
+pub mod Runs

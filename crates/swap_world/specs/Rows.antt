@@ -1,0 +1,62 @@
+-- Rows of events by hand.
+use Rattle.std.specs.Prelude.{◌≡◌, ℕ, Bool, true, false, List, [], ◌∷◌, replicate, None}
+use Rattle.swap_base.specs.declared.Page.{Page}
+use Rattle.swap_base.specs.declared.Caller.{Caller}
+use Rattle.swap_base.specs.declared.EntryNo.{EntryNo}
+use Rattle.swap_base.specs.declared.Via.TheVariants as via
+use Rattle.swap_base.specs.declared.DiskWhich.TheVariants as which
+use Rattle.swap_base.specs.Sizes.{Sizes}
+use Rattle.swap_wire.specs.declared.Event.{Event}
+use Rattle.swap_wire.specs.declared.Event.TheVariants as event
+use Rattle.swap_wire.specs.declared.Seen.{Seen}
+use Rattle.swap_wire.specs.declared.Seen.TheVariants as seen
+use Rattle.swap_wire.specs.Input.{Input}
+use Rattle.swap_world.specs.World.{start, seens}
+
+abbrev sizes : ℕ → Sizes
+sizes queue = record { page_bytes = 8; pages_per_slab = 4; slabs = 2; queue = queue; callers = 2; window = 4; hot = 20 }
+
+abbrev page : ℕ → Page
+page n = record { 0 = n }
+
+abbrev caller : ℕ → Caller
+caller n = record { 0 = n }
+
+abbrev entry : ℕ → EntryNo
+entry n = record { 0 = n }
+
+abbrev out : ℕ → ℕ → ℕ → Input
+out c p byte = record { event = event.PageOut (caller c) (page p); page = replicate 8 byte }
+
+abbrev by : Event → Input
+by e = record { event = e; page = [] }
+
+abbrev disk_write : ℕ → Bool → Input
+disk_write p ok = by (event.Disk (which.Write (page p)) ok)
+
+abbrev disk_read : ℕ → Bool → Input
+disk_read c ok = by (event.Disk (which.Read (caller c)) ok)
+
+abbrev seen_of : List (Event × Seen) → List Seen
+seen_of [] = []
+seen_of (pair ∷ pairs) = pair.1 ∷ seen_of pairs
+
+abbrev pub PageOutWithoutRoomFailsWhereAWriteFailed : Type 0
+PageOutWithoutRoomFailsWhereAWriteFailed =
+    seen_of (seens (start (sizes 1)) (out 0 1 170 ∷ by event.Start ∷ out 1 2 187 ∷ disk_write 1 false ∷ by (event.Finish (caller 1)) ∷ by (event.PageIn (caller 0) (page 1)) ∷ []))
+    ≡ seen.Done (entry 0) None ∷ seen.Started (page 1) (entry 0) ∷ seen.Room ∷ seen.WriteKept (entry 0) ∷ seen.Fault (entry 1) ∷ seen.Done (entry 2) None ∷ []
+
+abbrev pub ReadOvertakenByAPageOutAlreadyOnTheDisk : Type 0
+ReadOvertakenByAPageOutAlreadyOnTheDisk =
+    seen_of (
+    seens (start (sizes 4)) (
+    out 0 3 170 ∷ by event.Start ∷ disk_write 3 true ∷ by (event.PageIn (caller 0) (page 3)) ∷ out 1 3 187 ∷ by event.Start ∷ disk_read 0 true ∷ disk_write 3 true ∷ by (event.Finish (caller 0)) ∷ disk_read 0 true
+    ∷ by (event.Finish (caller 0))
+    ∷ []
+    )
+    )
+    ≡ seen.Done (entry 0) None ∷ seen.Started (page 3) (entry 0) ∷ seen.Written (entry 0) ∷ seen.Wait via.Disk ∷ seen.Done (entry 1) None ∷ seen.Started (page 3) (entry 1) ∷ seen.ReadCame (page 3) ∷ seen.Written (entry 1)
+    ∷ seen.Again via.Disk
+    ∷ seen.ReadCame (page 3)
+    ∷ seen.Done (entry 2) None
+    ∷ []

@@ -1,0 +1,110 @@
+-- The world is the device over its disk. An event leads from one world to the next, and something is seen of it.
+use Rattle.std.specs.Prelude.{◌≡◌, ℕ, Bool, true, false, if◌then◌else◌, List, [], ◌∷◌, Option, None, Some}
+use Rattle.swap_base.specs.declared.Page.{Page}
+use Rattle.swap_base.specs.declared.EntryNo.{EntryNo}
+use Rattle.swap_base.specs.Sizes.{Sizes}
+use Rattle.swap_wire.specs.Input.{Input}
+use Rattle.swap_wire.specs.declared.Event.{Event}
+use Rattle.swap_wire.specs.declared.Event.TheVariants as event
+use Rattle.swap_wire.specs.declared.Seen.{Seen}
+use Rattle.swap_wire.specs.declared.Seen.TheVariants as seen
+use Rattle.swap_record.specs.History.{History}
+use Rattle.swap_disk.specs.Port.{DiskCall, DiskAnswer, LetFinish}
+use Rattle.swap_disk.specs.Drive.{Drive, ask, new_drive}
+use Rattle.swap_calls.specs.Calls.{state_of, is_idle}
+use Rattle.swap_device.specs.Device as device
+use Rattle.swap_device.specs.Device.{Device}
+use Rattle.swap_device.specs.Ports.{Prog, Ret, AskDisk, answering, Along, run}
+use Rattle.swap_device.specs.declared.OutStep.{OutStep}
+use Rattle.swap_device.specs.declared.OutStep.TheVariants as outs
+use Rattle.swap_device.specs.declared.InStep.{InStep}
+use Rattle.swap_device.specs.declared.InStep.TheVariants as ins
+use Rattle.swap_device.specs.declared.Step.{Step}
+use Rattle.swap_device.specs.declared.Step.TheVariants as steps
+use Rattle.swap_device.specs.declared.DiskStep.{DiskStep}
+use Rattle.swap_device.specs.declared.DiskStep.TheVariants as ends
+
+-- what is seen of an answer
+abbrev pub see_out : OutStep → Seen
+see_out (outs.Done entry sent) = seen.Done entry sent
+see_out outs.Room = seen.Room
+
+abbrev pub see_in : InStep → Seen
+see_in (ins.Done entry) = seen.Done entry None
+see_in (ins.Wait via) = seen.Wait via
+
+abbrev pub see_step : Step → Seen
+see_step (steps.Done entry sent) = seen.Done entry sent
+see_step steps.Room = seen.Room
+see_step (steps.Wait via) = seen.Wait via
+see_step (steps.Again via) = seen.Again via
+see_step (steps.Fault entry since at) = seen.Fault entry
+
+abbrev pub see_start : Option (Page × EntryNo) → Seen
+see_start None = seen.Nothing
+see_start (Some (page, entry)) = seen.Started page entry
+
+abbrev pub see_disk : DiskStep → Seen
+see_disk ends.Nothing = seen.Nothing
+see_disk (ends.Written page entry) = seen.Written entry
+see_disk (ends.Kept page entry) = seen.WriteKept entry
+see_disk (ends.Dropped page entry) = seen.WriteDropped entry
+see_disk (ends.Came caller page) = seen.ReadCame page
+see_disk (ends.Failed caller page) = seen.ReadFailed page
+
+-- a call of the device, by what is seen of its answer
+abbrev pub seen_by : {R : Type 0} → (R → Seen) → Prog (Device × R) → Prog (Device × Seen)
+seen_by see p = answering (λ r. (r.0, see r.1)) p
+
+-- an operation that the disk let finish is taken
+abbrev pub taken_if : Device → Bool → Prog (Device × Seen)
+taken_if d true = seen_by see_disk (device.disk_take d)
+taken_if d false = Ret (d, seen.Nothing)
+
+-- what an event does to the device; a page-out's page stands beside it
+abbrev pub happens : Device → List ℕ → Event → Prog (Device × Seen)
+happens d page (event.PageOut c p) = if is_idle (state_of d.calls c) then seen_by see_out (device.out d c p page) else Ret (d, seen.Busy)
+happens d page (event.PageIn c p) = if is_idle (state_of d.calls c) then seen_by see_in (device.read d c p) else Ret (d, seen.Busy)
+happens d page (event.Finish c) = if is_idle (state_of d.calls c) then Ret (d, seen.Idle) else seen_by see_step (device.finish d c)
+happens d page event.Start = seen_by see_start (device.disk_start d)
+happens d page (event.Disk which ok) = AskDisk (LetFinish which ok) (taken_if d)
+happens d page _ = Ret (d, seen.Nothing)
+
+-- one event over a disk
+abbrev pub IsStep : {D : Type 0} → (D → (c : DiskCall) → DiskAnswer c → D → Type 0) → Device → D → Input → Seen → Device → D → Type 0
+IsStep moves d disk i s d' disk' = Along moves (happens d i.page i.event) disk disk' (d', s)
+
+-- the disk in memory is a function, and so is the world over it
+pub record World : Type 0 where
+  pub device : Device
+  pub drive : Drive
+
+pub record Next : Type 0 where
+  pub world : World
+  pub seen : Seen
+
+abbrev pub next_of : (Device × Seen) × Drive → Next
+next_of r = record { world = record { device = r.0.0; drive = r.1 }; seen = r.0.1 }
+
+abbrev pub next : World → Input → Next
+next w i = next_of (run ask (happens w.device i.page i.event) w.drive)
+
+abbrev pub start : Sizes → World
+start s = record { device = device.new s; drive = new_drive s }
+
+abbrev pub history : World → History
+history w = w.device.history
+
+-- the world after a list of events, and what is seen of each
+abbrev pub reach : World → List Input → World
+reach w [] = w
+reach w (i ∷ is) = reach (next w i).world is
+
+abbrev pub seens : World → List Input → List (Event × Seen)
+seens w [] = []
+seens w (i ∷ is) = (i.event, (next w i).seen) ∷ seens (next w i).world is
+
+-- the events made so far with what was seen of each, the newest first
+abbrev pub made_by : List (Input × Seen) → World → List Input → List (Input × Seen)
+made_by earlier w [] = earlier
+made_by earlier w (i ∷ is) = made_by ((i, (next w i).seen) ∷ earlier) (next w i).world is
