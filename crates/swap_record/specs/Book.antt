@@ -1,0 +1,28 @@
+-- What a record is seen as: the size of its pages, the history, and for how many entries there is room.
+use Rattle.std.specs.Prelude.{◌≡◌, ℕ, ◌+◌, ◌-◌, ◌≤◌, List, [], ◌∷◌, length}
+use Rattle.std.specs.List.{All}
+use Rattle.swap_base.specs.declared.Caller.{Caller}
+use Rattle.swap_base.specs.declared.Page.{Page}
+use Rattle.swap_record.specs.declared.Op.{Op}
+use Rattle.swap_record.specs.History.{History, Row, count_of, pushed}
+
+pub record Book : Type 0 where
+  pub page_bytes : ℕ
+  pub history : History
+  pub spare : ℕ
+
+-- an answered call is added, in room that was reserved
+abbrev pub written : Book → Caller → Page → Op → List ℕ → Book
+written b caller page op bytes = record b { history = pushed b.history caller page op bytes; spare = b.spare - 1 }
+
+-- each entry has its caller's number
+abbrev pub HasNumbers : History → Type 0
+HasNumbers [] = Unit {0}
+HasNumbers (row ∷ H) = (row.entry.number ≡ count_of row.entry.caller H) × HasNumbers H
+
+-- what holds of every record
+pub record IsBook (b : Book) : Type 0 where
+  pub page : b.page_bytes ≤ 4_096
+  pub pages : All (λ (row : Row). length row.bytes ≡ b.page_bytes) b.history
+  pub few : length b.history + b.spare ≤ 4_194_304
+  pub numbers : HasNumbers b.history
