@@ -1,1 +1,7 @@
 pub mod Keeps
+pub mod Copies
+pub mod CellMoves
+pub mod PlaceOf
+pub mod BehindMoves
+pub mod EndMoves
+pub mod Steps

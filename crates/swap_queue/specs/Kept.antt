@@ -1,5 +1,5 @@
 -- What every queue keeps that the moves make of the empty one, and what a move leaves of other pages.
-use Rattle.std.specs.Prelude.{◌≡◌, ◌≢◌, ℕ, ◌<◌, ◌≤◌, true, ◌==◌, List, [], ◌∷◌, length, count_by, IfSome, IsSome, Option, None, Some}
+use Rattle.std.specs.Prelude.{◌≡◌, ◌≢◌, ℕ, ◌<◌, ◌≤◌, true, ◌==◌, List, ◌∷◌, length, count_by, IfSome, IsSome, Option, None, Some}
 use Rattle.swap_base.specs.declared.Page.{Page}
 use Rattle.swap_base.specs.Sizes.{Sizes, pages_of}
 use Rattle.swap_queue.specs.Queue.{Copy, Places, Queue, empty, places_of, flying, next, newest, copies, has_room, one_if, waits, put, start, done, failed}

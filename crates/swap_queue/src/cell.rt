@@ -1,0 +1,151 @@
+ghost use Rattle.std.specs.Prelude.{◌≡◌, ℕ, length, IfOk, IsSome, Some, None, replicate, position, count_by, true, false};
+ghost use Rattle.swap_queue.specs.Queue.{first_of};
+ghost use Rattle.swap_queue.specs.Cells.{is_for, is_used, is_free, entry_of, with_flying, landed, place_for};
+
+use std::alloc::{AllocError, Global};
+use std::marker::Model;
+use swap_base::{EntryNo, Page};
+
+/// Whose copy a cell has, and whether it is on its way to the disk.
+#[derive(Clone, Copy)]
+pub(crate) struct Held {
+    pub(crate) page: Page,
+    pub(crate) entry: EntryNo,
+    pub(crate) flying: bool,
+}
+
+/// Room for one copy.
+#[derive(Drop)]
+pub(crate) struct Cell {
+    held: Option<Held>,
+    bytes: Vec<u8>,
+}
+
+impl Model for Cell {
+    ghost use Rattle.swap_queue.specs.Cells.{Kept};
+
+    ghost Value = { Kept };
+
+    ghost view = { λ c. record { held = c.held; bytes = c.bytes.items } };
+}
+
+impl Cell {
+    /// A free cell with room for a page.
+    pub(crate) fn make(alloc: Global, page_bytes: usize) -> Result<Cell, AllocError>
+        ensures { IfOk result (λ c. c ≡ record { held = None; bytes = replicate page_bytes 0 }) }
+    {
+        Ok(Cell {
+            held: None,
+            bytes: vec![in alloc; 0; page_bytes]?,
+        })
+    }
+
+    /// Whether it has this page's copy of this kind.
+    pub(crate) fn is_for(&self, page: Page, flying: bool) -> bool
+        ensures { result ≡ is_for flying page.0 self.now }
+    {
+        match self.held {
+            Some(held) => held.flying == flying && held.page.0 == page.0,
+            None => false,
+        }
+    }
+
+    pub(crate) fn is_used(&self) -> bool
+        ensures { result ≡ is_used self.now }
+    {
+        self.held.is_some()
+    }
+
+    pub(crate) fn is_free(&self) -> bool
+        ensures { result ≡ is_free self.now }
+    {
+        self.held.is_none()
+    }
+
+    /// Keeps a copy in place of what it had.
+    pub(crate) fn keep(&mut self, held: Held, bytes: &[u8])
+        requires { length bytes.now ≡ length self.old.bytes }
+        ensures { self.new ≡ record { held = Some held; bytes = bytes.now } }
+    {
+        self.held = Some(held);
+        self.bytes.as_mut_slice().copy_from_slice(bytes);
+    }
+
+    /// Gives its copy out.
+    pub(crate) fn give(&self, buf: &mut [u8]) -> EntryNo
+        requires used { IsSome self.now.held }
+        requires length { length buf.old ≡ length self.now.bytes }
+        ensures bytes { buf.new ≡ self.now.bytes }
+        ensures entry { Some result ≡ entry_of self.now.held }
+    {
+        buf.copy_from_slice(&self.bytes);
+        self.held.unwrap().entry
+    }
+
+    /// Its copy goes to the disk.
+    pub(crate) fn launch(&mut self)
+        ensures { self.new ≡ record { held = with_flying true self.old.held; bytes = self.old.bytes } }
+    {
+        if let Some(held) = &mut self.held {
+            held.flying = true;
+        }
+    }
+
+    /// Its copy is back from the disk: it waits again where it is kept, else the cell is free.
+    pub(crate) fn land(&mut self, keeps: bool) -> EntryNo
+        requires { IsSome self.old.held }
+        ensures entry { Some result ≡ entry_of self.old.held }
+        ensures cell { self.new ≡ record { held = landed keeps self.old.held; bytes = self.old.bytes } }
+    {
+        let held = self.held.unwrap();
+        self.held = if keeps {
+            Some(Held {
+                flying: false,
+                ..held
+            })
+        } else {
+            None
+        };
+        held.entry
+    }
+}
+
+/// The first cell with this page's copy of this kind.
+pub(crate) fn find(cells: &[Cell], page: Page, flying: bool) -> Option<usize>
+    ensures { result ≡ position (is_for flying page.0) cells.now }
+{
+    cells.iter().position(|cell| cell.is_for(page, flying))
+}
+
+fn find_free(cells: &[Cell]) -> Option<usize>
+    ensures { result ≡ position is_free cells.now }
+{
+    cells.iter().position(|cell| cell.is_free())
+}
+
+/// The cell of the page's newest copy: its next one, else the one that flies.
+pub(crate) fn newest_place(cells: &[Cell], page: Page) -> Option<usize>
+    ensures { result ≡ first_of (position (is_for false page.0) cells.now) (position (is_for true page.0) cells.now) }
+{
+    match find(cells, page, false) {
+        Some(place) => Some(place),
+        None => find(cells, page, true),
+    }
+}
+
+/// How many cells have a copy.
+pub(crate) fn count_used(cells: &[Cell]) -> usize
+    ensures { result ≡ count_by is_used cells.now }
+{
+    cells.iter().filter(|cell| cell.is_used()).count()
+}
+
+/// The cell for a page-out of the page: that of its next copy, else a free one.
+pub(crate) fn place_for(cells: &[Cell], page: Page) -> Option<usize>
+    ensures { result ≡ place_for cells.now page.0 }
+{
+    match find(cells, page, false) {
+        Some(place) => Some(place),
+        None => find_free(cells),
+    }
+}
