@@ -93,14 +93,14 @@ expected_queue T N C q q' cs (Write p bytes) same h = (h.0, let P : Option Copy 
 expected_queue T N C q q' cs (Read e p) same h = h
 
 -- a write in flight isn't of a page where none flies
-other_write : (T : Bool) (N C : ℕ) (q : Queue) (cs : Calls) (p : Page) (f : Flight) → flying q p ≡ None → IsExpected T N C q cs f → same_which (which.Write p) (which_of f) ≡ false
+pub other_write : (T : Bool) (N C : ℕ) (q : Queue) (cs : Calls) (p : Page) (f : Flight) → flying q p ≡ None → IsExpected T N C q cs f → same_which (which.Write p) (which_of f) ≡ false
 other_write T N C q cs p (Read e r) none h = refl
 other_write T N C q cs p (Write r bytes) none h =
     not_eqb p.0 r.0 (λ e.
     let P : Option Copy → Type 0 = λ o. IsCopyOf T bytes o in
     let there : flying q r ≡ None = subst (λ n. flying q (record { 0 = n }) ≡ None) e none in subst P there h.1)
 
-other_read : (T : Bool) (N C : ℕ) (q : Queue) (cs : Calls) (c : Caller) (f : Flight) → ((p : Page) → WaitsFor p (state_of cs c) → ⊥) → IsExpected T N C q cs f → same_which (which.Read c) (which_of f) ≡ false
+pub other_read : (T : Bool) (N C : ℕ) (q : Queue) (cs : Calls) (c : Caller) (f : Flight) → ((p : Page) → WaitsFor p (state_of cs c) → ⊥) → IsExpected T N C q cs f → same_which (which.Read c) (which_of f) ≡ false
 other_read T N C q cs c (Write r bytes) idles h = refl
 other_read T N C q cs c (Read e p) idles h =
     not_eqb c.0 e.0 (λ same. idles p (subst (λ n. WaitsFor p (state_of cs (record { 0 = n }))) (sym same) h.2))

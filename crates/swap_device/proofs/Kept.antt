@@ -40,7 +40,7 @@ use Rattle.swap_device.proofs.Agree.{IdleFor, accept_agrees, call_agrees, row_ag
 use Rattle.swap_device.proofs.Programs.{Leads-answering, Leads-implies}
 
 -- a page that was never paged out is zeros
-array-none : (z : List ℕ) (H : History) (p : Page) → last H p ≡ None → array z H p ≡ z
+pub array-none : (z : List ℕ) (H : History) (p : Page) → last H p ≡ None → array z H p ≡ z
 array-none z [] p e = refl
 array-none z (row ∷ H) p e = go (is_out_of p row) e (array-none z H p)
   where
@@ -243,7 +243,7 @@ module _ {D : Type 0} (means : D → Port) (moves : D → (c : DiskCall) → Dis
     refl,
   )
   route_by_kept T d disk c page (Some n) None k idles ci pi el ec = λ r mid moved.
-    (subst (λ q. Fits T (wait_for_disk d c page n) q) (sym (follows disk (StartRead c page) r mid moved)) (disk_wait_fits T d (means disk) c page n k idles ci pi el ec), refl)
+      (subst (λ q. Fits T (wait_for_disk d c page n) q) (sym (follows disk (StartRead c page) r mid moved)) (disk_wait_fits T d (means disk) c page n k idles ci pi el ec), refl)
 
   pub route_kept : (T : Bool) (d : Device) (disk : D) (c : Caller) (page : Page) → Fits T d (means disk) → IdleFor d.calls c → c.0 < d.sizes.callers → page.0 < pages_of d.sizes → Keeps T (route d c page) d disk
   route_kept T d disk c page k idles ci pi = route_by_kept T d disk c page (last d.history page) (newest d.queue page) k idles ci pi refl refl
@@ -288,7 +288,7 @@ module _ {D : Type 0} (means : D → Port) (moves : D → (c : DiskCall) → Dis
   start_copy_kept : (T : Bool) (d : Device) (disk : D) (page : Page) (line : List Page) (copy : Option Copy) → Fits T d (means disk) → d.queue.line ≡ page ∷ line → next d.queue page ≡ copy → Keeps T (start_copy d page copy) d disk
   start_copy_kept T d disk page line None k el ec = (k, refl)
   start_copy_kept T d disk page line (Some copy) k el ec = λ r mid moved.
-    (subst (λ q. Fits T (record d { queue = queue.start d.queue }) q) (sym (follows disk (StartWrite page copy.bytes) r mid moved)) (start_fits T d (means disk) page line copy k el ec), refl)
+      (subst (λ q. Fits T (record d { queue = queue.start d.queue }) q) (sym (follows disk (StartWrite page copy.bytes) r mid moved)) (start_fits T d (means disk) page line copy k el ec), refl)
 
   start_front_kept : (T : Bool) (d : Device) (disk : D) (line : List Page) → Fits T d (means disk) → d.queue.line ≡ line → Keeps T (start_front d line) d disk
   start_front_kept T d disk [] k el = (k, refl)
@@ -299,7 +299,7 @@ module _ {D : Type 0} (means : D → Port) (moves : D → (c : DiskCall) → Dis
 
   pub disk_take_kept : (T : Bool) (d : Device) (disk : D) → Fits T d (means disk) → Keeps T (disk_take d) d disk
   disk_take_kept T d disk k = λ taken mid moved.
-    let f = follows disk TakeDone taken mid moved in (took_back_fits T d (means disk) (means mid) taken k f.0 f.1, took_back_sizes d taken)
+      let f = follows disk TakeDone taken mid moved in (took_back_fits T d (means disk) (means mid) taken k f.0 f.1, took_back_sizes d taken)
 
   pub disk_finish_kept : (T : Bool) (d : Device) (disk : D) (w : DiskWhich) (ok : Bool) → Fits T d (means disk) → Keeps T (disk_finish d w ok) d disk
   disk_finish_kept T d disk w ok k = λ answer mid moved. (lets_finish_fits T d (means disk) (means mid) w ok answer k (follows disk (LetFinish w ok) answer mid moved), refl)

@@ -3,3 +3,4 @@ pub mod Order
 pub mod Agree
 pub mod Programs
 pub mod Kept
+pub mod Held

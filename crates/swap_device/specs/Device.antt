@@ -108,8 +108,8 @@ abbrev pub finish_out : Device → Caller → Page → ℕ → List ℕ → Prog
 finish_out d c p since bytes =
     if queue.has_room d.queue p then Ret (accept d c p bytes, steps.Done (next_name d.history) None)
     else
-      (if nat_lt since d.failed_writes then Ret (fault d c p kind.PageOut since d.failed_writes bytes, steps.Fault (next_name d.history) since d.failed_writes)
-      else Ret (d, steps.Room))
+    (if nat_lt since d.failed_writes then Ret (fault d c p kind.PageOut since d.failed_writes bytes, steps.Fault (next_name d.history) since d.failed_writes)
+    else Ret (d, steps.Room))
 
 -- a later step of a call that isn't idle, by its state
 abbrev pub finish_by : Device → Caller → List ℕ → CallState → Prog (Device × Step)

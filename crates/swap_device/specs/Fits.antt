@@ -1,5 +1,5 @@
 -- What history, queue, calls and disk of a device agree on, between any two of its calls.
-use Rattle.std.specs.Prelude.{◌≡◌, ℕ, ◌<◌, ◌≤◌, Bool, true, false, List, [], ◌∷◌, length, count_by, find, slice_index_or, IsSome, is_some, MatchOption, Option, None, Some}
+use Rattle.std.specs.Prelude.{◌≡◌, ℕ, ◌<◌, ◌≤◌, Bool, true, false, List, [], ◌∷◌, length, count_by, find, replicate, slice_index_or, IsSome, is_some, MatchOption, Option, None, Some}
 use Rattle.std.specs.List.{AllByRecursion}
 use Rattle.swap_base.specs.declared.Page.{Page}
 use Rattle.swap_base.specs.declared.Origin.{Origin}
@@ -145,3 +145,10 @@ pub record Fits (told : Bool) (d : Device) (p : Port) : Type 0 where
   pub sizes : p.sizes ≡ d.sizes
   pub in_order : IsInOrder d
   pub agrees : AgreesAt told d p
+
+-- a disk of these sizes that nothing was asked of, and whose blocks, where it tells them, are zeros
+pub record IsBlank (s : Sizes) (p : Port) : Type 0 where
+  pub sizes : p.sizes ≡ s
+  pub flights : p.flights ≡ []
+  pub finished : p.finished ≡ None
+  pub blocks : MatchOption p.blocks (Unit {0}) (λ bs. bs ≡ replicate (pages_of s) (zeros s))

@@ -28,10 +28,3 @@ pub data IsRun {D : Type 0} (moves : D → (c : DiskCall) → DiskAnswer c → D
       → IsRun moves first disk made d k → IsInRange first.sizes i.event → IsStep moves d k i s d' k' → has_effect i.event s ≡ true → IsRun moves first disk ((i, s) ∷ made) d' k'
   without : {made : List (Input × Seen)} {d : Device} {k : D} (i : Input) (s : Seen) (k' : D)
       → IsRun moves first disk made d k → IsInRange first.sizes i.event → IsStep moves d k i s d k' → has_effect i.event s ≡ false → IsRun moves first disk made d k'
-
--- a disk of these sizes that nothing was asked of, and whose blocks, where it tells them, are zeros
-pub record IsBlank (s : Sizes) (p : Port) : Type 0 where
-  pub sizes : p.sizes ≡ s
-  pub flights : p.flights ≡ []
-  pub finished : p.finished ≡ None
-  pub blocks : MatchOption p.blocks (Unit {0}) (λ bs. bs ≡ replicate (pages_of s) (zeros s))
