@@ -1,0 +1,4 @@
+pub mod PicksLemmas
+pub mod SlotsLemmas
+pub mod Filtered
+pub mod Chosen

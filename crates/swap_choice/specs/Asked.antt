@@ -1,0 +1,15 @@
+-- Which lenders are asked.
+use Rattle.std.specs.Prelude.{ℕ, List, [], ◌∷◌, ◌++◌}
+use Rattle.swap_choice.specs.declared.lenders.Asked.{Asked}
+use Rattle.swap_choice.specs.declared.lenders.Asked.TheVariants.{Nobody, One, Two}
+use Rattle.swap_choice.specs.Picks.{picks}
+
+-- the first two of a list
+abbrev pub first_two : List ℕ → Asked
+first_two [] = Nobody
+first_two (a ∷ []) = One a
+first_two (a ∷ b ∷ rest) = Two a b
+
+-- two are asked, and the fresh ones come first
+abbrev pub asked : ℕ → List ℕ → List ℕ → Asked
+asked word fresh other = first_two (picks word fresh ++ picks word other)

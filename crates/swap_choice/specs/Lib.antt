@@ -1,0 +1,4 @@
+pub mod Picks
+pub mod Asked
+pub mod Slots
+pub mod Least
