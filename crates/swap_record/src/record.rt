@@ -129,6 +129,7 @@ impl Record {
         requires { no.0 < length self.now.history }
         ensures bytes { option_map (λ (row : Row). row.bytes) (named self.now.history no.0) ≡ Some result.now }
         ensures len { length result.now ≡ self.now.page_bytes }
+        ensures within { self.now.page_bytes ≤ 4_096 }
     {
         let start = no.0 as usize * self.page_bytes;
         &self.bytes[start..start + self.page_bytes]

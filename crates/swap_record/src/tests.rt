@@ -1,5 +1,7 @@
 use super::*;
 use std::test::Fail;
+use swap_base::Lender;
+use swap_io::LineBuf;
 
 fn entry(caller: u32, number: u32, page: u32, op: Op) -> Entry {
     Entry {
@@ -70,5 +72,35 @@ fn a_history_has_an_end(rt: HostRuntime) -> Result<(), Fail> {
     record.push_out(Caller(63), Page(0), &[1; 4096]);
     assert_eq!(rt; record.reserve(4_194_304), Err(ReserveRefused::TooMany));
     assert_eq!(rt; (record.len(), record.spare()), (1, 1));
+    Ok(())
+}
+
+#[test]
+fn each_kind_of_entry_has_its_text(rt: HostRuntime) -> Result<(), Fail> {
+    let mut record = Record::make(rt.alloc(), 8);
+    record.reserve(6)?;
+    let (aa, zeros) = ([0xaa; 8], [0; 8]);
+    let named = Some(EntryNo(0));
+    let lender = Origin::Lender(Lender(7));
+    record.push_out(Caller(0), Page(3), &aa);
+    record.push_in(Caller(0), Page(3), named, Origin::Queue, &aa);
+    record.push_in(Caller(1), Page(5), None, Origin::Zero, &zeros);
+    record.push_in(Caller(1), Page(3), named, lender, &[0, 1, 0, 1, 0, 1, 0, 1]);
+    record.push_failed(Caller(1), Page(2), CallKind::PageOut, 0, 1, &[0xbb; 8]);
+    record.push_failed(Caller(0), Page(3), CallKind::PageIn, 10, u64::MAX, &zeros);
+    let texts = [
+        "entry 0 out 3 aa",
+        "entry 1 in 3 of 0 queue aa",
+        "entry 2 in 5 of none zero 00",
+        "entry 3 in 3 of 0 lender 7 0001",
+        "entry 4 fault out 2 0 1 bb",
+        "entry 5 fault in 3 10 18446744073709551615",
+    ];
+    let mut line = LineBuf::make(rt.alloc())?;
+    for no in 0..6u32 {
+        line.clear();
+        record.entry_text(EntryNo(no), &mut line);
+        assert_eq!(rt; line.bytes(), texts[no as usize].as_bytes());
+    }
     Ok(())
 }
