@@ -1,4 +1,4 @@
-use Rattle.std.proofs.Common.{◌≡◌, ◌<◌, ℕ, zero, suc, ◌∷◌, ◌*◌, ◌+◌, ◌-◌, arith, get_or, length, length-append, refl}
+use Rattle.std.proofs.Common.{ap, ◌∙◌, ◌≡◌, ◌<◌, ℕ, zero, suc, ◌∷◌, [], ◌*◌, ◌+◌, ◌-◌, arith, get_or, length, length-append, refl}
 use Rattle.swap_record.specs.declared.Entry.{Entry}
 use Rattle.swap_record.specs.InMemory.{history_in}
 use Rattle.swap_record.proofs.Stored.{length_history, count_within, history_push, counts_push}
@@ -18,14 +18,15 @@ spared : (spare n : ℕ) → 0 < spare → (spare - 1) * n + n ≡ spare * n
 spared zero n h = absurd (omega arith)
 spared (suc s) n h = let less : suc s - 1 ≡ s = omega arith in rw less (omega arith)
 
-longer_block : (c : goal.After-self-1) → length c.extend_from_slice.new.self.items ≡ length c.push_reserved.new.self.items * c.self.inside.page_bytes
-longer_block c =
-    let items = rw c.unwrap.ensures at c.extend_from_slice.ensures.items in
-    rw (c.push_reserved.ensures.items, items, length-append, length-append) (omega (arith, c.self.invariant.block, page c))
-
 -- the entry that is added
 abbrev added : goal.After-self-1 → Entry
 added c = record { caller = c.args.caller; number = get_or c.self.inside.counts c.args.caller.0 0; page = c.args.page; op = c.args.op }
+
+longer_block : (c : goal.After-self-1) → length c.extend_from_slice.new.self.items ≡ length c.push_reserved.new.self.items * c.self.inside.page_bytes
+longer_block c =
+    let bytes : length c.extend_from_slice.new.self.items ≡ length c.self.inside.bytes.items + length c.args.bytes.now = ap length (rw c.unwrap.ensures at c.extend_from_slice.ensures.items) ∙ length-append c.self.inside.bytes.items c.args.bytes.now in
+    let entries : length c.push_reserved.new.self.items ≡ length c.self.inside.entries.items + 1 = ap length c.push_reserved.ensures.items ∙ length-append c.self.inside.entries.items (added c ∷ []) in
+    rw (bytes, entries) (omega (arith, c.self.invariant.block, page c))
 
 -- the history in memory has gained the entry with its page
 pushed_in : (c : goal.After-self-1) → history_in c.self.inside.page_bytes c.push_reserved.new.self.items c.extend_from_slice.new.self.items ≡ (record { entry = added c; bytes = c.args.bytes.now }) ∷ history_in c.self.inside.page_bytes c.self.inside.entries.items c.self.inside.bytes.items
