@@ -1,0 +1,4 @@
+pub mod Patterns
+pub mod Pieces
+pub mod Read
+pub mod Sized

@@ -1,0 +1,210 @@
+//! What a run prints: words, parted by spaces, in a line.
+ghost use Rattle.std.specs.Prelude.{◌≡◌, ℕ, ◌+◌, ◌<◌, ◌≤◌, [], ◌∷◌, ◌++◌, length, decimal};
+ghost use Rattle.swap_script.specs.Lines.{led};
+ghost use Rattle.swap_script.specs.Transcript.{header, end_line, refusal, ok_or_bad, event_name, disk_words, event_rest, via_words, why_word, field_word};
+
+use super::{ScriptRefused, Why};
+use swap_base::{DiskWhich, Field, Geometry, Via};
+use swap_io::LineBuf;
+use swap_wire::Event;
+
+/// Appends a space and a word.
+fn word(out: &mut LineBuf, word: &[u8])
+    requires { length out.old + length word.now < 10_000 }
+    ensures { out.new ≡ out.old ++ 32 ∷ word.now }
+{
+    out.text(b" ");
+    out.text(word);
+}
+
+/// Appends a space and a number.
+fn number(out: &mut LineBuf, n: u64)
+    requires { length out.old + 21 ≤ 10_000 }
+    ensures text { out.new ≡ out.old ++ 32 ∷ decimal n }
+    ensures length { length out.new ≤ length out.old + 21 }
+{
+    out.text(b" ");
+    out.decimal(n);
+}
+
+fn two_numbers(out: &mut LineBuf, a: u64, b: u64)
+    requires { length out.old + 42 ≤ 10_000 }
+    ensures text { out.new ≡ out.old ++ led (decimal a ∷ decimal b ∷ []) }
+    ensures length { length out.new ≤ length out.old + 42 }
+{
+    number(out, a);
+    number(out, b);
+}
+
+fn three_numbers(out: &mut LineBuf, a: u64, b: u64, c: u64)
+    requires { length out.old + 63 ≤ 10_000 }
+    ensures text { out.new ≡ out.old ++ led (decimal a ∷ decimal b ∷ decimal c ∷ []) }
+    ensures length { length out.new ≤ length out.old + 63 }
+{
+    number(out, a);
+    number(out, b);
+    number(out, c);
+}
+
+/// Writes the geometry line of a transcript.
+pub fn header_line(geometry: &Geometry, out: &mut LineBuf)
+    ensures { out.new ≡ header geometry.now }
+{
+    out.clear();
+    out.text(b"geometry");
+    number(out, u64::from(geometry.page_bytes()));
+    number(out, u64::from(geometry.pages_per_slab()));
+    number(out, u64::from(geometry.slabs()));
+    number(out, u64::from(geometry.queue()));
+    number(out, u64::from(geometry.callers()));
+    number(out, u64::from(geometry.window()));
+    number(out, u64::from(geometry.hot()));
+    out.text(b"\n");
+}
+
+/// Writes the last line of a transcript, with the number of entries.
+pub fn end_line(entries: u32, out: &mut LineBuf)
+    ensures { out.new ≡ end_line entries }
+{
+    out.clear();
+    out.text(b"end");
+    number(out, u64::from(entries));
+    out.text(b"\n");
+}
+
+fn field_word(field: Field) -> &'static [u8]
+    ensures word { result.now ≡ field_word field }
+    ensures length { length result.now ≤ 14 }
+{
+    match field {
+        Field::PageBytes => b"page_bytes",
+        Field::PagesPerSlab => b"pages_per_slab",
+        Field::Slabs => b"slabs",
+        Field::Queue => b"queue",
+        Field::Callers => b"callers",
+        Field::Window => b"window",
+        Field::Hot => b"hot",
+        Field::Pages => b"pages",
+        Field::Bytes => b"bytes",
+        Field::Slots => b"slots",
+        Field::Headroom => b"headroom",
+        Field::Extra => b"extra",
+    }
+}
+
+fn why_word(why: Why) -> &'static [u8]
+    ensures word { result.now ≡ why_word why }
+    ensures length { length result.now ≤ 14 }
+{
+    match why {
+        Why::Geometry => b"geometry",
+        Why::Form => b"form",
+        Why::Field(field) => field_word(field),
+        Why::Lenders => b"lenders",
+        Why::Lent => b"lent",
+        Why::Caller => b"caller",
+        Why::Page => b"page",
+        Why::Slab => b"slab",
+        Why::Lender => b"lender",
+        Why::Pattern => b"pattern",
+        Why::Calls => b"calls",
+        Why::Events => b"events",
+        Why::End => b"end",
+        Why::Tcp => b"tcp",
+    }
+}
+
+/// Writes `line N: WHY`, the text of a refused line.
+pub fn refusal_line(refused: &ScriptRefused, out: &mut LineBuf)
+    ensures { out.new ≡ refusal refused.now }
+{
+    out.clear();
+    out.text(b"line");
+    number(out, u64::from(refused.line));
+    out.text(b":");
+    word(out, why_word(refused.why));
+    out.text(b"\n");
+}
+
+fn event_name(event: &Event) -> &'static [u8]
+    ensures word { result.now ≡ event_name event.now }
+    ensures length { length result.now ≤ 7 }
+{
+    match event {
+        Event::PageOut { .. } => b"out",
+        Event::PageIn { .. } => b"in",
+        Event::Finish { .. } => b"finish",
+        Event::Start => b"start",
+        Event::Disk { .. } => b"disk",
+        Event::Tick { .. } => b"tick",
+        Event::Map { .. } => b"map",
+        Event::Connect { .. } => b"connect",
+        Event::Give { .. } => b"give",
+        Event::Take { .. } => b"take",
+        Event::Cut { .. } => b"cut",
+        Event::Crash { .. } => b"crash",
+        Event::Host { .. } => b"host",
+        Event::Round { .. } => b"round",
+    }
+}
+
+fn ok_or_bad(ok: bool) -> &'static [u8]
+    ensures word { result.now ≡ ok_or_bad ok }
+    ensures length { length result.now ≤ 3 }
+{
+    if ok { b"ok" } else { b"bad" }
+}
+
+fn disk_words(which: DiskWhich, ok: bool, out: &mut LineBuf)
+    requires { length out.old ≤ 100 }
+    ensures text { out.new ≡ out.old ++ led (disk_words which ok) }
+    ensures length { length out.new ≤ length out.old + 31 }
+{
+    match which {
+        DiskWhich::Write(page) => {
+            word(out, b"write");
+            number(out, u64::from(page.0));
+            word(out, ok_or_bad(ok));
+        }
+        DiskWhich::Read(caller) => {
+            word(out, b"read");
+            number(out, u64::from(caller.0));
+            word(out, ok_or_bad(ok));
+        }
+    }
+}
+
+/// Appends the words of an event behind its first.
+fn event_rest(event: &Event, out: &mut LineBuf)
+    requires { length out.old ≤ 100 }
+    ensures text { out.new ≡ out.old ++ led (event_rest event.now) }
+    ensures length { length out.new ≤ length out.old + 63 }
+{
+    match *event {
+        Event::PageOut { caller, page } | Event::PageIn { caller, page } => {
+            two_numbers(out, u64::from(caller.0), u64::from(page.0))
+        }
+        Event::Finish { caller } => number(out, u64::from(caller.0)),
+        Event::Start => {}
+        Event::Disk { which, ok } => disk_words(which, ok, out),
+        Event::Tick { word } | Event::Round { word } => number(out, word),
+        Event::Map { slab, lender } => { two_numbers(out, u64::from(slab.0), u64::from(lender.0)) }
+        Event::Connect { lender }
+        | Event::Give { lender }
+        | Event::Take { lender }
+        | Event::Crash { lender } => number(out, u64::from(lender.0)),
+        Event::Cut {
+            lender,
+            to_lender,
+            to_device,
+        } => three_numbers(
+            out,
+            u64::from(lender.0),
+            u64::from(to_lender),
+            u64::from(to_device),
+        ),
+        Event::Host { lender, used, word } => {
+            three_numbers(out, u64::from(lender.0), u64::from(used), word)
+        }
+    }
+}
