@@ -2,3 +2,4 @@ pub mod Patterns
 pub mod Pieces
 pub mod Read
 pub mod Sized
+pub mod Spaced

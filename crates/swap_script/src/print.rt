@@ -1,12 +1,14 @@
 //! What a run prints: words, parted by spaces, in a line.
 ghost use Rattle.std.specs.Prelude.{◌≡◌, ℕ, ◌+◌, ◌<◌, ◌≤◌, [], ◌∷◌, ◌++◌, length, decimal};
 ghost use Rattle.swap_script.specs.Lines.{led};
-ghost use Rattle.swap_script.specs.Transcript.{header, end_line, refusal, ok_or_bad, event_name, disk_words, event_rest, via_words, why_word, field_word};
+ghost use Rattle.swap_record.specs.Text.{entry_words};
+ghost use Rattle.swap_script.specs.Transcript.{header, line, HasEntry, seen_words, sent_words, end_line, refusal, ok_or_bad, event_name, disk_words, event_rest, via_words, why_word, field_word};
 
 use super::{ScriptRefused, Why};
-use swap_base::{DiskWhich, Field, Geometry, Via};
+use swap_base::{DiskWhich, EntryNo, Field, Geometry, Lender, Via};
 use swap_io::LineBuf;
-use swap_wire::Event;
+use swap_record::Record;
+use swap_wire::{Event, Seen};
 
 /// Appends a space and a word.
 fn word(out: &mut LineBuf, word: &[u8])
@@ -207,4 +209,103 @@ fn event_rest(event: &Event, out: &mut LineBuf)
             three_numbers(out, u64::from(lender.0), u64::from(used), word)
         }
     }
+}
+
+/// Appends an entry's text behind a space.
+fn entry_words(history: &Record, entry: EntryNo, out: &mut LineBuf)
+    requires entry { entry.0 < length history.now.history }
+    requires room { length out.old ≤ 1_000 }
+    ensures text { out.new ≡ out.old ++ led (entry_words history.now.history entry) }
+    ensures length { length out.new ≤ length out.old + 8_401 }
+{
+    out.text(b" ");
+    history.entry_text(entry, out);
+}
+
+fn via_words(via: Via, out: &mut LineBuf)
+    requires { length out.old ≤ 9_900 }
+    ensures text { out.new ≡ out.old ++ led (via_words via) }
+    ensures length { length out.new ≤ length out.old + 28 }
+{
+    match via {
+        Via::Disk => word(out, b"disk"),
+        Via::Lender(lender) => {
+            word(out, b"lender");
+            number(out, u64::from(lender.0));
+        }
+    }
+}
+
+fn sent_words(sent: Option<Lender>, out: &mut LineBuf)
+    requires { length out.old ≤ 9_900 }
+    ensures text { out.new ≡ out.old ++ led (sent_words sent) }
+    ensures length { length out.new ≤ length out.old + 24 }
+{
+    if let Some(lender) = sent {
+        word(out, b"to");
+        number(out, u64::from(lender.0));
+    }
+}
+
+/// Appends a word of at most 7 bytes and a number.
+fn named_number(out: &mut LineBuf, name: &[u8], n: u64)
+    requires name { length name.now ≤ 7 }
+    requires room { length out.old ≤ 1_000 }
+    ensures text { out.new ≡ out.old ++ led (name.now ∷ decimal n ∷ []) }
+    ensures length { length out.new ≤ length out.old + 29 }
+{
+    word(out, name);
+    number(out, n);
+}
+
+/// Appends the words of what was seen.
+fn seen_words(seen: &Seen, history: &Record, out: &mut LineBuf)
+    requires entry { HasEntry history.now.history seen.now }
+    requires room { length out.old ≤ 1_000 }
+    ensures text { out.new ≡ out.old ++ led (seen_words history.now.history seen.now) }
+    ensures length { length out.new ≤ length out.old + 8_425 }
+{
+    match *seen {
+        Seen::Nothing => word(out, b"-"),
+        Seen::Busy => word(out, b"busy"),
+        Seen::Idle => word(out, b"idle"),
+        Seen::Room => word(out, b"room"),
+        Seen::Wait { via } => {
+            word(out, b"wait");
+            via_words(via, out);
+        }
+        Seen::Again { via } => {
+            word(out, b"again");
+            via_words(via, out);
+        }
+        Seen::Done { entry, sent } => {
+            entry_words(history, entry, out);
+            sent_words(sent, out);
+        }
+        Seen::Fault { entry } => entry_words(history, entry, out),
+        Seen::Started { page, entry } => {
+            named_number(out, b"write", u64::from(page.0));
+            number(out, u64::from(entry.0));
+        }
+        Seen::Written { entry } => named_number(out, b"written", u64::from(entry.0)),
+        Seen::WriteKept { entry } => named_number(out, b"kept", u64::from(entry.0)),
+        Seen::WriteDropped { entry } => named_number(out, b"dropped", u64::from(entry.0)),
+        Seen::ReadCame { page } => named_number(out, b"came", u64::from(page.0)),
+        Seen::ReadFailed { page } => named_number(out, b"failed", u64::from(page.0)),
+        _ => {}
+    }
+}
+
+/// Writes the line of an event: its words, and those of what was seen of it. An entry that was answered must be
+/// one of the history.
+pub fn event_line(event: &Event, seen: &Seen, history: &Record, out: &mut LineBuf)
+    requires { HasEntry history.now.history seen.now }
+    ensures { out.new ≡ line history.now.history (event.now, seen.now) }
+{
+    out.clear();
+    out.text(event_name(event));
+    event_rest(event, out);
+    word(out, b"=");
+    seen_words(seen, history, out);
+    out.text(b"\n");
 }
