@@ -15,7 +15,7 @@ use Rattle.swap_wire.specs.declared.Seen.{Seen}
 use Rattle.swap_wire.specs.declared.Seen.TheVariants as seen
 use Rattle.swap_record.specs.declared.Op.{Op}
 use Rattle.swap_record.specs.declared.Op.TheVariants as op
-use Rattle.swap_record.specs.History.{History, Row, pushed, row_of, last}
+use Rattle.swap_record.specs.History.{History, Row, pushed, row_of, last, entries_of}
 use Rattle.swap_queue.specs.Queue as queue
 use Rattle.swap_queue.specs.Queue.{Copy}
 use Rattle.swap_disk.specs.Disk.{Taken}
@@ -36,7 +36,7 @@ use Rattle.swap_device.specs.declared.DiskStep.{DiskStep}
 use Rattle.swap_device.proofs.Lists.{chosen, by_caller, not_eqb}
 use Rattle.swap_device.proofs.Agree.{get_or-map_idle}
 use Rattle.swap_device.proofs.Programs.{Leads-answering, Leads-implies}
-use Rattle.swap_world.specs.Answered.{is_call_of, is_busy, with_call, calls_of, entries_of, Answers, AnswersEach, AnswersAll, AreAnsweredOnce, IsInOrFault, IsOutOrFault}
+use Rattle.swap_world.specs.Answered.{is_call_of, is_busy, with_call, calls_of, Answers, AnswersEach, AnswersAll, AreAnsweredOnce, IsInOrFault, IsOutOrFault}
 use Rattle.swap_world.specs.World.{happens, seen_by, taken_if, see_out, see_in, see_step, see_start, see_disk}
 
 -- the event that a call answers, while the call is under way

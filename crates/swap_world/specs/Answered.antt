@@ -1,5 +1,5 @@
 -- Each caller's answered calls stand in the history once, in the caller's order.
-use Rattle.std.specs.Prelude.{◌≡◌, ℕ, ◌<◌, Bool, true, false, ◌&&◌, ◌==◌, not, if◌then◌else◌, List, [], ◌∷◌, filter}
+use Rattle.std.specs.Prelude.{◌≡◌, ℕ, ◌<◌, Bool, true, false, ◌&&◌, ◌==◌, not, if◌then◌else◌, List, [], ◌∷◌}
 use Rattle.std.specs.List.{AllByRecursion}
 use Rattle.swap_base.specs.declared.Caller.{Caller}
 use Rattle.swap_base.specs.declared.CallKind.TheVariants as kind
@@ -12,7 +12,7 @@ use Rattle.swap_wire.specs.Input.{Input, IsInRange}
 use Rattle.swap_calls.specs.Calls.{state_of, is_idle}
 use Rattle.swap_record.specs.declared.Op.{Op}
 use Rattle.swap_record.specs.declared.Op.TheVariants as op
-use Rattle.swap_record.specs.History.{History, Row, is_by}
+use Rattle.swap_record.specs.History.{History, Row, entries_of}
 use Rattle.swap_device.specs.Device.{Device}
 use Rattle.swap_world.specs.World.{start, reach, made_by}
 
@@ -32,9 +32,6 @@ with_call c i s calls = if is_call_of c i.event && not (is_busy s) then i ∷ ca
 abbrev pub calls_of : Caller → List (Input × Seen) → List Input
 calls_of c [] = []
 calls_of c ((i, s) ∷ made) = with_call c i s (calls_of c made)
-
-abbrev pub entries_of : Caller → History → List Row
-entries_of c H = filter (is_by c) H
 
 abbrev pub IsOutOrFault : Op → Type 0
 IsOutOrFault op.PageOut = Unit {0}

@@ -1,11 +1,36 @@
 -- What holds of every run.
-use Rattle.std.specs.Prelude.{List}
+use Rattle.std.specs.Prelude.{◌≡◌, ◌<◌, ℕ, Bool, List, is_some}
 use Rattle.std.specs.List.{AllByRecursion}
+use Rattle.swap_base.specs.declared.Caller.{Caller}
 use Rattle.swap_base.specs.Sizes.{Sizes, zeros}
+use Rattle.swap_wire.specs.declared.Seen.{Seen}
 use Rattle.swap_wire.specs.Input.{Input, IsInRange}
-use Rattle.swap_record.specs.History.{IsLegal}
-use Rattle.swap_world.specs.World.{start, reach, history}
+use Rattle.swap_record.specs.History.{IsOrdered, IsLegal}
+use Rattle.swap_disk.specs.Port.{Port, DiskCall, DiskAnswer}
+use Rattle.swap_disk.specs.Drive.{Drive, Moves}
+use Rattle.swap_device.specs.Device.{Device, new}
+use Rattle.swap_device.specs.Fits.{IsFaithfulFrom, IsBlank, trusted}
+use Rattle.swap_world.specs.Answered.{AreAnsweredOnce}
+use Rattle.swap_world.specs.Runs.{IsRun}
+use Rattle.swap_world.specs.World.{World, Next, IsStep, start, next, reach, history}
 
 -- over the disk in memory the history is one of an array of pages that starts as zeros
 abbrev pub AlwaysLegal : Type 0
 AlwaysLegal = (s : Sizes) (is : List Input) → AllByRecursion (λ (i : Input). IsInRange s i.event) is → IsLegal (zeros s) (history (reach (start s) is))
+
+-- After these events the history is ordered, each page-in that the disk didn't give is faithful, and each that it gave
+-- too where the disk tells its blocks; and each caller's calls were answered once, in its order.
+pub record Holds (told : Bool) (s : Sizes) (made : List (Input × Seen)) (d : Device) : Type 0 where
+  pub ordered : IsOrdered d.history
+  pub faithful : IsFaithfulFrom (trusted told) (zeros s) d.history
+  pub once : (c : Caller) → c.0 < s.callers → AreAnsweredOnce c made d
+
+-- it holds after every run over a disk that was blank
+abbrev pub HoldsAfterEach : {D : Type 0} → (D → Port) → (D → (c : DiskCall) → DiskAnswer c → D → Type 0) → Type 0
+HoldsAfterEach {D} means moves =
+    (s : Sizes) (first : D) (made : List (Input × Seen)) (d : Device) (disk : D) → IsBlank s (means first) → IsRun moves (new s) first made d disk → Holds (is_some (means first).blocks) s made d
+
+-- one event over the disk in memory leads to the next world
+abbrev pub StepsAreNext : Type 0
+StepsAreNext =
+    (d d' : Device) (k k' : Drive) (i : Input) (s : Seen) → IsStep Moves d k i s d' k' → next (record { device = d; drive = k }) i ≡ record { world = record { device = d'; drive = k' }; seen = s }

@@ -2,10 +2,13 @@
 #![tactic(auto)]
 
 ghost use Rattle.swap_world.specs.Answered.{EachCallOnce};
-ghost use Rattle.swap_world.specs.Laws.{AlwaysLegal};
+ghost use Rattle.swap_world.specs.Laws.{AlwaysLegal, HoldsAfterEach, StepsAreNext};
 ghost use Rattle.swap_world.specs.Rows.{PageOutWithoutRoomFailsWhereAWriteFailed, ReadOvertakenByAPageOutAlreadyOnTheDisk};
 
-/// Whatever the events and whatever fails, the history is one of an array of pages that starts as zeros.
+use swap_disk::DiskPort;
+
+/// Whatever the events and whatever fails, the history over the disk in memory is one of an array of pages that
+/// starts as zeros.
 pub fn always_legal()
     ensures { AlwaysLegal }
 {}
@@ -13,6 +16,18 @@ pub fn always_legal()
 /// Each caller's calls are answered once, in its order.
 pub fn each_call_once()
     ensures { EachCallOnce }
+{}
+
+/// Over any disk that was blank, after every list of events: the history is ordered, each page-in that the disk
+/// didn't give is faithful, each that it gave too where it tells its blocks, and each caller's calls were
+/// answered once, in its order.
+pub fn over_any_disk<D: DiskPort>()
+    ensures { HoldsAfterEach D.means D.moves }
+{}
+
+/// Over the disk in memory the world is a function of the events.
+pub fn steps_are_next()
+    ensures { StepsAreNext }
 {}
 
 /// Rows of events, and what is seen of each.

@@ -1,0 +1,5 @@
+use Rattle.swap_world.proofs.Runs as runs
+use Rattle.swap_world.proofs.steps_are_next.Goals as goal
+
+pub returns : goal.returns
+returns c = runs.steps_are_next
