@@ -1,1 +1,3 @@
-pub mod Follows
+pub mod BlocksLaws
+pub mod RunningLaws
+pub mod RunningMoves

@@ -10,7 +10,7 @@ use Rattle.swap_disk.specs.Disk.{Disk, Flight, Write, Read, Finished, finish_fli
 use Rattle.swap_disk.specs.Port.{DiskCall, DiskAnswer, StartWrite, StartRead, TakeDone, LetFinish, Follows, Takes, LetsFinish, settled_with}
 use Rattle.swap_disk.specs.Drive.{Drive, ask, port_of, IsInFlight, IsDrive, Moves}
 
-same_is : (a b : DiskWhich) → same_which a b ≡ true → a ≡ b
+pub same_is : (a b : DiskWhich) → same_which a b ≡ true → a ≡ b
 same_is (which.Write p) (which.Write r) e = ap (λ n. which.Write (record { 0 = n })) (eqb-true p.0 r.0 e)
 same_is (which.Write p) (which.Read c) e = cc
 same_is (which.Read c) (which.Write p) e = cc
