@@ -19,6 +19,7 @@ pub record Line : Type 0 where
   pub event : Event
   pub hex : List ℕ
 
+-- an event that is spelled without a page
 abbrev pub plain : Event → Option Line
 plain e = Some (record { event = e; hex = [] })
 
@@ -50,6 +51,7 @@ below limit n = if nat_lt n limit then Some n else None
 abbrev pub small : List ℕ → Option ℕ
 small word = number word >>= below (2 ^ 32)
 
+-- the words of a caller and of a page
 abbrev pub caller_word : List ℕ → Option Caller
 caller_word word = small word >>= λ n. Some (record { 0 = n })
 
@@ -60,9 +62,11 @@ page_word word = small word >>= λ n. Some (record { 0 = n })
 abbrev pub hex_word : List ℕ → Option (List ℕ)
 hex_word word = if is_some (piece_of word) then Some word else None
 
+-- how a disk's operation ends
 abbrev pub ok_word : List ℕ → Option Bool
 ok_word how = if is_word (codes "ok") how then Some true else (if is_word (codes "bad") how then Some false else None)
 
+-- an operation of the disk
 abbrev pub which_words : List ℕ → List ℕ → Option DiskWhich
 which_words what n =
     if is_word (codes "write") what then (page_word n >>= λ page. Some (which.Write page)) else (if is_word (codes "read") what then (caller_word n >>= λ caller. Some (which.Read caller)) else None)
@@ -99,6 +103,7 @@ disk_line words = do
   ok ← ok_word how
   plain (event.Disk which ok)
 
+-- a form by its first word, and what its other words give
 pub record Row : Type 0 where
   pub word : List ℕ
   pub reads : List (List ℕ) → Option Line
@@ -113,6 +118,7 @@ abbrev pub by_row : List Row → List ℕ → List (List ℕ) → Option Line
 by_row [] word words = None
 by_row (r ∷ rows) word words = if is_word r.word word then r.reads words else by_row rows word words
 
+-- the event of a line, by its words
 abbrev pub event_line : List (List ℕ) → Option Line
 event_line [] = None
 event_line (word ∷ words) = by_row event_rows word words

@@ -48,7 +48,7 @@ fn three_numbers(out: &mut LineBuf, a: u64, b: u64, c: u64)
     number(out, c);
 }
 
-/// Writes the geometry line of a transcript.
+/// Writes the geometry line of a transcript into the emptied `out`.
 pub fn header_line(geometry: &Geometry, out: &mut LineBuf)
     ensures { out.new ≡ header geometry.now }
 {
@@ -64,7 +64,7 @@ pub fn header_line(geometry: &Geometry, out: &mut LineBuf)
     out.text(b"\n");
 }
 
-/// Writes the last line of a transcript, with the number of entries.
+/// Writes the last line of a transcript, with the number of entries, into the emptied `out`.
 pub fn end_line(entries: u32, out: &mut LineBuf)
     ensures { out.new ≡ end_line entries }
 {
@@ -116,7 +116,7 @@ fn why_word(why: Why) -> &'static [u8]
     }
 }
 
-/// Writes `line N: WHY`, the text of a refused line.
+/// Writes `line N: WHY`, the text of a refused line, into the emptied `out`.
 pub fn refusal_line(refused: &ScriptRefused, out: &mut LineBuf)
     ensures { out.new ≡ refusal refused.now }
 {
@@ -258,7 +258,7 @@ fn named_number(out: &mut LineBuf, name: &[u8], n: u64)
     number(out, n);
 }
 
-/// Appends the words of what was seen.
+/// Appends the words of what was seen. What no line gives yet has none.
 fn seen_words(seen: &Seen, history: &Record, out: &mut LineBuf)
     requires entry { HasEntry history.now.history seen.now }
     requires room { length out.old ≤ 1_000 }
@@ -296,8 +296,8 @@ fn seen_words(seen: &Seen, history: &Record, out: &mut LineBuf)
     }
 }
 
-/// Writes the line of an event: its words, and those of what was seen of it. An entry that was answered must be
-/// one of the history.
+/// Writes the line of an event into the emptied `out`: its words, and those of what was seen of it. An entry that was
+/// answered must be one of the history.
 pub fn event_line(event: &Event, seen: &Seen, history: &Record, out: &mut LineBuf)
     requires { HasEntry history.now.history seen.now }
     ensures { out.new ≡ line history.now.history (event.now, seen.now) }

@@ -39,7 +39,8 @@ impl<'t> Walk<'t> {
         }
     }
 
-    /// The next event, whose page is filled into `page` where it is a page-out; None at the end.
+    /// The next event; None exactly at the end. The page of a page-out is filled into `page`, which has the script's
+    /// `page_bytes`; other events leave it.
     pub fn next(&mut self, page: &mut [u8]) -> Option<Event>
         requires { length page.old ≡ self.old.sizes.page_bytes }
         ensures event { result ≡ first_event self.old.inputs }
@@ -140,8 +141,11 @@ fn checked_lines(geometry: &Geometry, mut place: Place<'_>) -> Result<Counts, Sc
     Ok(counts)
 }
 
-/// Reads a text of at most `TEXT_LIMIT` bytes as a script, or names its first line at fault. The text is checked
-/// whole, and nothing but it is kept.
+/// Reads a text of at most `TEXT_LIMIT` bytes as a script: a geometry line, then event lines, where empty lines and those
+/// that begin with `#` are skipped. Else its first line at fault is named, with the first fault of that line; a text
+/// without a geometry line is refused at one more than its number of lines.
+///
+/// The text is checked whole, and no memory is taken: the script keeps the text and its counts, and a walk reads it again.
 pub fn read_script<'t>(text: &'t [u8]) -> Result<Script<'t>, ScriptRefused>
     requires { length text.now ≤ TEXT_LIMIT }
     ensures { result ≡ script text.now }
