@@ -8,7 +8,7 @@ use Rattle.swap_wire.specs.declared.Seen.{Seen}
 use Rattle.swap_record.specs.History.{IsLegal}
 use Rattle.swap_disk.specs.Port.{Port, DiskCall, DiskAnswer, Follows}
 use Rattle.swap_disk.specs.Drive.{Drive, ask, port_of, new_drive, IsDrive, Moves}
-use Rattle.swap_disk.proofs.Follows as drives
+use Rattle.swap_disk.specs.Follows as drives
 use Rattle.swap_device.specs.Ports.{Prog, Ret, AskDisk, Along, Leads, run}
 use Rattle.swap_device.specs.Device.{Device, new}
 use Rattle.swap_device.specs.Fits.{Fits, IsBlank, trusted, IsFaithfulFrom}

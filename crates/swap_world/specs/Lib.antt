@@ -3,3 +3,4 @@ pub mod Laws
 pub mod Rows
 pub mod Answered
 pub mod Runs
+pub mod Failures
