@@ -47,7 +47,7 @@ module _ {D : Type 0} (means : D → Port) (moves : D → (c : DiskCall) → Dis
       (λ _. (k, refl)) (λ _. seen_kept T d see_step (finish d c) disk (finish_kept means moves follows T d disk c k range))
   happens_kept T d disk page event.Start k range = seen_kept T d see_start (disk_start d) disk (disk_start_kept means moves follows T d disk k)
   happens_kept T d disk page (event.Disk which ok) k range = λ done mid moved.
-    taken_kept T d mid done (lets_finish_fits T d (means disk) (means mid) which ok done k (follows disk (LetFinish which ok) done mid moved))
+      taken_kept T d mid done (lets_finish_fits T d (means disk) (means mid) which ok done k (follows disk (LetFinish which ok) done mid moved))
   happens_kept T d disk page (event.Tick word) k range = (k, refl)
   happens_kept T d disk page (event.Map s l) k range = (k, refl)
   happens_kept T d disk page (event.Connect l) k range = (k, refl)

@@ -149,7 +149,6 @@ idle_at zero i = refl
 idle_at (suc n) zero = refl
 idle_at (suc n) (suc i) = idle_at n i
 
-
 accept_other : (c e : Caller) (d : Device) (p : Page) (bytes : List ℕ) (is : List Input) → (c.0 ≡ e.0 → ⊥) → OpenAt c d is → OpenAt c (accept d e p bytes) is
 accept_other c e d p bytes is ne h = push_other c e d.history (calls.paged_out d.calls p) p op.PageOut bytes is ne (marked c d.history d.calls p is h)
 

@@ -1,14 +1,16 @@
 -- Runs of events over any disk.
-use Rattle.std.specs.Prelude.{◌≡◌, Bool, true, false, ℕ, List, [], ◌∷◌, is_some, MatchOption, None, replicate}
-use Rattle.std.specs.List.{AllByRecursion}
-use Rattle.swap_base.specs.Sizes.{Sizes, pages_of, zeros}
+use Rattle.std.specs.Prelude.{◌≡◌, ◌-◌, ◌<◌, Bool, true, false, ℕ, List, [], ◌∷◌, ◌++◌}
+use Rattle.swap_base.specs.Sizes.{Sizes}
 use Rattle.swap_wire.specs.Input.{Input, IsInRange}
 use Rattle.swap_wire.specs.declared.Event.{Event}
 use Rattle.swap_wire.specs.declared.Event.TheVariants as event
 use Rattle.swap_wire.specs.declared.Seen.{Seen}
 use Rattle.swap_wire.specs.declared.Seen.TheVariants as seen
+use Rattle.swap_record.specs.History.{History}
 use Rattle.swap_disk.specs.Port.{Port, DiskCall, DiskAnswer}
-use Rattle.swap_device.specs.Device.{Device, new}
+use Rattle.swap_device.specs.Device.{Device, Core, new}
+use Rattle.swap_device.specs.Fits.{IsBlank}
+use Rattle.swap_device.specs.State.{GivesLast}
 use Rattle.swap_world.specs.World.{IsStep}
 
 -- an event has an effect unless nothing is seen of it, or a caller is told to wait on
@@ -28,3 +30,45 @@ pub data IsRun {D : Type 0} (moves : D → (c : DiskCall) → DiskAnswer c → D
       → IsRun moves first disk made d k → IsInRange first.sizes i.event → IsStep moves d k i s d' k' → has_effect i.event s ≡ true → IsRun moves first disk ((i, s) ∷ made) d' k'
   without : {made : List (Input × Seen)} {d : Device} {k : D} (i : Input) (s : Seen) (k' : D)
       → IsRun moves first disk made d k → IsInRange first.sizes i.event → IsStep moves d k i s d k' → has_effect i.event s ≡ false → IsRun moves first disk made d k'
+
+-- a device over its disk, its events that had an effect with what was seen of each, the oldest first, and for how
+-- many more there is room
+pub record WorldOf (D : Type 0) : Type 0 where
+  pub core : Core D
+  pub log : List (Event × Seen)
+  pub log_spare : ℕ
+
+abbrev pub logged_of : List (Input × Seen) → List (Event × Seen)
+logged_of [] = []
+logged_of ((i, s) ∷ made) = logged_of made ++ (i.event, s) ∷ []
+
+-- a world's device and disk were reached by the events of its log
+pub record IsReached {D : Type 0} (means : D → Port) (moves : D → (c : DiskCall) → DiskAnswer c → D → Type 0) (core : Core D) (log : List (Event × Seen)) : Type 0 where
+  pub sizes : Sizes
+  pub first : D
+  pub made : List (Input × Seen)
+  pub blank : IsBlank sizes (means first)
+  pub run : IsRun moves (new sizes) first made core.device core.disk
+  pub logged : log ≡ logged_of made
+
+-- the log and its room after an event
+abbrev pub logged_if : Bool → List (Event × Seen) → Event → Seen → List (Event × Seen)
+logged_if true log e s = log ++ (e, s) ∷ []
+logged_if false log e s = log
+
+abbrev pub one_less_if : Bool → ℕ → ℕ
+one_less_if true n = n - 1
+one_less_if false n = n
+
+-- a call may want room for an entry
+abbrev pub HasSpare : Event → ℕ → Type 0
+HasSpare (event.PageOut c p) spare = 0 < spare
+HasSpare (event.PageIn c p) spare = 0 < spare
+HasSpare (event.Finish c) spare = 0 < spare
+HasSpare e spare = Unit {0}
+
+-- after a page-in was answered the buffer holds its page
+abbrev pub GivesPage : Event → Seen → History → List ℕ → Type 0
+GivesPage (event.PageIn c p) (seen.Done entry sent) H given = GivesLast H given
+GivesPage (event.Finish c) (seen.Done entry sent) H given = GivesLast H given
+GivesPage e s H given = Unit {0}

@@ -5,7 +5,11 @@ ghost use Rattle.swap_world.specs.Answered.{EachCallOnce};
 ghost use Rattle.swap_world.specs.Laws.{AlwaysLegal, HoldsAfterEach, StepsAreNext};
 ghost use Rattle.swap_world.specs.Rows.{PageOutWithoutRoomFailsWhereAWriteFailed, ReadOvertakenByAPageOutAlreadyOnTheDisk};
 
+mod events;
+mod world;
+
 use swap_disk::DiskPort;
+pub use world::World;
 
 /// Whatever the events and whatever fails, the history over the disk in memory is one of an array of pages that
 /// starts as zeros.
