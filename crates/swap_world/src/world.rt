@@ -1,17 +1,15 @@
-ghost use Rattle.std.specs.Prelude.{◌≡◌, ◌+◌, ◌<◌, ◌≤◌, ◌^◌, ◌↔◌, length, max, IfOk, OnOk, OnErr, false, true, [], slice_get, Some};
-ghost use Rattle.swap_base.specs.Sizes.{pages_of};
+ghost use Rattle.std.specs.Prelude.{◌≡◌, ◌+◌, ◌<◌, ◌≤◌, ◌^◌, ◌↔◌, length, max, IfOk, OnOk, OnErr, false, true, [], slice_get, Some, Err, vec_len, vec_capacity};
 ghost use Rattle.swap_wire.specs.Input.{IsInRange};
-ghost use Rattle.swap_calls.specs.Calls.{state_of, is_idle};
 ghost use Rattle.swap_device.specs.Device.{new};
 ghost use Rattle.swap_device.specs.Fits.{IsBlank};
 ghost use Rattle.swap_device.specs.State.{KeepsRoom};
 ghost use Rattle.swap_world.specs.World.{IsStep, see_out, see_in, see_step, see_start, see_disk};
 ghost use Rattle.swap_world.specs.Runs.{has_effect, logged_if, one_less_if, HasSpare, GivesPage};
 
+use crate::events::happen;
 use std::alloc::Global;
 use std::marker::Model;
-use swap_base::{DiskWhich, EntryNo, Geometry, NoMemory, Page};
-use swap_calls::CallState;
+use swap_base::{EntryNo, Geometry, NoMemory, Page};
 use swap_device::{DeviceCore, DiskStep, InStep, OutStep, Step};
 use swap_disk::DiskPort;
 use swap_record::ReserveRefused;
@@ -33,6 +31,107 @@ impl<D: DiskPort> Model for World<D> {
     ghost view = { λ w. record { core = w.device; log = w.log.items; log_spare = vec_capacity w.log - length w.log.items } };
 
     ghost invariant = { λ w. IsReached D.means D.moves w.device w.log.items };
+}
+
+impl<D: DiskPort> World<D> {
+    /// Makes room for so many more entries and logged events. `TooMany` comes exactly where the history would
+    /// pass its limit; nothing but the room changes.
+    pub fn reserve(&mut self, calls: u32, events: usize) -> Result<(), ReserveRefused>
+        ensures device { self.new.core.device ≡ self.old.core.device }
+        ensures disk { self.new.core.disk ≡ self.old.core.disk }
+        ensures log { self.new.log ≡ self.old.log }
+        ensures spare { OnOk result (self.new.core.spare ≡ max self.old.core.spare calls) }
+        ensures log_spare { OnOk result (events ≤ self.new.log_spare) }
+        ensures too_many { (result ≡ Err ReserveRefused.TooMany) ↔ (4_194_304 < length self.old.core.device.history + calls) }
+    {
+        self.device.reserve(calls)?;
+        if self.log.reserve(events).is_err() {
+            return Err(ReserveRefused::NoMemory);
+        }
+        Ok(())
+    }
+
+    /// Makes one event. A page-out's page is handed in; after a page-in's `Done` the buffer holds the page. An event
+    /// with an effect is logged; one without leaves the device as it was.
+    pub fn step(&mut self, event: &Event, page: &mut [u8]) -> Seen
+        requires range { IsInRange self.old.core.device.sizes event.now }
+        requires page { length page.old ≡ self.old.core.device.sizes.page_bytes }
+        requires spare { HasSpare event.now self.old.core.spare }
+        requires log_spare { 0 < self.old.log_spare }
+        ensures step { IsStep D.moves self.old.core.device self.old.core.disk (record { event = event.now; page = page.old }) result self.new.core.device self.new.core.disk }
+        ensures unchanged { has_effect event.now result ≡ false → self.new.core.device ≡ self.old.core.device }
+        ensures log { self.new.log ≡ logged_if (has_effect event.now result) self.old.log event.now result }
+        ensures log_room { self.new.log_spare ≡ one_less_if (has_effect event.now result) self.old.log_spare }
+        ensures room { KeepsRoom self.old.core self.new.core }
+        ensures gives { GivesPage event.now result self.new.core.device.history page.new }
+    {
+        let _len = self.log.len();
+        let _capacity = self.log.capacity();
+        let seen = happen(&mut self.device, event, page);
+        note(&mut self.log, event, seen);
+        seen
+    }
+
+    /// For how many more entries there is room.
+    pub fn spare(&self) -> u32
+        ensures { result ≡ self.now.core.spare }
+    {
+        self.device.history().spare()
+    }
+
+    /// For how many more events the log has room.
+    pub fn log_spare(&self) -> usize
+        ensures { result ≡ self.now.log_spare }
+    {
+        self.log.capacity() - self.log.len()
+    }
+
+    /// The device.
+    pub fn device(&self) -> &DeviceCore<D>
+        ensures { result.now ≡ self.now.core }
+    {
+        &self.device
+    }
+
+    /// How many events were logged.
+    pub fn log_len(&self) -> usize
+        ensures { result ≡ length self.now.log }
+    {
+        self.log.len()
+    }
+
+    /// A logged event, and what was seen of it.
+    pub fn logged(&self, i: usize) -> (Event, Seen)
+        requires { i < length self.now.log }
+        ensures { slice_get self.now.log i ≡ Some result }
+    {
+        self.log[i]
+    }
+}
+
+impl<D: DiskPort + Drop> World<D> {
+    /// A world that nothing happened in, over a disk of its geometry that nothing was asked of.
+    pub fn make(alloc: Global, geometry: Geometry, disk: D) -> Result<World<D>, NoMemory>
+        requires { IsBlank geometry (D.means disk) }
+        ensures core { IfOk result (λ w. w.core ≡ record { device = new geometry; disk = disk; spare = 0 }) }
+        ensures log { IfOk result (λ w. w.log ≡ []) }
+    {
+        Ok(World {
+            device: DeviceCore::make(alloc, geometry, disk)?,
+            log: Vec::new(alloc),
+        })
+    }
+}
+
+// An event with an effect is logged.
+fn note(log: &mut Vec<(Event, Seen)>, event: &Event, seen: Seen)
+    requires { vec_len log.old < vec_capacity log.old }
+    ensures items { log.new.items ≡ logged_if (has_effect event.now seen) log.old.items event.now seen }
+    ensures capacity { vec_capacity log.new ≡ vec_capacity log.old }
+{
+    if has_effect(event, &seen) {
+        log.push_reserved((*event, seen));
+    }
 }
 
 // What is seen of a page-out's first step.

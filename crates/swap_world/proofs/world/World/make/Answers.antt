@@ -1,0 +1,5 @@
+use Rattle.swap_world.proofs.Reached.{reached_new}
+use Rattle.swap_world.proofs.world.World.make.Goals as goal
+
+pub invariant_of-result : goal.invariant_of-result
+invariant_of-result g c = rw (c.in_ok-make.ensures, c.new.ensures.items) (reached_new g.D.DiskPort.means g.D.DiskPort.moves g.met.D.DiskPort.follows c.args.geometry c.args.disk 0 c.requires)

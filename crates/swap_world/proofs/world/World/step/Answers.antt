@@ -1,0 +1,22 @@
+use Rattle.std.proofs.Common.{arith, ap, ◌≡◌, ◌<◌, ◌-◌, length, vec_capacity, subst, sym, ℕ}
+use Rattle.swap_wire.specs.Input.{IsInRange}
+use Rattle.swap_world.proofs.Reached.{reached_counts, reached_step, reached_same}
+use Rattle.swap_world.proofs.world.World.step.Goals as goal
+
+pub happen-seen-requires-clause-writes : goal.happen-seen-requires-clause-writes
+happen-seen-requires-clause-writes g c =
+    let r = reached_counts g.D.DiskPort.means g.D.DiskPort.moves g.met.D.DiskPort.follows c.self.inside.device c.self.inside.log.items c.self.invariant in
+    let spare : vec_capacity c.self.inside.log - length c.self.inside.log.items ≡ c.args.self.now.log_spare = ap (λ w. w.log_spare) c.self.view_is in
+    omega (arith, r.0, spare, c.requires.log_spare, c.capacity-capacity.ensures, c.capacity-capacity.type_inv)
+
+pub happen-seen-requires-clause-reads : goal.happen-seen-requires-clause-reads
+happen-seen-requires-clause-reads g c =
+    let r = reached_counts g.D.DiskPort.means g.D.DiskPort.moves g.met.D.DiskPort.follows c.self.inside.device c.self.inside.log.items c.self.invariant in
+    let spare : vec_capacity c.self.inside.log - length c.self.inside.log.items ≡ c.args.self.now.log_spare = ap (λ w. w.log_spare) c.self.view_is in
+    omega (arith, r.1, spare, c.requires.log_spare, c.capacity-capacity.ensures, c.capacity-capacity.type_inv)
+
+pub invariant_of-self : goal.invariant_of-self
+invariant_of-self g c =
+    rw c.note.ensures.items
+    (reached_step g.D.DiskPort.means g.D.DiskPort.moves g.met.D.DiskPort.follows c.self.inside.device c.self.inside.log.items (record { event = c.args.event.now; page = c.args.page.now }) c.happen-seen.result c.happen-seen.new.device.device c.happen-seen.new.device.disk c.happen-seen.new.device.spare c.self.invariant
+    (rw (ap (λ w. w.core.device.sizes) c.self.view_is) c.requires.range) c.happen-seen.ensures.step)
