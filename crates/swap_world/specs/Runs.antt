@@ -1,5 +1,6 @@
 -- Runs of events over any disk.
-use Rattle.std.specs.Prelude.{◌≡◌, ◌-◌, ◌<◌, Bool, true, false, ℕ, List, [], ◌∷◌, ◌++◌}
+use Rattle.std.specs.Prelude.{◌≡◌, ◌+◌, ◌-◌, ◌<◌, ◌≤◌, Bool, true, false, not, ℕ, List, [], ◌∷◌, ◌++◌, length, count_by, MatchOption, Option, None, Some}
+use Rattle.swap_base.specs.declared.EntryNo.{EntryNo}
 use Rattle.swap_base.specs.Sizes.{Sizes}
 use Rattle.swap_wire.specs.Input.{Input, IsInRange}
 use Rattle.swap_wire.specs.declared.Event.{Event}
@@ -8,6 +9,7 @@ use Rattle.swap_wire.specs.declared.Seen.{Seen}
 use Rattle.swap_wire.specs.declared.Seen.TheVariants as seen
 use Rattle.swap_record.specs.History.{History}
 use Rattle.swap_disk.specs.Port.{Port, DiskCall, DiskAnswer}
+use Rattle.swap_calls.specs.Calls.{Call, is_idle, state_of}
 use Rattle.swap_device.specs.Device.{Device, Core, new}
 use Rattle.swap_device.specs.Fits.{IsBlank}
 use Rattle.swap_device.specs.State.{GivesLast}
@@ -60,15 +62,45 @@ abbrev pub one_less_if : Bool → ℕ → ℕ
 one_less_if true n = n - 1
 one_less_if false n = n
 
--- a call may want room for an entry
-abbrev pub HasSpare : Event → ℕ → Type 0
-HasSpare (event.PageOut c p) spare = 0 < spare
-HasSpare (event.PageIn c p) spare = 0 < spare
-HasSpare (event.Finish c) spare = 0 < spare
-HasSpare e spare = Unit {0}
+-- a call that isn't answered yet may want room for its entry
+abbrev pub HasSpare : Device → Event → ℕ → Type 0
+HasSpare d (event.PageOut c p) spare = is_idle (state_of d.calls c) ≡ true → 0 < spare
+HasSpare d (event.PageIn c p) spare = is_idle (state_of d.calls c) ≡ true → 0 < spare
+HasSpare d (event.Finish c) spare = is_idle (state_of d.calls c) ≡ false → 0 < spare
+HasSpare d e spare = Unit {0}
 
 -- after a page-in was answered the buffer holds its page
 abbrev pub GivesPage : Event → Seen → History → List ℕ → Type 0
 GivesPage (event.PageIn c p) (seen.Done entry sent) H given = GivesLast H given
 GivesPage (event.Finish c) (seen.Done entry sent) H given = GivesLast H given
 GivesPage e s H given = Unit {0}
+
+-- the entry that was seen, where there is one
+abbrev pub entry_seen : Seen → Option EntryNo
+entry_seen (seen.Done entry sent) = Some entry
+entry_seen (seen.Fault entry) = Some entry
+entry_seen s = None
+
+-- an entry that was seen stands in the history
+abbrev pub StandsIn : History → Seen → Type 0
+StandsIn H s = MatchOption (entry_seen s) (Unit {0}) (λ (e : EntryNo). e.0 < length H)
+
+-- a history goes on
+abbrev pub GoesOn : History → History → Type 0
+GoesOn before now = (later : History) × (now ≡ later ++ before)
+
+-- how many callers have a call that isn't answered
+abbrev pub is_busy_call : Call → Bool
+is_busy_call call = not (is_idle call.state)
+
+abbrev pub busy_callers : Device → ℕ
+busy_callers d = count_by is_busy_call d.calls
+
+abbrev pub is_new_call : Event → ℕ
+is_new_call (event.PageOut c p) = 1
+is_new_call (event.PageIn c p) = 1
+is_new_call e = 0
+
+-- the entries and the calls under way grow by no more than the new calls
+abbrev pub GrowsByCalls : Event → Device → Device → Type 0
+GrowsByCalls e before now = length now.history + busy_callers now ≤ length before.history + busy_callers before + is_new_call e

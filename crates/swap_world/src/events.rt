@@ -1,6 +1,6 @@
-ghost use Rattle.std.specs.Prelude.{◌≡◌, ◌+◌, ◌<◌, ◌^◌, length};
+ghost use Rattle.std.specs.Prelude.{◌≡◌, ◌+◌, ◌<◌, ◌^◌, length, true, false};
 ghost use Rattle.swap_base.specs.Sizes.{pages_of};
-ghost use Rattle.swap_calls.specs.Calls.{is_idle};
+ghost use Rattle.swap_calls.specs.Calls.{is_idle, state_of};
 ghost use Rattle.swap_device.specs.Ports.{Along};
 ghost use Rattle.swap_device.specs.State.{KeepsRoom};
 ghost use Rattle.swap_wire.specs.Input.{IsInRange};
@@ -32,7 +32,7 @@ fn page_out<D: DiskPort>(
     requires caller { caller.0 < device.old.device.sizes.callers }
     requires page { page.0 < pages_of device.old.device.sizes }
     requires bytes { length bytes.now ≡ device.old.device.sizes.page_bytes }
-    requires spare { 0 < device.old.spare }
+    requires spare { is_idle (state_of device.old.device.calls caller) ≡ true → 0 < device.old.spare }
     ensures step { Along D.moves (happens device.old.device bytes.now (Event.PageOut caller page)) device.old.disk device.new.disk (device.new.device, result) }
     ensures room { KeepsRoom device.old device.new }
 {
@@ -51,7 +51,7 @@ fn page_in<D: DiskPort>(
     requires caller { caller.0 < device.old.device.sizes.callers }
     requires page { page.0 < pages_of device.old.device.sizes }
     requires buf { length buf.old ≡ device.old.device.sizes.page_bytes }
-    requires spare { 0 < device.old.spare }
+    requires spare { is_idle (state_of device.old.device.calls caller) ≡ true → 0 < device.old.spare }
     ensures step { Along D.moves (happens device.old.device buf.old (Event.PageIn caller page)) device.old.disk device.new.disk (device.new.device, result) }
     ensures room { KeepsRoom device.old device.new }
     ensures gives { GivesPage (Event.PageIn caller page) result device.new.device.history buf.new }
@@ -65,7 +65,7 @@ fn page_in<D: DiskPort>(
 fn finish<D: DiskPort>(device: &mut DeviceCore<D>, caller: Caller, buf: &mut [u8]) -> Seen
     requires caller { caller.0 < device.old.device.sizes.callers }
     requires buf { length buf.old ≡ device.old.device.sizes.page_bytes }
-    requires spare { 0 < device.old.spare }
+    requires spare { is_idle (state_of device.old.device.calls caller) ≡ false → 0 < device.old.spare }
     ensures step { Along D.moves (happens device.old.device buf.old (Event.Finish caller)) device.old.disk device.new.disk (device.new.device, result) }
     ensures room { KeepsRoom device.old device.new }
     ensures gives { GivesPage (Event.Finish caller) result device.new.device.history buf.new }
@@ -97,7 +97,7 @@ fn disk_event<D: DiskPort>(
 pub fn happen<D: DiskPort>(device: &mut DeviceCore<D>, event: &Event, page: &mut [u8]) -> Seen
     requires range { IsInRange device.old.device.sizes event.now }
     requires page { length page.old ≡ device.old.device.sizes.page_bytes }
-    requires spare { HasSpare event.now device.old.spare }
+    requires spare { HasSpare device.old.device event.now device.old.spare }
     requires writes { device.old.device.failed_writes + 1 < 2 ^ 64 }
     requires reads { device.old.device.failed_reads + 1 < 2 ^ 64 }
     ensures step { IsStep D.moves device.old.device device.old.disk (record { event = event.now; page = page.old }) result device.new.device device.new.disk }

@@ -4,7 +4,7 @@ ghost use Rattle.swap_device.specs.Device.{new};
 ghost use Rattle.swap_device.specs.Fits.{IsBlank};
 ghost use Rattle.swap_device.specs.State.{KeepsRoom};
 ghost use Rattle.swap_world.specs.World.{IsStep, see_out, see_in, see_step, see_start, see_disk};
-ghost use Rattle.swap_world.specs.Runs.{has_effect, logged_if, one_less_if, HasSpare, GivesPage};
+ghost use Rattle.swap_world.specs.Runs.{has_effect, logged_if, one_less_if, HasSpare, GivesPage, GoesOn, StandsIn, GrowsByCalls};
 
 use crate::events::happen;
 use std::alloc::Global;
@@ -56,13 +56,16 @@ impl<D: DiskPort> World<D> {
     pub fn step(&mut self, event: &Event, page: &mut [u8]) -> Seen
         requires range { IsInRange self.old.core.device.sizes event.now }
         requires page { length page.old ≡ self.old.core.device.sizes.page_bytes }
-        requires spare { HasSpare event.now self.old.core.spare }
+        requires spare { HasSpare self.old.core.device event.now self.old.core.spare }
         requires log_spare { 0 < self.old.log_spare }
         ensures step { IsStep D.moves self.old.core.device self.old.core.disk (record { event = event.now; page = page.old }) result self.new.core.device self.new.core.disk }
         ensures unchanged { has_effect event.now result ≡ false → self.new.core.device ≡ self.old.core.device }
         ensures log { self.new.log ≡ logged_if (has_effect event.now result) self.old.log event.now result }
         ensures log_room { self.new.log_spare ≡ one_less_if (has_effect event.now result) self.old.log_spare }
         ensures room { KeepsRoom self.old.core self.new.core }
+        ensures goes_on { GoesOn self.old.core.device.history self.new.core.device.history }
+        ensures stands { StandsIn self.new.core.device.history result }
+        ensures grows { GrowsByCalls event.now self.old.core.device self.new.core.device }
         ensures gives { GivesPage event.now result self.new.core.device.history page.new }
     {
         let _len = self.log.len();
