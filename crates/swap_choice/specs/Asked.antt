@@ -13,3 +13,9 @@ first_two (a ∷ b ∷ rest) = Two a b
 -- two are asked, and the fresh ones come first
 abbrev pub asked : ℕ → List ℕ → List ℕ → Asked
 asked word fresh other = first_two (picks word fresh ++ picks word other)
+
+-- the lenders that are asked
+abbrev pub named : Asked → List ℕ
+named Nobody = []
+named (One a) = a ∷ []
+named (Two a b) = a ∷ b ∷ []

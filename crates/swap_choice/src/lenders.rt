@@ -1,6 +1,7 @@
-ghost use Rattle.std.specs.Prelude.{ℕ, ◌≡◌, ◌%◌, ◌/◌, ◌<◌, ◌≤◌, ◌↔◌};
+ghost use Rattle.std.specs.Prelude.{ℕ, ◌≡◌, ◌%◌, ◌/◌, ◌<◌, ◌≤◌, ◌↔◌, ◌++◌, Contains, nat_eq};
+ghost use Rattle.std.specs.List.{IsDistinct};
 ghost use Rattle.swap_choice.specs.Picks.{picks};
-ghost use Rattle.swap_choice.specs.Asked.{first_two, asked};
+ghost use Rattle.swap_choice.specs.Asked.{first_two, asked, named};
 
 /// Which lenders are asked for their free slots.
 #[derive(Clone, Copy, Debug, PartialEq, Eq)]
@@ -30,16 +31,21 @@ pub fn first_pick(word: u64, n: usize) -> (usize, u64)
 
 /// The first two of the word's picks from the fresh lenders and then from the others.
 pub fn two_lenders(word: u64, fresh: &[u32], other: &[u32]) -> Asked
-    ensures { result ≡ asked word fresh.now other.now }
+    ensures asked { result ≡ asked word fresh.now other.now }
+    ensures members { (lender : ℕ) → Contains (named result) lender → Contains (fresh.now ++ other.now) lender }
+    ensures different { IsDistinct nat_eq (fresh.now ++ other.now) → IsDistinct nat_eq (named result) }
 {
-    match two_of(word, fresh) {
-        Asked::Nobody => two_of(word, other),
-        Asked::One(first) => match two_of(word, other) {
-            Asked::Nobody => Asked::One(first),
-            Asked::One(second) => Asked::Two(first, second),
-            Asked::Two(second, _) => Asked::Two(first, second),
-        },
-        Asked::Two(first, second) => Asked::Two(first, second),
+    joined(two_of(word, fresh), two_of(word, other))
+}
+
+/// The first two of those that were picked first and those that were picked next.
+fn joined(first: Asked, next: Asked) -> Asked
+    ensures { result ≡ first_two (named first ++ named next) }
+{
+    match (first, next) {
+        (Asked::Nobody, _) => next,
+        (Asked::One(a), Asked::One(b) | Asked::Two(b, _)) => Asked::Two(a, b),
+        _ => first,
     }
 }
 

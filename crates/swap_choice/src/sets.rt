@@ -1,7 +1,7 @@
 ghost use Rattle.std.specs.Prelude.{ℕ, ◌≡◌, ◌<◌, ◌≤◌, ◌⊎◌, take, IsTrue};
 ghost use Rattle.swap_choice.specs.Picks.{picks};
 ghost use Rattle.swap_choice.specs.Slots.{has, slots, size, set_of};
-ghost use Rattle.swap_choice.specs.Least.{IsBelow, IsLeast};
+ghost use Rattle.swap_choice.specs.Least.{IsBelow, IsLeast, least_of};
 
 use super::{SLOTS, first_pick, has_slot, slot_at, slot_count, with_slot, without_slot};
 
@@ -28,7 +28,8 @@ pub fn picked(word: u64, held: u64, count: u32) -> u64
 /// The set of the `count` least slots of a set by (rate, slot).
 pub fn least(rates: &[u64; 64], among: u64, count: u32) -> u64
     requires { count ≤ size among }
-    ensures { IsLeast rates.now among count result }
+    ensures least { IsLeast rates.now among count result }
+    ensures value { result ≡ least_of rates.now among count }
 {
     let mut left = among;
     let mut chosen = 0;

@@ -1,12 +1,12 @@
 -- The waiting and the standing slots of a round, slot by slot.
-use Rattle.std.proofs.Common.{◌≡◌, ℕ, zero, suc, ◌-◌, ◌^◌, ◌<◌, min, true, false, eqb, not, ◌&&◌, bit_and, refl, sym, ap, ap₂, subst, ◌∙◌, arith}
+use Rattle.std.proofs.Common.{◌≡◌, ℕ, zero, suc, ◌-◌, ◌^◌, ◌<◌, min, None, Some, cond, true, false, eqb, not, ◌&&◌, bit_and, refl, sym, ap, ap₂, subst, ◌∙◌, arith}
 use Rattle.std.specs.Int.{bit_at, bit_not, w64, trailing_zeros}
 use Rattle.std.proofs.lemmas.Nat.Bits.{bit_at_and, bit_at_not, bit_at-lt, bit_at-zero, bit_at-trailing_zeros}
 use Rattle.std.proofs.lemmas.Nat.{and_le_l}
-use Rattle.std.proofs.lemmas.Bool.{eq-eqb}
+use Rattle.std.proofs.lemmas.Bool.{ne_eqb, eq-eqb}
 use Rattle.swap_choice.specs.Slots.{has, size}
-use Rattle.swap_choice.specs.Least.{IsLeast}
-use Rattle.swap_evict.specs.Rounds.{Round, standing, IsOpen, IsEvicted}
+use Rattle.swap_choice.specs.Least.{IsLeast, least_of}
+use Rattle.swap_evict.specs.Rounds.{Round, standing, IsOpen, IsEvicted, waiting, ready}
 
 both_bits : (x y : ℕ) → x < 2 → y < 2 → eqb (min x y) 1 ≡ (eqb x 1 && eqb y 1)
 both_bits zero y p q = ap (λ b. eqb b 1) (let e : min 0 y ≡ 0 = omega arith in e)
@@ -51,3 +51,12 @@ evicted_from r evicted count p q none is least = record {
   closed = λ slot within. sym (has-waiting r.asked r.answered r.gone slot p q within) ∙ no_slot _ slot none;
   least = subst (λ n. IsLeast r.values (standing r) n evicted) is least;
 }
+
+pub none_ready : (r : Round) → (waiting r ≡ 0 → ⊥) → None ≡ ready r
+none_ready r some =
+    sym (ap (λ b. cond b (Some (least_of r.values (standing r) (min r.count (size (standing r))))) None) (ne_eqb (waiting r) 0 some))
+
+pub some_ready : (r : Round) (evicted count : ℕ) → waiting r ≡ 0 → count ≡ min r.count (size (standing r)) → evicted ≡ least_of r.values (standing r) count → Some evicted ≡ ready r
+some_ready r evicted count none is least =
+    ap Some (least ∙ ap (λ n. least_of r.values (standing r) n) is)
+    ∙ sym (ap (λ b. cond b (Some (least_of r.values (standing r) (min r.count (size (standing r))))) None) (eq-eqb (waiting r) 0 none))

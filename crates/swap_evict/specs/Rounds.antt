@@ -1,8 +1,8 @@
 -- A round of batch eviction: slots are asked for their values, and the least of those that answered are evicted.
-use Rattle.std.specs.Prelude.{◌≡◌, ℕ, ◌<◌, Bool, false, ◌&&◌, not, min, List, IsTrue, replicate, slice_set, bit_or, bit_and, ◌^◌}
+use Rattle.std.specs.Prelude.{◌≡◌, ℕ, ◌<◌, Bool, false, ◌&&◌, not, min, List, IsTrue, replicate, slice_set, ◌==◌, if◌then◌else◌, Option, None, Some, bit_or, bit_and, ◌^◌}
 use Rattle.std.specs.Int.{bit_not, w64}
 use Rattle.swap_choice.specs.Slots.{has, size}
-use Rattle.swap_choice.specs.Least.{IsLeast}
+use Rattle.swap_choice.specs.Least.{IsLeast, least_of}
 
 -- the asked slots, how many are wanted, those that answered, those that are gone, and the answers by slot
 pub record Round : Type 0 where
@@ -28,6 +28,14 @@ waits_for r slot = has r.asked slot && not (has r.answered slot) && not (has r.g
 -- the asked slots that answered and aren't gone
 abbrev pub standing : Round → ℕ
 standing r = bit_and (bit_and r.asked r.answered) (bit_not w64 r.gone)
+
+-- the slots whose answers are waited for
+abbrev pub waiting : Round → ℕ
+waiting r = bit_and (bit_and r.asked (bit_not w64 r.answered)) (bit_not w64 r.gone)
+
+-- the slots to evict, or none while an answer is waited for
+abbrev pub ready : Round → Option ℕ
+ready r = if waiting r == 0 then Some (least_of r.values (standing r) (min r.count (size (standing r)))) else None
 
 -- the answer of some slot is waited for
 abbrev pub IsOpen : Round → Type 0

@@ -2,7 +2,7 @@
 #![tactic(auto)]
 
 ghost use Rattle.std.specs.Prelude.{◌≡◌, ◌<◌, IsTrue, MatchOption};
-ghost use Rattle.swap_evict.specs.Rounds.{opened, answer, leave, waits_for, IsOpen, IsEvicted};
+ghost use Rattle.swap_evict.specs.Rounds.{opened, answer, leave, waits_for, ready, IsOpen, IsEvicted};
 
 use std::marker::Model;
 use swap_choice::{has_slot, least, slot_count, with_slot};
@@ -70,7 +70,8 @@ impl EvictRound {
     /// The slots to evict: the least active of those that answered and aren't gone. None exactly where an answer is waited
     /// for.
     pub fn ready(&self) -> Option<u64>
-        ensures { MatchOption result (IsOpen self.now) (λ evicted. IsEvicted self.now evicted) }
+        ensures value { result ≡ ready self.now }
+        ensures evicted { MatchOption result (IsOpen self.now) (λ evicted. IsEvicted self.now evicted) }
     {
         if self.asked & !self.answered & !self.gone != 0 {
             return None;
