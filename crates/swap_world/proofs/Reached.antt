@@ -10,6 +10,7 @@ use Rattle.swap_device.specs.Fits.{IsBlank}
 use Rattle.swap_world.specs.World.{IsStep}
 use Rattle.swap_world.specs.Runs.{IsRun, begin, effect, without, has_effect, IsReached, logged_of, logged_if}
 use Rattle.swap_world.specs.Failures.{failed_writes_in, failed_reads_in}
+use Rattle.swap_world.proofs.Legal.{step_kept}
 use Rattle.swap_world.proofs.Runs.{run_fits}
 use Rattle.swap_world.proofs.Effects.{step_stays}
 use Rattle.swap_world.proofs.Counts.{run_counts, few_failed}
@@ -71,3 +72,9 @@ module _ {D : Type 0} (means : D → Port) (moves : D → (c : DiskCall) → Dis
 
   pub reached_new : (s : Sizes) (disk : D) (spare : ℕ) → IsBlank s (means disk) → IsReached means moves (record { device = new s; disk = disk; spare = spare }) []
   reached_new s disk spare blank = record { sizes = s; first = disk; made = []; blank = blank; run = begin; logged = refl }
+
+  -- no event changes the sizes
+  pub reached_sizes : (core : Core D) (log : List (Event × Seen)) (i : Input) (s : Seen) (d' : Device) (k' : D) → IsReached means moves core log → IsInRange core.device.sizes i.event → IsStep moves core.device core.disk i s d' k' → d'.sizes ≡ core.device.sizes
+  reached_sizes core log i s d' k' r range step =
+      let was = run_fits means moves follows r.sizes r.first r.made core.device core.disk r.blank r.run in
+      (step_kept means moves follows _ core.device d' core.disk k' i s was.0 range step).1

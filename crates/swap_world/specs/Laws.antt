@@ -11,7 +11,7 @@ use Rattle.swap_disk.specs.Drive.{Drive, Moves}
 use Rattle.swap_device.specs.Device.{Device, new}
 use Rattle.swap_device.specs.Fits.{IsFaithfulFrom, IsBlank, trusted}
 use Rattle.swap_world.specs.Answered.{AreAnsweredOnce}
-use Rattle.swap_world.specs.Runs.{IsRun}
+use Rattle.swap_world.specs.Runs.{IsRun, GoesOn}
 use Rattle.swap_world.specs.World.{World, Next, IsStep, start, next, reach, history}
 
 -- over the disk in memory the history is one of an array of pages that starts as zeros
@@ -34,3 +34,7 @@ HoldsAfterEach {D} means moves =
 abbrev pub StepsAreNext : Type 0
 StepsAreNext =
     (d d' : Device) (k k' : Drive) (i : Input) (s : Seen) → IsStep Moves d k i s d' k' → next (record { device = d; drive = k }) i ≡ record { world = record { device = d'; drive = k' }; seen = s }
+
+-- a history goes on with every event
+abbrev pub HistoriesGoOn : Type 0
+HistoriesGoOn = (w : World) (is : List Input) → GoesOn (history w) (history (reach w is))

@@ -2,7 +2,7 @@
 #![tactic(auto)]
 
 ghost use Rattle.swap_world.specs.Answered.{EachCallOnce};
-ghost use Rattle.swap_world.specs.Laws.{AlwaysLegal, HoldsAfterEach, StepsAreNext};
+ghost use Rattle.swap_world.specs.Laws.{AlwaysLegal, HistoriesGoOn, HoldsAfterEach, StepsAreNext};
 ghost use Rattle.swap_world.specs.Rows.{PageOutWithoutRoomFailsWhereAWriteFailed, ReadOvertakenByAPageOutAlreadyOnTheDisk};
 
 mod events;
@@ -32,6 +32,11 @@ pub fn over_any_disk<D: DiskPort>()
 /// Over the disk in memory the world is a function of the events.
 pub fn steps_are_next()
     ensures { StepsAreNext }
+{}
+
+/// A history goes on with every event over the disk in memory.
+pub fn histories_go_on()
+    ensures { HistoriesGoOn }
 {}
 
 /// Rows of events, and what is seen of each.

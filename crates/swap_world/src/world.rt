@@ -63,6 +63,7 @@ impl<D: DiskPort> World<D> {
         ensures log { self.new.log ≡ logged_if (has_effect event.now result) self.old.log event.now result }
         ensures log_room { self.new.log_spare ≡ one_less_if (has_effect event.now result) self.old.log_spare }
         ensures room { KeepsRoom self.old.core self.new.core }
+        ensures sizes { self.new.core.device.sizes ≡ self.old.core.device.sizes }
         ensures goes_on { GoesOn self.old.core.device.history self.new.core.device.history }
         ensures stands { StandsIn self.new.core.device.history result }
         ensures grows { GrowsByCalls event.now self.old.core.device self.new.core.device }

@@ -3,7 +3,7 @@ use Rattle.swap_wire.specs.Input.{IsInRange}
 use Rattle.swap_world.proofs.Entries.{step_adds}
 use Rattle.swap_world.proofs.Busy.{step_grows}
 use Rattle.swap_world.proofs.Effects.{step_stays}
-use Rattle.swap_world.proofs.Reached.{reached_counts, reached_step}
+use Rattle.swap_world.proofs.Reached.{reached_counts, reached_step, reached_sizes}
 use Rattle.swap_world.proofs.world.World.step.Goals as goal
 
 pub happen-seen-requires-clause-writes : goal.happen-seen-requires-clause-writes
@@ -32,3 +32,9 @@ returns-clause-stands g c = (step_adds g.D.DiskPort.moves c.self.inside.device.d
 
 pub returns-clause-grows : goal.returns-clause-grows
 returns-clause-grows g c = rw (← c.self.view_is) (step_grows g.D.DiskPort.moves c.self.inside.device.device c.happen-seen.new.device.device c.self.inside.device.disk c.happen-seen.new.device.disk (record { event = c.args.event.now; page = c.args.page.now }) c.happen-seen.result c.happen-seen.ensures.step)
+
+pub returns-clause-sizes : goal.returns-clause-sizes
+returns-clause-sizes g c =
+    rw (← c.self.view_is)
+    (reached_sizes g.D.DiskPort.means g.D.DiskPort.moves g.met.D.DiskPort.follows c.self.inside.device c.self.inside.log.items (record { event = c.args.event.now; page = c.args.page.now }) c.happen-seen.result c.happen-seen.new.device.device c.happen-seen.new.device.disk c.self.invariant
+    (rw (ap (λ w. w.core.device.sizes) c.self.view_is) c.requires.range) c.happen-seen.ensures.step)

@@ -1,0 +1,127 @@
+-- What a call of the program promises: how it ends, and what it then read and wrote.
+use Rattle.std.specs.Prelude.{◌≡◌, ℕ, ◌<◌, ◌≤◌, ◌⊎◌, Bool, true, false, if◌then◌else◌, List, [], ◌∷◌, ◌++◌, length, Option, None, Some, Ok, Err, codes}
+use Rattle.std.specs.Io.KnownBytes.{Appends, Keeps}
+use Rattle.swap_io.specs.Causes.{Rose, WasRead, WasReadWhole, AppendsFront}
+use Rattle.swap_script.specs.declared.ScriptRefused.{ScriptRefused}
+use Rattle.swap_script.specs.Lines.{is_word, ended}
+use Rattle.swap_script.specs.Reading as reading
+use Rattle.swap_script.specs.Transcript.{refusal}
+use Rattle.swap_script.specs.declared.TheConstants.{TEXT_LIMIT}
+use Rattle.swap_run.specs.declared.Ending.{Ending}
+use Rattle.swap_run.specs.declared.Ending.TheVariants as ending
+use Rattle.swap_run.specs.Run.{history_of, transcript_of, has_failed, IsHeadline}
+
+pub data Command : Type 0 where
+  Script : Command
+
+abbrev pub command_of : List (List ℕ) → Option Command
+command_of (word ∷ []) = if is_word (codes "script") word then Some Script else None
+command_of _ = None
+
+-- a source, or a sink, over a call: the bytes left or taken, where they are told, and its count of faults
+pub record Stream : Type 0 where
+  pub before : Option (List ℕ)
+  pub now : Option (List ℕ)
+  pub faults_before : ℕ
+  pub faults_now : ℕ
+
+abbrev pub stream : Option (List ℕ) → Option (List ℕ) → ℕ → ℕ → Stream
+stream before now faults_before faults_now = record { before = before; now = now; faults_before = faults_before; faults_now = faults_now }
+
+abbrev pub Failed : Stream → Type 0
+Failed s = Rose s.faults_before s.faults_now
+
+abbrev pub TookNothing : Stream → Type 0
+TookNothing s = Keeps s.before s.now
+
+-- the source was read to its end, and its text is a script
+pub record ReadScript (source : Stream) (s : reading.Script) : Type 0 where
+  pub text : List ℕ
+  pub was_read : WasReadWhole source.before source.now text
+  pub within : length text ≤ TEXT_LIMIT
+  pub is_script : reading.script text ≡ Ok s
+
+-- a script ran: out took its transcript, and nothing else; a call failed or none did; and the headline holds of it
+pub record RanScript (source out : Stream) (with_fault : Bool) : Type 0 where
+  pub script : reading.Script
+  pub read : ReadScript source script
+  pub wrote : Appends out.before out.now (transcript_of script)
+  pub fault : has_failed (history_of script) ≡ with_fault
+  pub headline : IsHeadline script
+
+-- a write failed in a script's run: out took a front of the transcript
+pub record BrokeOff (source out : Stream) : Type 0 where
+  pub script : reading.Script
+  pub read : ReadScript source script
+  pub wrote : AppendsFront out.before out.now (transcript_of script)
+  pub failed : Failed out
+
+-- a text whose first line at fault is this one
+pub record ReadFault (source : Stream) (refused : ScriptRefused) : Type 0 where
+  pub text : List ℕ
+  pub was_read : WasReadWhole source.before source.now text
+  pub within : length text ≤ TEXT_LIMIT
+  pub is_refused : reading.script text ≡ Err refused
+
+pub record ReadTooMuch (source : Stream) : Type 0 where
+  pub bytes : List ℕ
+  pub was_read : WasRead source.before source.now bytes
+  pub too_long : TEXT_LIMIT < length bytes
+
+-- what holds where a call ends so
+abbrev pub ScriptEnds : Stream → Stream → Ending → Type 0
+ScriptEnds source out ending.Done = RanScript source out false
+ScriptEnds source out ending.Faulted = RanScript source out true
+ScriptEnds source out ending.Usage = ⊥
+ScriptEnds source out ending.ReadFailed = Failed source × TookNothing out
+ScriptEnds source out ending.WriteFailed = BrokeOff source out
+ScriptEnds source out (ending.Refused refused) = ReadFault source refused × TookNothing out
+ScriptEnds source out ending.NoMemory = TookNothing out
+ScriptEnds source out ending.NotLegal = ⊥
+ScriptEnds source out ending.HostFailed = ⊥
+ScriptEnds source out ending.TooLong = ReadTooMuch source × TookNothing out
+
+-- words that are no form are answered by Usage, and by nothing else
+abbrev pub Ends : Option Command → Stream → Stream → Ending → Type 0
+Ends None source out ending.Usage = TookNothing source × TookNothing out
+Ends None source out _ = ⊥
+Ends (Some Script) source out end = ScriptEnds source out end
+
+-- the status and the words on err
+abbrev pub status_of : Ending → ℕ
+status_of ending.Done = 0
+status_of ending.Faulted = 1
+status_of ending.Usage = 2
+status_of ending.ReadFailed = 3
+status_of ending.WriteFailed = 4
+status_of (ending.Refused refused) = 5
+status_of ending.NoMemory = 6
+status_of ending.NotLegal = 7
+status_of ending.HostFailed = 8
+status_of ending.TooLong = 9
+
+abbrev pub err_text : Ending → List ℕ
+err_text ending.Usage = ended (codes "usage: remswap script|check|drill|play|lend")
+err_text ending.ReadFailed = ended (codes "read failed")
+err_text ending.WriteFailed = ended (codes "write failed")
+err_text (ending.Refused refused) = refusal refused
+err_text ending.NoMemory = ended (codes "no memory")
+err_text ending.HostFailed = ended (codes "host failed")
+err_text ending.TooLong = ended (codes "input too long")
+err_text _ = []
+
+-- a sink took these bytes, or a front of them where it failed
+abbrev pub Told : Stream → List ℕ → Type 0
+Told s bytes = Appends s.before s.now bytes ⊎ (Failed s × AppendsFront s.before s.now bytes)
+
+pub record EndsWith (command : Option Command) (source out err : Stream) (status : ℕ) : Type 0 where
+  pub end : Ending
+  pub holds : Ends command source out end
+  pub code : status ≡ status_of end
+  pub told : Told err (err_text end)
+
+-- Where a script is told and keeps the limit, and nothing fails, the call ends with what a script gives, or for want of memory.
+abbrev pub Completes : Type 0
+Completes =
+    (source out : Stream) (end : Ending) (text : List ℕ) (s : reading.Script) → Ends (Some Script) source out end → source.before ≡ Some text → length text ≤ TEXT_LIMIT → reading.script text ≡ Ok s → ¬ Failed source → ¬ Failed out
+    → (end ≡ ending.Done) ⊎ ((end ≡ ending.Faulted) ⊎ (end ≡ ending.NoMemory))

@@ -1,0 +1,4 @@
+pub mod Run
+pub mod Clause
+pub mod Rows
+pub mod Printing

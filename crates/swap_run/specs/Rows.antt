@@ -1,0 +1,107 @@
+-- Rows by hand: a script's text and its transcript, and texts that are no scripts.
+use Rattle.std.specs.Prelude.{◌≡◌, ℕ, List, [], ◌∷◌, flat_map, codes, Ok, Err}
+use Rattle.swap_base.specs.declared.Field.TheVariants.{PageBytes}
+use Rattle.swap_script.specs.declared.Why.{Why}
+use Rattle.swap_script.specs.declared.Why.TheVariants as why
+use Rattle.swap_script.specs.Lines.{ended}
+use Rattle.swap_run.specs.Run.{output_of}
+
+abbrev text : List (List ℕ) → List ℕ
+text lines = flat_map ended lines
+
+-- the script's lines give the transcript's lines
+abbrev Gives : List (List ℕ) → List (List ℕ) → Type 0
+Gives lines printed = output_of (text lines) ≡ Ok (text printed)
+
+abbrev Refuses : List ℕ → ℕ → Why → Type 0
+Refuses bytes n w = output_of bytes ≡ Err (record { line = n; why = w })
+
+abbrev pub HeaderAlone : Type 0
+HeaderAlone =
+    Gives
+    (codes "geometry 8 4 2 4 2 4 20" ∷ [])
+    (codes "geometry 8 4 2 4 2 4 20" ∷ codes "end 0" ∷ [])
+
+abbrev pub ZerosBeforeAnyPageOut : Type 0
+ZerosBeforeAnyPageOut =
+    Gives
+    (codes "geometry 8 4 2 4 2 4 20" ∷ codes "in 0 5" ∷ [])
+    (codes "geometry 8 4 2 4 2 4 20" ∷ codes "in 0 5 = entry 0 in 5 of none zero 00" ∷ codes "end 1" ∷ [])
+
+abbrev pub PageInFromTheQueue : Type 0
+PageInFromTheQueue =
+    Gives
+    (codes "geometry 8 4 2 4 2 4 20" ∷ codes "out 0 3 aa" ∷ codes "in 0 3" ∷ [])
+    (codes "geometry 8 4 2 4 2 4 20" ∷ codes "out 0 3 = entry 0 out 3 aa" ∷ codes "in 0 3 = entry 1 in 3 of 0 queue aa" ∷ codes "end 2" ∷ [])
+
+abbrev pub PageInFromTheDisk : Type 0
+PageInFromTheDisk =
+    Gives
+    (codes "geometry 8 4 2 4 2 4 20" ∷ codes "out 0 3 aa" ∷ codes "start" ∷ codes "disk write 3 ok" ∷ codes "in 0 3" ∷ codes "disk read 0 ok" ∷ codes "finish 0" ∷ [])
+    (codes "geometry 8 4 2 4 2 4 20" ∷ codes "out 0 3 = entry 0 out 3 aa" ∷ codes "start = write 3 0" ∷ codes "disk write 3 ok = written 0" ∷ codes "in 0 3 = wait disk" ∷ codes "disk read 0 ok = came 3" ∷ codes "finish 0 = entry 1 in 3 of 0 disk aa" ∷ codes "end 2" ∷ [])
+
+abbrev pub SecondPageOutReplacesTheCopyInAQueueOfOne : Type 0
+SecondPageOutReplacesTheCopyInAQueueOfOne =
+    Gives
+    (codes "geometry 8 4 2 1 2 4 20" ∷ codes "out 0 3 aa" ∷ codes "out 0 3 bb" ∷ codes "start" ∷ codes "disk write 3 ok" ∷ codes "start" ∷ [])
+    (codes "geometry 8 4 2 1 2 4 20" ∷ codes "out 0 3 = entry 0 out 3 aa" ∷ codes "out 0 3 = entry 1 out 3 bb" ∷ codes "start = write 3 1" ∷ codes "disk write 3 ok = written 1" ∷ codes "start = -" ∷ codes "end 2" ∷ [])
+
+abbrev pub PageOutWhileTheOlderCopyIsBeingWritten : Type 0
+PageOutWhileTheOlderCopyIsBeingWritten =
+    Gives
+    (codes "geometry 8 4 2 2 2 4 20" ∷ codes "out 0 3 aa" ∷ codes "start" ∷ codes "out 0 3 bb" ∷ codes "disk write 3 ok" ∷ codes "in 1 3" ∷ codes "start" ∷ [])
+    (codes "geometry 8 4 2 2 2 4 20" ∷ codes "out 0 3 = entry 0 out 3 aa" ∷ codes "start = write 3 0" ∷ codes "out 0 3 = entry 1 out 3 bb" ∷ codes "disk write 3 ok = written 0" ∷ codes "in 1 3 = entry 2 in 3 of 1 queue bb" ∷ codes "start = write 3 1" ∷ codes "end 3" ∷ [])
+
+abbrev pub PageOutWithoutRoomFailsWhereAWriteFailed : Type 0
+PageOutWithoutRoomFailsWhereAWriteFailed =
+    Gives
+    (codes "geometry 8 4 2 1 2 4 20" ∷ codes "out 0 1 aa" ∷ codes "start" ∷ codes "out 1 2 bb" ∷ codes "disk write 1 bad" ∷ codes "finish 1" ∷ codes "in 0 1" ∷ [])
+    (codes "geometry 8 4 2 1 2 4 20" ∷ codes "out 0 1 = entry 0 out 1 aa" ∷ codes "start = write 1 0" ∷ codes "out 1 2 = room" ∷ codes "disk write 1 bad = kept 0" ∷ codes "finish 1 = entry 1 fault out 2 0 1 bb" ∷ codes "in 0 1 = entry 2 in 1 of 0 queue aa" ∷ codes "end 3" ∷ [])
+
+abbrev pub CallerWaitsForRoom : Type 0
+CallerWaitsForRoom =
+    Gives
+    (codes "geometry 8 4 2 1 2 4 20" ∷ codes "out 0 1 aa" ∷ codes "start" ∷ codes "out 1 2 bb" ∷ codes "in 1 3" ∷ codes "finish 0" ∷ codes "finish 1" ∷ codes "disk write 1 ok" ∷ codes "finish 1" ∷ [])
+    (codes "geometry 8 4 2 1 2 4 20" ∷ codes "out 0 1 = entry 0 out 1 aa" ∷ codes "start = write 1 0" ∷ codes "out 1 2 = room" ∷ codes "in 1 3 = busy" ∷ codes "finish 0 = idle" ∷ codes "finish 1 = room" ∷ codes "disk write 1 ok = written 0" ∷ codes "finish 1 = entry 1 out 2 bb" ∷ codes "end 2" ∷ [])
+
+abbrev pub FailedDiskReadFailsThePageIn : Type 0
+FailedDiskReadFailsThePageIn =
+    Gives
+    (codes "geometry 8 4 2 4 2 4 20" ∷ codes "out 0 3 aa" ∷ codes "start" ∷ codes "disk write 3 ok" ∷ codes "in 0 3" ∷ codes "disk read 0 bad" ∷ codes "finish 0" ∷ [])
+    (codes "geometry 8 4 2 4 2 4 20" ∷ codes "out 0 3 = entry 0 out 3 aa" ∷ codes "start = write 3 0" ∷ codes "disk write 3 ok = written 0" ∷ codes "in 0 3 = wait disk" ∷ codes "disk read 0 bad = failed 3" ∷ codes "finish 0 = entry 1 fault in 3 0 1" ∷ codes "end 2" ∷ [])
+
+abbrev pub FailedDiskReadWithANewerPageOut : Type 0
+FailedDiskReadWithANewerPageOut =
+    Gives
+    (codes "geometry 8 4 2 4 2 4 20" ∷ codes "out 0 3 aa" ∷ codes "start" ∷ codes "disk write 3 ok" ∷ codes "in 0 3" ∷ codes "disk read 0 bad" ∷ codes "out 1 3 bb" ∷ codes "finish 0" ∷ [])
+    (codes "geometry 8 4 2 4 2 4 20" ∷ codes "out 0 3 = entry 0 out 3 aa" ∷ codes "start = write 3 0" ∷ codes "disk write 3 ok = written 0" ∷ codes "in 0 3 = wait disk" ∷ codes "disk read 0 bad = failed 3" ∷ codes "out 1 3 = entry 1 out 3 bb" ∷ codes "finish 0 = entry 2 in 3 of 1 queue bb" ∷ codes "end 3" ∷ [])
+
+abbrev pub ReadOvertakenByAPageOutAlreadyOnTheDisk : Type 0
+ReadOvertakenByAPageOutAlreadyOnTheDisk =
+    Gives
+    (codes "geometry 8 4 2 4 2 4 20" ∷ codes "out 0 3 aa" ∷ codes "start" ∷ codes "disk write 3 ok" ∷ codes "in 0 3" ∷ codes "out 1 3 bb" ∷ codes "start" ∷ codes "disk read 0 ok" ∷ codes "disk write 3 ok" ∷ codes "finish 0" ∷ codes "disk read 0 ok" ∷ codes "finish 0" ∷ [])
+    (codes "geometry 8 4 2 4 2 4 20" ∷ codes "out 0 3 = entry 0 out 3 aa" ∷ codes "start = write 3 0" ∷ codes "disk write 3 ok = written 0" ∷ codes "in 0 3 = wait disk" ∷ codes "out 1 3 = entry 1 out 3 bb" ∷ codes "start = write 3 1" ∷ codes "disk read 0 ok = came 3" ∷ codes "disk write 3 ok = written 1" ∷ codes "finish 0 = again disk" ∷ codes "disk read 0 ok = came 3" ∷ codes "finish 0 = entry 2 in 3 of 1 disk bb" ∷ codes "end 3" ∷ [])
+
+abbrev pub PatternIsPrintedShortest : Type 0
+PatternIsPrintedShortest =
+    Gives
+    (codes "geometry 8 4 2 4 2 4 20" ∷ codes "out 0 0 0101" ∷ [])
+    (codes "geometry 8 4 2 4 2 4 20" ∷ codes "out 0 0 = entry 0 out 0 01" ∷ codes "end 1" ∷ [])
+
+abbrev pub EmptyText : Type 0
+EmptyText = Refuses [] 1 why.Geometry
+
+abbrev pub PageOutOfRange : Type 0
+PageOutOfRange = Refuses (text (codes "geometry 8 4 2 4 2 4 20" ∷ codes "in 0 7" ∷ codes "in 0 8" ∷ [])) 3 why.Page
+
+abbrev pub PageBytesNotAPowerOfTwo : Type 0
+PageBytesNotAPowerOfTwo = Refuses (text (codes "geometry 12 4 2 4 2 4 20" ∷ [])) 1 (why.Field PageBytes)
+
+abbrev pub PatternOfThreeBytes : Type 0
+PatternOfThreeBytes = Refuses (text (codes "geometry 8 4 2 4 2 4 20" ∷ codes "out 0 0 aabbcc" ∷ [])) 2 why.Pattern
+
+abbrev pub SpaceTooMany : Type 0
+SpaceTooMany = Refuses (text (codes "# a comment" ∷ codes "" ∷ codes "geometry 8 4 2 4 2 4 20" ∷ codes "in  0 1" ∷ [])) 4 why.Form
+
+abbrev pub CallerBeforePage : Type 0
+CallerBeforePage = Refuses (text (codes "geometry 8 4 2 4 2 4 20" ∷ codes "in 2 9" ∷ [])) 2 why.Caller

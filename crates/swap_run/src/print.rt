@@ -1,0 +1,56 @@
+ghost use Rattle.std.specs.Prelude.{◌≡◌, ◌+◌, ◌≤◌, length, OnOk, OnErr, ◌++◌};
+ghost use Rattle.std.specs.Io.KnownBytes.{Appends};
+ghost use Rattle.swap_io.specs.Causes.{HasCause, AppendsFront};
+ghost use Rattle.swap_world.specs.World.{reach, history};
+ghost use Rattle.swap_script.specs.Transcript.{header, end_line};
+ghost use Rattle.swap_run.specs.Printing.{world_in, lines_from, HasRoomFor};
+
+use swap_disk::MemDisk;
+use swap_io::{LineBuf, Sink, WriteFailed, write_line};
+use swap_script::{Walk, end_line, event_line, header_line};
+use swap_world::World;
+
+// Makes the events that are left, and writes a line of each.
+fn print_events<K: Sink>(
+    world: &mut World<MemDisk>,
+    walk: &mut Walk<'_>,
+    page: &mut [u8],
+    line: &mut LineBuf,
+    out: &mut K,
+) -> Result<(), WriteFailed>
+    requires room { HasRoomFor world.old walk.old }
+    requires page { length page.old ≡ walk.old.sizes.page_bytes }
+    ensures world { OnOk result (world_in world.new ≡ reach (world_in world.old) walk.old.inputs) }
+    ensures ok { OnOk result (Appends (K.taken out.old) (K.taken out.new) (lines_from (world_in world.old) walk.old.inputs)) }
+    ensures err { OnErr result (AppendsFront (K.taken out.old) (K.taken out.new) (lines_from (world_in world.old) walk.old.inputs)) }
+    ensures cause { HasCause (K.faults out.old) (K.faults out.new) result }
+{
+    'events: while let Some(event) = walk.next(page) {
+        let seen = world.step(&event, page);
+        event_line(&event, &seen, world.device().history(), line);
+        write_line(out, line.bytes())?;
+    }
+    Ok(())
+}
+
+/// Runs the events of a walk from a world that nothing happened in, and writes their transcript.
+pub(crate) fn print_run<K: Sink>(
+    world: &mut World<MemDisk>,
+    walk: &mut Walk<'_>,
+    page: &mut [u8],
+    line: &mut LineBuf,
+    out: &mut K,
+) -> Result<(), WriteFailed>
+    requires room { HasRoomFor world.old walk.old }
+    requires page { length page.old ≡ walk.old.sizes.page_bytes }
+    ensures world { OnOk result (world_in world.new ≡ reach (world_in world.old) walk.old.inputs) }
+    ensures ok { OnOk result (Appends (K.taken out.old) (K.taken out.new) (header walk.old.sizes ++ lines_from (world_in world.old) walk.old.inputs ++ end_line (length (history (reach (world_in world.old) walk.old.inputs))))) }
+    ensures err { OnErr result (AppendsFront (K.taken out.old) (K.taken out.new) (header walk.old.sizes ++ lines_from (world_in world.old) walk.old.inputs ++ end_line (length (history (reach (world_in world.old) walk.old.inputs))))) }
+    ensures cause { HasCause (K.faults out.old) (K.faults out.new) result }
+{
+    header_line(&world.device().geometry(), line);
+    write_line(out, line.bytes())?;
+    print_events(world, walk, page, line, out)?;
+    end_line(world.device().history().len(), line);
+    write_line(out, line.bytes())
+}
