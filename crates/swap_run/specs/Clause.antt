@@ -1,5 +1,5 @@
 -- What a call of the program promises: how it ends, and what it then read and wrote.
-use Rattle.std.specs.Prelude.{◌≡◌, ℕ, ◌<◌, ◌≤◌, ◌⊎◌, Bool, true, false, if◌then◌else◌, List, [], ◌∷◌, ◌++◌, length, Option, None, Some, Ok, Err, codes}
+use Rattle.std.specs.Prelude.{◌≡◌, ℕ, ◌<◌, ◌≤◌, ◌⊎◌, Bool, true, false, if◌then◌else◌, List, [], ◌∷◌, length, Option, None, Some, Result, Ok, Err, codes}
 use Rattle.std.specs.Io.KnownBytes.{Appends, Keeps}
 use Rattle.swap_io.specs.Causes.{Rose, WasRead, WasReadWhole, AppendsFront}
 use Rattle.swap_script.specs.declared.ScriptRefused.{ScriptRefused}
@@ -12,10 +12,10 @@ use Rattle.swap_run.specs.declared.Ending.TheVariants as ending
 use Rattle.swap_run.specs.Run.{history_of, transcript_of, has_failed, IsHeadline}
 
 pub data Command : Type 0 where
-  Script : Command
+  RunScript : Command
 
 abbrev pub command_of : List (List ℕ) → Option Command
-command_of (word ∷ []) = if is_word (codes "script") word then Some Script else None
+command_of (word ∷ []) = if is_word (codes "script") word then Some RunScript else None
 command_of _ = None
 
 -- a source, or a sink, over a call: the bytes left or taken, where they are told, and its count of faults
@@ -68,6 +68,24 @@ pub record ReadTooMuch (source : Stream) : Type 0 where
   pub was_read : WasRead source.before source.now bytes
   pub too_long : TEXT_LIMIT < length bytes
 
+-- what a script's run leaves, by how it ends
+pub record RanIn (s : reading.Script) (out : Stream) (with_fault : Bool) : Type 0 where
+  pub wrote : Appends out.before out.now (transcript_of s)
+  pub fault : has_failed (history_of s) ≡ with_fault
+
+abbrev pub LabEnds : reading.Script → Stream → Ending → Type 0
+LabEnds s out ending.Done = RanIn s out false
+LabEnds s out ending.Faulted = RanIn s out true
+LabEnds s out ending.WriteFailed = AppendsFront out.before out.now (transcript_of s) × Failed out
+LabEnds s out ending.NoMemory = TookNothing out
+LabEnds s out _ = ⊥
+
+-- what the run of a text leaves, by how it ends
+abbrev pub TextEnds : Result reading.Script ScriptRefused → Stream → Ending → Type 0
+TextEnds (Ok s) out end = LabEnds s out end
+TextEnds (Err refused) out (ending.Refused r) = (r ≡ refused) × TookNothing out
+TextEnds (Err refused) out _ = ⊥
+
 -- what holds where a call ends so
 abbrev pub ScriptEnds : Stream → Stream → Ending → Type 0
 ScriptEnds source out ending.Done = RanScript source out false
@@ -85,7 +103,7 @@ ScriptEnds source out ending.TooLong = ReadTooMuch source × TookNothing out
 abbrev pub Ends : Option Command → Stream → Stream → Ending → Type 0
 Ends None source out ending.Usage = TookNothing source × TookNothing out
 Ends None source out _ = ⊥
-Ends (Some Script) source out end = ScriptEnds source out end
+Ends (Some RunScript) source out end = ScriptEnds source out end
 
 -- the status and the words on err
 abbrev pub status_of : Ending → ℕ
@@ -110,6 +128,10 @@ err_text ending.HostFailed = ended (codes "host failed")
 err_text ending.TooLong = ended (codes "input too long")
 err_text _ = []
 
+abbrev pub IsNoRefusal : Ending → Type 0
+IsNoRefusal (ending.Refused refused) = ⊥
+IsNoRefusal _ = Unit {0}
+
 -- a sink took these bytes, or a front of them where it failed
 abbrev pub Told : Stream → List ℕ → Type 0
 Told s bytes = Appends s.before s.now bytes ⊎ (Failed s × AppendsFront s.before s.now bytes)
@@ -123,5 +145,5 @@ pub record EndsWith (command : Option Command) (source out err : Stream) (status
 -- Where a script is told and keeps the limit, and nothing fails, the call ends with what a script gives, or for want of memory.
 abbrev pub Completes : Type 0
 Completes =
-    (source out : Stream) (end : Ending) (text : List ℕ) (s : reading.Script) → Ends (Some Script) source out end → source.before ≡ Some text → length text ≤ TEXT_LIMIT → reading.script text ≡ Ok s → ¬ Failed source → ¬ Failed out
+    (source out : Stream) (end : Ending) (text : List ℕ) (s : reading.Script) → Ends (Some RunScript) source out end → source.before ≡ Some text → length text ≤ TEXT_LIMIT → reading.script text ≡ Ok s → ¬ Failed source → ¬ Failed out
     → (end ≡ ending.Done) ⊎ ((end ≡ ending.Faulted) ⊎ (end ≡ ending.NoMemory))

@@ -1,5 +1,5 @@
 -- What a script's text gives.
-use Rattle.std.specs.Prelude.{◌≡◌, ◌<◌, ℕ, Bool, true, false, List, [], ◌∷◌, Result, Ok, flat_map}
+use Rattle.std.specs.Prelude.{◌≡◌, ◌<◌, ℕ, Bool, true, false, List, [], Result, Ok, flat_map}
 use Rattle.std.specs.List.{list_any}
 use Rattle.swap_base.specs.declared.Caller.{Caller}
 use Rattle.swap_base.specs.Sizes.{zeros}

@@ -2,7 +2,9 @@
 #![tactic(auto)]
 
 mod print;
+mod run;
 
+pub use run::run_lab;
 use swap_script::ScriptRefused;
 
 /// How a call of the program ends.

@@ -7,8 +7,8 @@ ghost use Rattle.swap_run.specs.Printing.{world_in, lines_from, HasRoomFor};
 
 use swap_disk::MemDisk;
 use swap_io::{LineBuf, Sink, WriteFailed, write_line};
-use swap_script::{Walk, end_line, event_line, header_line};
-use swap_world::World;
+use swap_script::{Walk, end_line, event_line, header_line, lines_stay};
+use swap_world::{World, histories_go_on, steps_are_next};
 
 // Makes the events that are left, and writes a line of each.
 fn print_events<K: Sink>(
@@ -25,6 +25,9 @@ fn print_events<K: Sink>(
     ensures err { OnErr result (AppendsFront (K.taken out.old) (K.taken out.new) (lines_from (world_in world.old) walk.old.inputs)) }
     ensures cause { HasCause (K.faults out.old) (K.faults out.new) result }
 {
+    steps_are_next();
+    lines_stay();
+    histories_go_on();
     'events: while let Some(event) = walk.next(page) {
         let seen = world.step(&event, page);
         event_line(&event, &seen, world.device().history(), line);

@@ -1,0 +1,200 @@
+ghost use Rattle.std.specs.Prelude.{◌≡◌, ◌≤◌, length, map, true, false, Some, None, IfOk, OnErr, Err};
+ghost use Rattle.swap_record.specs.History.{History};
+ghost use Rattle.swap_script.specs.Reading.{script as script_of};
+ghost use Rattle.swap_world.specs.World.{start};
+ghost use Rattle.swap_run.specs.Clause.{EndsWith, RunScript, stream, command_of, TextEnds, LabEnds, ScriptEnds, IsNoRefusal, status_of, err_text};
+ghost use Rattle.swap_run.specs.Run.{has_failed, is_failed};
+ghost use Rattle.swap_run.specs.Printing.{world_in, HasRoomFor};
+
+use crate::Ending;
+use crate::print::print_run;
+use std::alloc::Global;
+use swap_base::{EntryNo, NoMemory};
+use swap_disk::MemDisk;
+use swap_io::{LineBuf, Sink, Source, WholeRefused, read_whole, write_line};
+use swap_record::{Op, Record};
+use swap_script::{Script, TEXT_LIMIT, events_in_range, read_script, refusal_line};
+use swap_world::{World, always_legal, each_call_once};
+
+// Whether an entry is of a call that failed.
+fn is_failed(op: Op) -> bool
+    ensures { result ≡ is_failed op }
+{
+    match op {
+        Op::PageOut | Op::PageIn { .. } => false,
+        Op::Failed { .. } => true,
+    }
+}
+
+/// Whether some call of a history failed.
+fn has_failed(history: &Record) -> bool
+    ensures { result ≡ has_failed history.now.history }
+{
+    let len = history.len();
+    'entries: for i in 0..len {
+        if is_failed(history.entry(EntryNo(len - 1 - i)).op) {
+            return true;
+        }
+    }
+    false
+}
+
+/// A world for a script's events, with room for all that they need.
+fn world_for(alloc: Global, script: &Script<'_>) -> Result<World<MemDisk>, NoMemory>
+    ensures world { IfOk result (λ w. world_in w ≡ start script.now.sizes) }
+    ensures room { IfOk result (λ w. HasRoomFor w script.now) }
+{
+    let geometry = script.geometry();
+    let disk = MemDisk::make(alloc, &geometry)?;
+    let mut world = World::make(alloc, geometry, disk)?;
+    if world
+        .reserve(script.calls(), script.events() as usize)
+        .is_err()
+    {
+        return Err(NoMemory);
+    }
+    Ok(world)
+}
+
+/// Runs a script's events, and writes their transcript.
+fn run_events<K: Sink>(
+    alloc: Global,
+    script: &Script<'_>,
+    line: &mut LineBuf,
+    out: &mut K,
+) -> Ending
+    ensures { LabEnds script.now (stream (K.taken out.old) (K.taken out.new) (K.faults out.old) (K.faults out.new)) result }
+{
+    let page_bytes = script.geometry().page_bytes() as usize;
+    let Ok(mut page) = vec![in alloc; 0u8; page_bytes] else {
+        return Ending::NoMemory;
+    };
+    let Ok(mut world) = world_for(alloc, script) else {
+        return Ending::NoMemory;
+    };
+    let mut walk = script.walk();
+    if print_run(&mut world, &mut walk, &mut page, line, out).is_err() {
+        return Ending::WriteFailed;
+    }
+    if has_failed(world.device().history()) {
+        Ending::Faulted
+    } else {
+        Ending::Done
+    }
+}
+
+/// Runs a text as a script.
+fn run_text<K: Sink>(alloc: Global, text: &[u8], line: &mut LineBuf, out: &mut K) -> Ending
+    requires { length text.now ≤ TEXT_LIMIT }
+    ensures { TextEnds (script_of text.now) (stream (K.taken out.old) (K.taken out.new) (K.faults out.old) (K.faults out.new)) result }
+{
+    match read_script(text) {
+        Err(refused) => Ending::Refused(refused),
+        Ok(script) => run_events(alloc, &script, line, out),
+    }
+}
+
+/// Reads a script, and runs it.
+fn run_script<S: Source, K: Sink>(
+    alloc: Global,
+    source: &mut S,
+    line: &mut LineBuf,
+    out: &mut K,
+) -> Ending
+    ensures { ScriptEnds (stream (S.left source.old) (S.left source.new) (S.faults source.old) (S.faults source.new)) (stream (K.taken out.old) (K.taken out.new) (K.faults out.old) (K.faults out.new)) result }
+{
+    always_legal();
+    each_call_once();
+    events_in_range();
+    match read_whole(alloc, source, TEXT_LIMIT) {
+        Ok(text) => run_text(alloc, &text, line, out),
+        Err(WholeRefused::ReadFailed) => Ending::ReadFailed,
+        Err(WholeRefused::TooLong) => Ending::TooLong,
+        Err(WholeRefused::NoMemory) => Ending::NoMemory,
+    }
+}
+
+// The words of the program for a script.
+fn is_script(words: &[&str]) -> bool
+    ensures yes { result ≡ true → command_of (map (λ word. word.now) words.now) ≡ Some RunScript }
+    ensures no { result ≡ false → command_of (map (λ word. word.now) words.now) ≡ None }
+{
+    match words {
+        [word] => *word == "script",
+        _ => false,
+    }
+}
+
+// What err is told, but of a refused line.
+fn text_of(ending: Ending) -> &'static [u8]
+    requires { IsNoRefusal ending }
+    ensures text { result.now ≡ err_text ending }
+    ensures len { length result.now ≤ 100 }
+{
+    match ending {
+        Ending::Usage => b"usage: remswap script|check|drill|play|lend\n",
+        Ending::ReadFailed => b"read failed\n",
+        Ending::WriteFailed => b"write failed\n",
+        Ending::NoMemory => b"no memory\n",
+        Ending::HostFailed => b"host failed\n",
+        Ending::TooLong => b"input too long\n",
+        Ending::Done | Ending::Faulted | Ending::NotLegal | Ending::Refused(_) => b"",
+    }
+}
+
+// The status that an ending is told by.
+fn status_of(ending: Ending) -> u8
+    ensures { result ≡ status_of ending }
+{
+    match ending {
+        Ending::Done => 0,
+        Ending::Faulted => 1,
+        Ending::Usage => 2,
+        Ending::ReadFailed => 3,
+        Ending::WriteFailed => 4,
+        Ending::Refused(_) => 5,
+        Ending::NoMemory => 6,
+        Ending::NotLegal => 7,
+        Ending::HostFailed => 8,
+        Ending::TooLong => 9,
+    }
+}
+
+// Spells what err is told.
+fn spell(ending: Ending, line: &mut LineBuf)
+    ensures { line.new ≡ err_text ending }
+{
+    match ending {
+        Ending::Refused(refused) => refusal_line(&refused, line),
+        other => {
+            line.clear();
+            line.text(text_of(other));
+        }
+    }
+}
+
+/// The top call for the commands that work on a text: here `script`, which reads a script from `source`, runs it, and
+/// writes its transcript to `out`. The answer is the program's status; what went wrong is told to `err`, whose own
+/// failures change nothing. Each status has its cause in the clause.
+pub fn run_lab<S: Source, K: Sink, E: Sink>(
+    alloc: Global,
+    words: &[&str],
+    source: &mut S,
+    out: &mut K,
+    err: &mut E,
+) -> u8
+    ensures { EndsWith (command_of (map (λ word. word.now) words.now)) (stream (S.left source.old) (S.left source.new) (S.faults source.old) (S.faults source.new)) (stream (K.taken out.old) (K.taken out.new) (K.faults out.old) (K.faults out.new)) (stream (E.taken err.old) (E.taken err.new) (E.faults err.old) (E.faults err.new)) result }
+{
+    if !is_script(words) {
+        let _ = write_line(err, text_of(Ending::Usage));
+        return 2;
+    }
+    let Ok(mut line) = LineBuf::make(alloc) else {
+        let _ = write_line(err, text_of(Ending::NoMemory));
+        return 6;
+    };
+    let ending = run_script(alloc, source, &mut line, out);
+    spell(ending, &mut line);
+    let _ = write_line(err, line.bytes());
+    status_of(ending)
+}
