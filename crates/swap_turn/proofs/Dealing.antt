@@ -4,7 +4,7 @@ use Rattle.std.specs.Prelude.{All}
 use Rattle.std.proofs.lemmas.List.{map-append}
 use Rattle.std.proofs.lemmas.List.Elements.{All-nil, All-cons}
 use Rattle.atomic_table.specs.Seated.{TableId}
-use Rattle.swap_record.specs.History.{History, Row}
+use Rattle.swap_record.specs.History.{History}
 use Rattle.swap_turn.specs.declared.view.View.{View}
 use Rattle.swap_turn.specs.Turns.{entries_of, first_view, numbers_from, fewer_left, next_given, resting}
 use Rattle.swap_turn.specs.Standing.{LockId, Standing, newcomer, IsFreeOf, standing_of, IsSeated}

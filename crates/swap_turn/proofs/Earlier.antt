@@ -1,6 +1,6 @@
 -- What stood before, in a list whose newest part comes first.
-use Rattle.std.proofs.Common.{◌≡◌, ◌≤◌, List, [], ◌∷◌, ◌++◌, length, refl, ap, sym, ◌∙◌, arith, append_assoc, length-append}
-use Rattle.swap_record.specs.History.{History, Row}
+use Rattle.std.proofs.Common.{◌≡◌, ◌≤◌, [], ◌∷◌, ◌++◌, length, refl, ap, sym, ◌∙◌, arith, append_assoc, length-append}
+use Rattle.swap_record.specs.History.{History}
 use Rattle.swap_turn.specs.Turns.{IsEarlier}
 
 -- each history is as it was

@@ -3,7 +3,7 @@ use Rattle.std.proofs.Common.{◌≡◌, ℕ, ◌≤◌, false, List, [], ◌∷
 use Rattle.std.specs.Prelude.{All}
 use Rattle.std.proofs.lemmas.List.{map-append, length-map}
 use Rattle.std.proofs.lemmas.List.Elements.{All-nil, All-cons, All-head, All-tail}
-use Rattle.swap_record.specs.History.{History, Row}
+use Rattle.swap_record.specs.History.{History}
 use Rattle.swap_turn.specs.declared.view.Stage.TheVariants.{Idle}
 use Rattle.swap_turn.specs.declared.view.View.{View}
 use Rattle.swap_turn.specs.Turns.{entries_of, taken_in, pairs_of, resting}

@@ -1,5 +1,5 @@
 -- What may be added in a turn.
-use Rattle.std.proofs.Common.{◌≡◌, ℕ, [], ◌∷◌, ◌++◌, refl, ap, sym, ◌∙◌, append_assoc}
+use Rattle.std.proofs.Common.{◌≡◌, ℕ, [], ◌∷◌, ◌++◌, refl, ap, ◌∙◌, append_assoc}
 use Rattle.std.proofs.lemmas.List.Elements.{All-nil, All-cons, All-append}
 use Rattle.swap_record.specs.History.{History, Row}
 use Rattle.swap_turn.specs.Turns.{Extends}
@@ -14,5 +14,5 @@ pub extends_more : (number : ℕ) (H now later : History) → Extends number H n
 extends_more number H now later p q = record {
   added = q.added ++ p.added;
   whole = append_assoc q.added p.added H ∙ (ap (λ (l : History). q.added ++ l) p.whole ∙ q.whole);
-  own = All-append (λ (row : Row). row.entry.caller.0 ≡ number) q.added p.added q.own p.own
+  own = All-append (λ (row : Row). row.entry.caller.0 ≡ number) q.added p.added q.own p.own;
 }

@@ -1,5 +1,5 @@
 -- What a contract sees of a pass.
-use Rattle.std.specs.Prelude.{◌≡◌, ℕ, Bool, true, false, List, [], ◌∷◌, ◌++◌, length}
+use Rattle.std.specs.Prelude.{◌≡◌, ℕ, Bool, true, false, List, [], ◌∷◌, ◌++◌}
 use Rattle.atomic_table.specs.Seated.{TableId}
 use Rattle.swap_record.specs.History.{History}
 use Rattle.swap_turn.specs.declared.view.View.{View}

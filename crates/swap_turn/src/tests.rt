@@ -94,6 +94,85 @@ fn two_passes_take_and_give(rt: HostRuntime) -> Result<(), Fail> {
     let Ok(log) = lock.close(passes) else {
         panic!(rt; "both passes left it open")
     };
-    assert_eq!(rt; log.told_apart(alloc)?.as_slice(), [(0, 7), (1, 8)].as_slice());
+    assert_eq!(rt;
+        log.told_apart(alloc)?.as_slice(),
+        [(0, 7), (1, 8)].as_slice()
+    );
     Ok(())
+}
+
+/// Turns one after another, of which each adds a page-out.
+fn page_outs<R: Wait>(rt: &R, lock: &TurnLock<Log>, pass: &mut Pass, count: u32) -> bool
+    requires free { IsFreeOf lock.now pass.old }
+    requires number { pass.old.number < 64 }
+    ensures { IsFreeOf lock.now pass.new }
+{
+    let mut done = true;
+    'pages: for page in 0..count {
+        done = page_out(rt, lock, pass, page).is_ok() && done;
+    }
+    done
+}
+
+const TURNS: u32 = 50;
+
+/// Two threads take turns, each with its own pass.
+fn by_two_threads<R: Threads + Wait + Sync>(
+    rt: &R,
+    lock: &TurnLock<Log>,
+    mut one: Pass,
+    mut two: Pass,
+) -> ((bool, Pass), (bool, Pass))
+    requires free { IsFreeOf lock.now one × IsFreeOf lock.now two }
+    requires numbers { (one.number < 64) × (two.number < 64) }
+    ensures { IsFreeOf lock.now result.0.1 × IsFreeOf lock.now result.1.1 }
+{
+    thread::join(
+        rt,
+        || -> (bool, Pass)
+            requires { IsFreeOf lock.now one × (one.number < 64) }
+            ensures { IsFreeOf lock.entry.now result.1 }
+        {
+            let done = page_outs(rt, lock, &mut one, TURNS);
+            (done, one)
+        },
+        || -> (bool, Pass)
+            requires { IsFreeOf lock.now two × (two.number < 64) }
+            ensures { IsFreeOf lock.entry.now result.1 }
+        {
+            let done = page_outs(rt, lock, &mut two, TURNS);
+            (done, two)
+        },
+    )
+}
+
+fn leave_one_history<R: Threads + Wait + Abort + Sync>(rt: &R, alloc: Global) -> Result<(), Fail> {
+    let (lock, mut passes) = TurnLock::make(alloc, Log::new(alloc), 2)?;
+    let two = passes.pop().ok_or("the second pass")?;
+    let one = passes.pop().ok_or("the first pass")?;
+    let ((first, one), (second, two)) = by_two_threads(rt, &lock, one, two);
+    assert!(rt; first && second);
+    passes.push(one)?;
+    passes.push(two)?;
+    let Ok(log) = lock.close(passes) else {
+        panic!(rt; "both passes left it open")
+    };
+    let told = log.told_apart(alloc)?;
+    assert_eq!(rt; told.len(), 2 * TURNS as usize);
+    for caller in 0..2u32 {
+        let mut next = 0u32;
+        for (by, page) in &told {
+            if *by == caller {
+                assert_eq!(rt; *page, next);
+                next = next.wrapping_add(1);
+            }
+        }
+        assert_eq!(rt; next, TURNS);
+    }
+    Ok(())
+}
+
+#[test]
+fn two_threads_leave_one_history(rt: HostRuntime) -> Result<(), Fail> {
+    leave_one_history(&rt, rt.alloc())
 }

@@ -1,13 +1,10 @@
-use Rattle.std.proofs.Common.{ap, ◌∙◌, ◌≡◌, ◌∷◌, sym, subst, refl, replicate}
-use Rattle.swap_record.specs.declared.Op.TheVariants.{PageOut}
-use Rattle.swap_record.specs.History.{History, Row, row_of, pushed}
+use Rattle.std.proofs.Common.{ap, refl}
 use Rattle.swap_record.specs.Book.{Book}
-use Rattle.swap_turn.specs.Turns.{Extends}
 use Rattle.swap_turn.proofs.Growing.{extends_none, extends_one}
 use Rattle.swap_turn.proofs.tests.Log.page_out.Goals as goal
 
 pub returns : goal.returns
-returns c = ?
+returns c = rw (ap (λ (b : Book). b.history) c.push_out.ensures.after, ap (λ (b : Book). b.history) c.in_ok-reserve.ensures.ok) (extends_one c.args.caller c.args.self.now.record.history _ refl)
 
 pub returns-in_err-reserve : goal.returns-in_err-reserve
-returns-in_err-reserve c = ?
+returns-in_err-reserve c = rw (ap (λ (b : Book). b.history) c.in_err-reserve.ensures.err) (extends_none c.args.caller c.args.self.now.record.history)
