@@ -199,6 +199,13 @@ front_place s cells line rest h page first =
     let lt : page.0 < pages_of s = (start_sets s (queue_in s cells line) page rest h.queue first).within in
     next_found s cells line h page lt ∙ (and_parts (is_some (next (queue_in s cells line) page)) (is_none (flying (queue_in s cells line) page)) (front_waits s (queue_in s cells line) page rest h.queue first)).0
 
+-- the page that was started has a flying copy
+pub front_flies : (s : Sizes) (cells : List Kept) (line rest : List Page) (h : Fits s cells line) (page : Page) → line ≡ page ∷ rest → IsSome (flying (start (queue_in s cells line)) page)
+front_flies s cells line rest h page first =
+    let q : Queue = queue_in s cells line in
+    let sets = start_sets s (queue_in s cells line) page rest h.queue first in
+    ap (λ (x : Places). is_some x.flying) sets.sets.here ∙ (and_parts (is_some (next (queue_in s cells line) page)) (is_none (flying (queue_in s cells line) page)) sets.waited).0
+
 pub started_entry : (page : Page) (bytes : List ℕ) (held : Option Held) (entry : EntryNo) → Some entry ≡ entry_of held → started_answer (option_map (λ (copy : Copy). (page, copy)) (copy_with bytes held)) ≡ Some (page, entry)
 started_entry page bytes None entry e = cc
 started_entry page bytes (Some h) entry e = let same : h.entry ≡ entry = cc in ap (λ n. Some (page, n)) same

@@ -1,6 +1,8 @@
 ghost use Rattle.std.specs.Prelude.{◌≡◌, ℕ, ◌<◌, length, IfOk, IfSome, IsSome, IsNone, IsTrue, ◌↔◌, [], Some, option_map};
 ghost use Rattle.std.specs.VecDeque.{deque_len, deque_capacity};
-ghost use Rattle.swap_base.specs.Sizes.{pages_of};
+ghost use Rattle.swap_base.specs.declared.Page.{Page};
+ghost use Rattle.swap_base.specs.declared.EntryNo.{EntryNo};
+ghost use Rattle.swap_base.specs.Sizes.{Sizes, pages_of};
 ghost use Rattle.swap_queue.specs.Kept.{IsQueue};
 ghost use Rattle.swap_queue.specs.Queue.{Copy, copies, holds, has_room, put, next, newest, flying, front, start, done, failed};
 ghost use Rattle.swap_queue.specs.Backlog.{new_backlog, bytes_or, started_answer, started_bytes, failed_answer};
@@ -152,6 +154,7 @@ impl Behind {
         ensures front { result ≡ started_answer (front self.old.queue) }
         ensures bytes { buf.new ≡ started_bytes (front self.old.queue) buf.old }
         ensures queue { self.new.queue ≡ start self.old.queue }
+        ensures flies { IfSome result (λ (started : Page × EntryNo). IsSome (flying self.new.queue started.0)) }
         ensures sizes { self.new.sizes ≡ self.old.sizes }
     {
         let page = self.line.pop_front()?;
@@ -194,5 +197,83 @@ impl Behind {
         } else {
             Failed::Kept(entry)
         }
+    }
+}
+
+#[cfg(test)]
+mod tests {
+    use super::*;
+    use std::process::Abort;
+    use std::test::Fail;
+
+    fn put(rt: &impl Abort, queue: &mut Behind, sizes: &Geometry, page: Page, entry: u32, byte: u8)
+        requires { queue.old.sizes ≡ sizes.now }
+        ensures { queue.new.sizes ≡ sizes.now }
+    {
+        assert!(rt; page.0 < sizes.pages());
+        assert!(rt; sizes.page_bytes() == 8);
+        assert!(rt; queue.has_room(page), "room for entry {entry}");
+        queue.put(page, EntryNo(entry), &[byte; 8]);
+    }
+
+    fn newest(
+        rt: &impl Abort,
+        queue: &Behind,
+        sizes: &Geometry,
+        page: Page,
+    ) -> Option<(EntryNo, u8)>
+        requires { queue.now.sizes ≡ sizes.now }
+    {
+        assert!(rt; page.0 < sizes.pages());
+        assert!(rt; sizes.page_bytes() == 8);
+        let mut buf = [0; 8];
+        let entry = queue.newest(page, &mut buf)?;
+        Some((entry, buf[7]))
+    }
+
+    // Starts the front of the line, and lets its write come to its end or fail.
+    fn write(
+        rt: &impl Abort,
+        queue: &mut Behind,
+        sizes: &Geometry,
+        ok: bool,
+    ) -> Option<(Page, EntryNo, u8, Option<Failed>)>
+        requires { queue.old.sizes ≡ sizes.now }
+        ensures { queue.new.sizes ≡ sizes.now }
+    {
+        assert!(rt; sizes.page_bytes() == 8);
+        let mut buf = [0; 8];
+        let (page, entry) = queue.start(&mut buf)?;
+        if ok {
+            assert!(rt; queue.done(page) == entry);
+            Some((page, entry, buf[0], None))
+        } else {
+            Some((page, entry, buf[0], Some(queue.failed(page))))
+        }
+    }
+
+    #[test]
+    fn copies_are_written_in_turn_and_kept_where_the_write_fails(
+        rt: HostRuntime,
+    ) -> Result<(), Fail> {
+        let sizes = Geometry::checked(8, 4, 2, 2, 2, 4, 20).map_err(|_| "sizes")?;
+        let mut queue = Behind::make(rt.alloc(), &sizes).map_err(|_| "memory")?;
+        assert!(rt; newest(&rt, &queue, &sizes, Page(3)).is_none());
+        assert!(rt; write(&rt, &mut queue, &sizes, true).is_none());
+        put(&rt, &mut queue, &sizes, Page(3), 0, 0xaa);
+        put(&rt, &mut queue, &sizes, Page(5), 1, 0xbb);
+        put(&rt, &mut queue, &sizes, Page(3), 2, 0xcc);
+        assert_eq!(rt; queue.copies(), 2);
+        assert!(rt; newest(&rt, &queue, &sizes, Page(3)) == Some((EntryNo(2), 0xcc)));
+        let kept = write(&rt, &mut queue, &sizes, false);
+        assert!(rt; kept == Some((Page(3), EntryNo(2), 0xcc, Some(Failed::Kept(EntryNo(2))))));
+        assert!(rt;
+            write(&rt, &mut queue, &sizes, true) == Some((Page(5), EntryNo(1), 0xbb, None))
+        );
+        assert!(rt;
+            write(&rt, &mut queue, &sizes, true) == Some((Page(3), EntryNo(2), 0xcc, None))
+        );
+        assert_eq!(rt; queue.copies(), 0);
+        Ok(())
     }
 }
