@@ -105,3 +105,17 @@ SpaceTooMany = Refuses (text (codes "# a comment" ∷ codes "" ∷ codes "geomet
 
 abbrev pub CallerBeforePage : Type 0
 CallerBeforePage = Refuses (text (codes "geometry 8 4 2 4 2 4 20" ∷ codes "in 2 9" ∷ [])) 2 why.Caller
+
+-- the rows of page-outs and page-ins from zeros and the queue
+abbrev pub QueueRows : Type 0
+QueueRows =
+    HeaderAlone × ZerosBeforeAnyPageOut × PageInFromTheQueue × PatternIsPrintedShortest
+
+-- the rows of the disk
+abbrev pub DiskRows : Type 0
+DiskRows =
+    PageInFromTheDisk × SecondPageOutReplacesTheCopyInAQueueOfOne × PageOutWhileTheOlderCopyIsBeingWritten × PageOutWithoutRoomFailsWhereAWriteFailed × CallerWaitsForRoom × FailedDiskReadFailsThePageIn × FailedDiskReadWithANewerPageOut × ReadOvertakenByAPageOutAlreadyOnTheDisk
+
+-- the rows of texts that are no scripts
+abbrev pub RefusedRows : Type 0
+RefusedRows = EmptyText × PageOutOfRange × PageBytesNotAPowerOfTwo × PatternOfThreeBytes × SpaceTooMany × CallerBeforePage

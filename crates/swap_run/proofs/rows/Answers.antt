@@ -1,0 +1,16 @@
+-- By computation.
+use Rattle.std.proofs.Common.{refl}
+use Rattle.std.specs.Fmt.{digits}
+use Rattle.swap_run.proofs.rows.Goals as goal
+
+pub returns-clause-queue : goal.returns-clause-queue
+unfolding digits
+returns-clause-queue c = (refl, refl, refl, refl)
+
+pub returns-clause-disk : goal.returns-clause-disk
+unfolding digits
+returns-clause-disk c = (refl, refl, refl, refl, refl, refl, refl, refl)
+
+pub returns-clause-refused : goal.returns-clause-refused
+unfolding digits
+returns-clause-refused c = (refl, refl, refl, refl, refl, refl)
