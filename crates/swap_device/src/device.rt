@@ -50,6 +50,19 @@ impl<D: DiskPort> DeviceCore<D> {
         ensures moved { Along D.moves (out self.old.device caller page bytes.now) self.old.disk self.new.disk (self.new.device, result) }
         ensures room { KeepsRoom self.old self.new }
     {
+        self.page_out(caller, page, bytes)
+    }
+
+    // Accepts a page-out, or keeps it for its caller until there is room.
+    fn page_out(&mut self, caller: Caller, page: Page, bytes: &[u8]) -> OutStep
+        requires caller { caller.0 < self.old.device.sizes.callers }
+        requires page { page.0 < pages_of self.old.device.sizes }
+        requires bytes { length bytes.now ≡ self.old.device.sizes.page_bytes }
+        requires idle { is_idle (state_of self.old.device.calls caller) ≡ true }
+        requires spare { 0 < self.old.spare }
+        ensures moved { Along D.moves (out self.old.device caller page bytes.now) self.old.disk self.new.disk (self.new.device, result) }
+        ensures room { KeepsRoom self.old self.new }
+    {
         if self.state.has_room(page) {
             let entry = self.state.accept(caller, page, bytes);
             OutStep::Done { entry, sent: None }
