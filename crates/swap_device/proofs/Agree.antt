@@ -1,6 +1,6 @@
 -- Each move of the device and of its disk keeps queue, disk and calls in agreement with the history.
 use Rattle.std.specs.Option.{option_or}
-use Rattle.std.proofs.Common.{◌+◌, add-zero, zero-add, ◌≡◌, ℕ, ◌<◌, Bool, true, false, cond, ◌||◌, ◌==◌, nat_eq, List, [], ◌∷◌, ◌++◌, length, map, get_or, set, find, zero, suc, refl, sym, ap, ◌∙◌, subst, arith, length-set, get_or-set_same, get_or-set_other, IsSome, is_some, is_none, MatchOption, Option, None, Some}
+use Rattle.std.proofs.Common.{◌+◌, add-zero, zero-add, ◌≡◌, ℕ, ◌<◌, Bool, true, false, cond, ◌==◌, List, [], ◌∷◌, ◌++◌, length, map, get_or, set, find, zero, suc, refl, sym, ap, ◌∙◌, subst, arith, length-set, get_or-set_same, get_or-set_other, IsSome, is_some, is_none, MatchOption, Option, None, Some}
 use Rattle.std.proofs.lemmas.Bool.{eqb-true, eqb-false, eq-eqb}
 use Rattle.std.proofs.lemmas.List.{length-map}
 use Rattle.std.proofs.lemmas.List.Folds.{find-append}
@@ -24,9 +24,8 @@ use Rattle.swap_calls.specs.declared.Arrived.{Arrived}
 use Rattle.swap_calls.specs.declared.Arrived.TheVariants as arrived
 use Rattle.swap_calls.specs.declared.CallState.{CallState}
 use Rattle.swap_calls.specs.declared.CallState.TheVariants.{Idle, Room, Reading}
-use Rattle.swap_device.specs.Device.{origin_of}
-use Rattle.swap_device.specs.Fits.{GivesTrusted, trusted, HoldsPage, IsBlock, block_in, IsCopyOf, WaitsFor, IsExpected, IsOther, AreDistinct, flies, flying_count, IsSettled, IsUnderWay, IsInLine, AreApart, Brings, IsFair, Agrees}
-use Rattle.swap_device.proofs.Lists.{All-set, All-get_or, All-map, All-implies, All-append, both, or_false, by_page, by_caller, not_eqb, one_if, count_by-set_same, count_by-set_more, count_by-set_less, count_by-append_one, count_by-cons}
+use Rattle.swap_device.specs.Fits.{GivesTrusted, trusted, HoldsPage, IsBlock, block_in, IsCopyOf, WaitsFor, IsExpected, IsOther, AreDistinct, flies, IsSettled, IsUnderWay, IsInLine, AreApart, Brings, IsFair, Agrees}
+use Rattle.swap_device.proofs.Lists.{All-set, All-get_or, All-map, All-implies, All-append, both, or_false, by_page, by_caller, not_eqb, count_by-set_same, count_by-set_more, count_by-set_less, count_by-append_one, count_by-cons}
 
 -- a page-out changes the array at its page alone
 array-out_same : (zeros : List ℕ) (H : History) (c : Caller) (p : Page) (bytes : List ℕ) → array zeros (pushed H c p op.PageOut bytes) p ≡ bytes

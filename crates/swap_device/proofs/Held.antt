@@ -2,7 +2,7 @@
 use Rattle.std.proofs.lemmas.List.{length-take, length-replicate, get_or-replicate}
 use Rattle.std.proofs.Math.Seq.{take-append_seam}
 use Rattle.std.proofs.lemmas.List.Sums.{sum_by-append}
-use Rattle.std.proofs.Common.{◌≡◌, ℕ, ◌+◌, ◌-◌, ◌<◌, ◌≤◌, min, take, drop, set, get_or, zero, suc, lit≤, ◌++◌, length-append, length-drop, Bool, true, false, cond, List, [], ◌∷◌, length, find, count_by, sum_by, replicate, refl, sym, ap, ◌∙◌, subst, is_some, is_none, MatchOption, arith, option_map, Option, None, Some}
+use Rattle.std.proofs.Common.{◌≡◌, ℕ, ◌+◌, ◌<◌, ◌≤◌, take, drop, set, get_or, zero, suc, lit≤, ◌++◌, length-append, length-drop, Bool, true, false, cond, List, [], ◌∷◌, length, find, count_by, sum_by, replicate, refl, sym, ap, ◌∙◌, subst, is_some, MatchOption, arith, option_map, Option, None, Some}
 use Rattle.std.specs.List.{AllByRecursion}
 use Rattle.swap_base.specs.declared.Page.{Page}
 use Rattle.swap_base.specs.declared.Caller.{Caller}

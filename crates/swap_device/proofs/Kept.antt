@@ -1,6 +1,5 @@
 -- Each call of the device keeps what device and disk agree on, whatever the disk answers.
-use Rattle.std.proofs.Common.{◌≡◌, ℕ, ◌<◌, Bool, true, false, cond, nat_lt, List, [], ◌∷◌, ◌++◌, get_or, find, length, replicate, refl, sym, ap, ◌∙◌, subst, is_some, is_none, MatchOption, Option, None, Some}
-use Rattle.std.proofs.lemmas.List.{length-replicate, get_or-replicate}
+use Rattle.std.proofs.Common.{◌≡◌, ℕ, ◌<◌, Bool, true, false, cond, nat_lt, List, [], ◌∷◌, ◌++◌, find, refl, sym, ap, ◌∙◌, subst, is_some, is_none, MatchOption, Option, None, Some}
 use Rattle.std.proofs.lemmas.Bool.{ltb-true}
 use Rattle.swap_base.specs.declared.Page.{Page}
 use Rattle.swap_base.specs.declared.Caller.{Caller}
@@ -18,8 +17,8 @@ use Rattle.swap_record.specs.History.{History, array, last, is_out_of, is_zero, 
 use Rattle.swap_queue.specs.Queue as queue
 use Rattle.swap_queue.specs.Queue.{Queue, Places, Copy, places_of, newest, next, flying, first_of}
 use Rattle.swap_disk.specs.declared.DiskDone.{DiskDone}
-use Rattle.swap_disk.specs.Disk.{Flight, Write, Read, Finished, Taken, which_of, page_of, is_flight_of, without, bytes_given, done_of}
-use Rattle.swap_disk.specs.Port.{Port, DiskCall, DiskAnswer, StartWrite, StartRead, TakeDone, LetFinish, Follows, Takes, EndsOne, EndsNone, TakesTold, LetsFinish, Finishes, started, settled_with, kept_by}
+use Rattle.swap_disk.specs.Disk.{Flight, Write, Read, Finished, Taken, which_of, page_of, is_flight_of, without}
+use Rattle.swap_disk.specs.Port.{Port, DiskCall, DiskAnswer, StartWrite, StartRead, TakeDone, LetFinish, Follows, Takes, TakesTold, LetsFinish, started, kept_by}
 use Rattle.swap_calls.specs.Calls as calls
 use Rattle.swap_calls.specs.Calls.{Call, Calls, state_of, call_of, idle, is_idle}
 use Rattle.swap_calls.specs.declared.Arrived.{Arrived}
@@ -29,13 +28,11 @@ use Rattle.swap_calls.specs.declared.CallState.TheVariants.{Idle, Room, Reading}
 use Rattle.swap_device.specs.declared.OutStep.{OutStep}
 use Rattle.swap_device.specs.declared.InStep.{InStep}
 use Rattle.swap_device.specs.declared.Step.{Step}
-use Rattle.swap_device.specs.declared.Step.TheVariants as steps
-use Rattle.swap_device.specs.declared.DiskStep.{DiskStep}
-use Rattle.swap_device.specs.Ports.{Prog, Ret, AskDisk, answering, Leads}
-use Rattle.swap_device.specs.Device.{Device, new, accept, give, fault, wait_for_room, wait_for_disk, route_by, route, out, read, routed_again, origin_of, finish_out, finish_by, finish, start_copy, start_front, disk_start, wrote, took, took_back, disk_take, disk_finish}
-use Rattle.swap_device.specs.Fits.{trusted, KeepsNewest, IsInOrder, block_in, IsBlock, HoldsPage, IsCopyOf, WaitsFor, IsExpected, IsSettled, IsUnderWay, IsFair, Agrees, AgreesAt, Fits, flies, flying_count}
-use Rattle.swap_device.proofs.Lists.{chosen, All-get_or, All-replicate}
-use Rattle.swap_device.proofs.Order.{accept_keeps, give_keeps, fault_keeps, room_wait_keeps, disk_wait_keeps, call_keeps, took_back_keeps, from_via, new_in_order}
+use Rattle.swap_device.specs.Ports.{Prog, answering, Leads}
+use Rattle.swap_device.specs.Device.{Device, accept, give, fault, wait_for_room, wait_for_disk, route_by, route, out, routed_again, origin_of, finish_by, finish, start_copy, start_front, disk_start, wrote, took, took_back, disk_take, disk_finish}
+use Rattle.swap_device.specs.Fits.{trusted, KeepsNewest, block_in, IsBlock, HoldsPage, IsCopyOf, WaitsFor, IsExpected, IsSettled, IsUnderWay, IsFair, Agrees, AgreesAt, Fits}
+use Rattle.swap_device.proofs.Lists.{chosen, All-get_or}
+use Rattle.swap_device.proofs.Order.{accept_keeps, give_keeps, fault_keeps, room_wait_keeps, disk_wait_keeps, call_keeps, took_back_keeps, from_via}
 use Rattle.swap_device.proofs.Agree.{IdleFor, accept_agrees, call_agrees, row_agrees, read_agrees, start_agrees, wrote_agrees, read_back_agrees, finish_agrees, found, some_first, copy_flies, IsBrought}
 use Rattle.swap_device.proofs.Programs.{Leads-answering, Leads-implies}
 

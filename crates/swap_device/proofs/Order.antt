@@ -1,22 +1,17 @@
 -- Each move of the device keeps the history ordered, and each reading call the newest entry of its page.
-use Rattle.std.proofs.Common.{◌≡◌, ℕ, ◌+◌, ◌<◌, Bool, true, false, cond, ◌||◌, ◌==◌, nat_lt, List, [], ◌∷◌, map, get_or, set, replicate, zero, suc, refl, sym, ap, ◌∙◌, arith, is_none, Option, None, Some}
-use Rattle.std.proofs.lemmas.Bool.{ltb-true}
-use Rattle.std.specs.List.{AllByRecursion}
+use Rattle.std.proofs.Common.{◌≡◌, ℕ, ◌+◌, ◌<◌, Bool, true, false, cond, ◌==◌, List, [], refl, ap, ◌∙◌, arith, is_none, Option, None, Some}
 use Rattle.swap_base.specs.declared.Page.{Page}
 use Rattle.swap_base.specs.declared.Caller.{Caller}
 use Rattle.swap_base.specs.declared.EntryNo.{EntryNo}
 use Rattle.swap_base.specs.declared.Origin.{Origin}
-use Rattle.swap_base.specs.declared.Origin.TheVariants as origin
 use Rattle.swap_base.specs.declared.Via.{Via}
 use Rattle.swap_base.specs.declared.Via.TheVariants as via
 use Rattle.swap_base.specs.declared.CallKind.{CallKind}
-use Rattle.swap_base.specs.declared.CallKind.TheVariants as kind
 use Rattle.swap_base.specs.declared.DiskWhich.{DiskWhich}
 use Rattle.swap_base.specs.declared.DiskWhich.TheVariants as which
 use Rattle.swap_base.specs.Sizes.{Sizes}
 use Rattle.swap_record.specs.History.{History, last, is_zero, next_name, pushed}
 use Rattle.swap_record.specs.declared.Op.TheVariants as op
-use Rattle.swap_queue.specs.Queue as queue
 use Rattle.swap_queue.specs.Queue.{Copy}
 use Rattle.swap_disk.specs.Disk.{Taken}
 use Rattle.swap_calls.specs.Calls as calls

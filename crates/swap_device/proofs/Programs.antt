@@ -1,5 +1,5 @@
 -- Laws of programs over a disk.
-use Rattle.std.proofs.Common.{◌≡◌, refl, subst, ap}
+use Rattle.std.proofs.Common.{◌≡◌, refl, ap}
 use Rattle.swap_disk.specs.Port.{DiskCall, DiskAnswer}
 use Rattle.swap_device.specs.Ports.{Prog, Ret, AskDisk, answering, Along, Leads, run}
 

@@ -1,6 +1,5 @@
 -- Entries and calls under way grow by no more than the new calls.
-use Rattle.std.proofs.Common.{map, set, get_or, zero, suc, not, count_by, lit≤, subst, ◌≡◌, ℕ, ◌+◌, ◌≤◌, Bool, true, false, cond, nat_lt, List, [], ◌∷◌, length, refl, sym, ap, ◌∙◌, arith, add-zero, is_none, Option, None, Some}
-use Rattle.std.proofs.lemmas.List.Sums.{count_by-le-length}
+use Rattle.std.proofs.Common.{map, set, get_or, zero, suc, not, count_by, lit≤, ◌≡◌, ℕ, ◌+◌, ◌≤◌, Bool, true, false, nat_lt, List, [], ◌∷◌, length, refl, sym, ap, ◌∙◌, arith, Option, None, Some}
 use Rattle.swap_base.specs.declared.Page.{Page}
 use Rattle.swap_base.specs.declared.Caller.{Caller}
 use Rattle.swap_base.specs.declared.EntryNo.{EntryNo}
@@ -11,7 +10,6 @@ use Rattle.swap_wire.specs.Input.{Input}
 use Rattle.swap_wire.specs.declared.Event.{Event}
 use Rattle.swap_wire.specs.declared.Event.TheVariants as event
 use Rattle.swap_wire.specs.declared.Seen.{Seen}
-use Rattle.swap_wire.specs.declared.Seen.TheVariants as seen
 use Rattle.swap_record.specs.History.{last}
 use Rattle.swap_queue.specs.Queue as queue
 use Rattle.swap_queue.specs.Queue.{Copy}
@@ -28,14 +26,13 @@ use Rattle.swap_base.specs.declared.CallKind.{CallKind}
 use Rattle.swap_base.specs.declared.Origin.{Origin}
 use Rattle.swap_base.specs.declared.Origin.TheVariants as origin
 use Rattle.swap_base.specs.declared.CallKind.TheVariants as kind
-use Rattle.swap_device.specs.Device.{Device, accept, give, fault, wait_for_room, wait_for_disk, route, route_by, routed_again, out, finish, finish_by, disk_start, start_front, start_copy, disk_take, took, took_back, wrote, origin_of}
+use Rattle.swap_device.specs.Device.{Device, accept, give, fault, route, route_by, routed_again, out, finish, finish_by, disk_start, start_front, start_copy, took, took_back, wrote, origin_of}
 use Rattle.swap_device.specs.declared.OutStep.{OutStep}
 use Rattle.swap_device.specs.declared.InStep.{InStep}
 use Rattle.swap_device.specs.declared.Step.{Step}
-use Rattle.swap_device.specs.declared.DiskStep.{DiskStep}
 use Rattle.swap_device.proofs.Lists.{chosen, one_if, count_by-cons}
 use Rattle.swap_device.proofs.Programs.{Leads-answering, Leads-Along, Leads-implies}
-use Rattle.swap_world.specs.World.{happens, seen_by, taken_if, see_out, see_in, see_step, see_start, see_disk, IsStep}
+use Rattle.swap_world.specs.World.{happens, taken_if, IsStep}
 use Rattle.swap_world.specs.Runs.{GrowsByCalls, busy_callers, is_busy_call}
 
 -- one caller's call is replaced

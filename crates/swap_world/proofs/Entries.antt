@@ -1,12 +1,10 @@
 -- Each event lets the history go on, and what is seen names an entry that stands in it.
-use Rattle.std.proofs.Common.{◌<◌, MatchOption, subst, ◌++◌, ◌≡◌, ℕ, ◌+◌, ◌≤◌, Bool, true, false, cond, nat_lt, List, [], ◌∷◌, length, refl, sym, ap, ◌∙◌, arith, add-zero, is_none, Option, None, Some}
-use Rattle.std.proofs.lemmas.List.Sums.{count_by-le-length}
+use Rattle.std.proofs.Common.{◌<◌, MatchOption, subst, ◌≡◌, ℕ, ◌+◌, Bool, true, false, cond, nat_lt, List, [], ◌∷◌, length, refl, sym, arith, is_none, Option, None, Some}
 use Rattle.swap_base.specs.declared.Page.{Page}
 use Rattle.swap_base.specs.declared.Caller.{Caller}
 use Rattle.swap_base.specs.declared.EntryNo.{EntryNo}
 use Rattle.swap_base.specs.declared.DiskWhich.{DiskWhich}
 use Rattle.swap_base.specs.declared.DiskWhich.TheVariants as which
-use Rattle.swap_base.specs.Sizes.{Sizes}
 use Rattle.swap_wire.specs.Input.{Input}
 use Rattle.swap_wire.specs.declared.Event.{Event}
 use Rattle.swap_wire.specs.declared.Event.TheVariants as event
@@ -23,14 +21,13 @@ use Rattle.swap_calls.specs.declared.Arrived.TheVariants as arrived
 use Rattle.swap_calls.specs.declared.CallState.{CallState}
 use Rattle.swap_calls.specs.declared.CallState.TheVariants.{Idle, Room, Reading}
 use Rattle.swap_device.specs.Ports.{Prog, answering, Leads}
-use Rattle.swap_device.specs.Device.{Device, new, route, route_by, routed_again, out, finish, finish_by, disk_start, start_front, start_copy, disk_take, took, took_back, wrote}
+use Rattle.swap_device.specs.Device.{Device, route, route_by, routed_again, out, finish, finish_by, disk_start, start_front, start_copy, took, took_back, wrote}
 use Rattle.swap_device.specs.declared.OutStep.{OutStep}
-use Rattle.swap_device.specs.declared.InStep.{InStep}
 use Rattle.swap_device.specs.declared.Step.{Step}
 use Rattle.swap_device.specs.declared.DiskStep.{DiskStep}
 use Rattle.swap_device.proofs.Lists.{chosen}
 use Rattle.swap_device.proofs.Programs.{Leads-answering, Leads-Along}
-use Rattle.swap_world.specs.World.{happens, seen_by, taken_if, see_out, see_in, see_step, see_start, see_disk, IsStep}
+use Rattle.swap_world.specs.World.{happens, taken_if, see_out, see_in, see_step, see_start, see_disk, IsStep}
 use Rattle.swap_world.specs.Runs.{GoesOn, StandsIn, entry_seen}
 
 -- an event keeps the history, or adds the entry that is seen

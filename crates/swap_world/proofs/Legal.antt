@@ -1,29 +1,22 @@
 -- Each event keeps what device and disk agree on, whatever the disk does.
-use Rattle.std.proofs.Common.{◌≡◌, ℕ, ◌<◌, ◌≤◌, Bool, true, false, cond, List, [], ◌∷◌, length, refl, sym, ap, ◌∙◌, subst, is_some, MatchOption, Option, None, Some}
-use Rattle.std.specs.List.{AllByRecursion}
-use Rattle.swap_base.specs.declared.Page.{Page}
-use Rattle.swap_base.specs.declared.Caller.{Caller}
+use Rattle.std.proofs.Common.{◌≡◌, ℕ, Bool, true, false, List, [], ◌∷◌, refl}
 use Rattle.swap_base.specs.declared.Origin.{Origin}
 use Rattle.swap_base.specs.declared.Origin.TheVariants as origin
-use Rattle.swap_base.specs.declared.DiskWhich.{DiskWhich}
-use Rattle.swap_base.specs.Sizes.{Sizes, pages_of, zeros}
 use Rattle.swap_wire.specs.Input.{Input, IsInRange}
 use Rattle.swap_wire.specs.declared.Event.{Event}
 use Rattle.swap_wire.specs.declared.Event.TheVariants as event
 use Rattle.swap_wire.specs.declared.Seen.{Seen}
-use Rattle.swap_wire.specs.declared.Seen.TheVariants as seen
 use Rattle.swap_record.specs.declared.Op.{Op}
 use Rattle.swap_record.specs.declared.Op.TheVariants.{PageOut, PageIn, Failed}
-use Rattle.swap_record.specs.History.{History, Row, IsOrdered, IsFaithful, IsLegal, GivesArray}
+use Rattle.swap_record.specs.History.{History, IsFaithful, GivesArray}
 use Rattle.swap_disk.specs.Port.{Port, DiskCall, DiskAnswer, LetFinish, Follows}
 use Rattle.swap_calls.specs.Calls.{state_of, is_idle}
-use Rattle.swap_device.specs.Ports.{Prog, Leads}
-use Rattle.swap_device.specs.Device.{Device, new, out, route, finish, disk_start, disk_take}
-use Rattle.swap_device.specs.Fits.{Fits, GivesTrusted, IsFaithfulFrom, IsBlank, trusted}
+use Rattle.swap_device.specs.Ports.{Prog}
+use Rattle.swap_device.specs.Device.{Device, out, route, finish, disk_start, disk_take}
+use Rattle.swap_device.specs.Fits.{Fits, GivesTrusted, IsFaithfulFrom, trusted}
 use Rattle.swap_device.proofs.Lists.{chosen}
-use Rattle.swap_device.proofs.Programs.{Leads-answering, Leads-Along, Leads-implies}
-use Rattle.swap_device.proofs.Kept.{IsKept, Keeps, out_kept, route_kept, finish_kept, disk_start_kept, disk_take_kept, disk_finish_kept, lets_finish_fits, idle_waits_not}
-use Rattle.swap_device.proofs.Held.{new_fits}
+use Rattle.swap_device.proofs.Programs.{Leads-answering, Leads-Along}
+use Rattle.swap_device.proofs.Kept.{IsKept, Keeps, out_kept, route_kept, finish_kept, disk_start_kept, disk_take_kept, lets_finish_fits, idle_waits_not}
 use Rattle.swap_world.specs.World.{happens, seen_by, taken_if, see_out, see_in, see_step, see_start, see_disk, IsStep}
 
 module _ {D : Type 0} (means : D → Port) (moves : D → (c : DiskCall) → DiskAnswer c → D → Type 0) (follows : (d : D) (c : DiskCall) (answer : DiskAnswer c) (e : D) → moves d c answer e → Follows (means d) c answer (means e)) where

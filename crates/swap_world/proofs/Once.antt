@@ -1,14 +1,13 @@
 -- Each caller's calls are answered once, in order, whatever the disk does.
-use Rattle.std.proofs.Common.{◌≡◌, ℕ, ◌<◌, Bool, true, false, cond, ◌&&◌, ◌==◌, not, nat_lt, List, [], ◌∷◌, get_or, set, map, length, replicate, zero, suc, refl, sym, ap, ◌∙◌, subst, get_or-set_same, get_or-set_other, Option, None, Some}
+use Rattle.std.proofs.Common.{◌≡◌, ℕ, ◌<◌, Bool, true, false, cond, ◌&&◌, not, nat_lt, List, [], ◌∷◌, get_or, set, length, replicate, zero, suc, refl, sym, ap, ◌∙◌, subst, get_or-set_same, get_or-set_other, Option, None, Some}
 use Rattle.std.proofs.lemmas.Bool.{eq-eqb}
-use Rattle.std.specs.List.{AllByRecursion}
 use Rattle.swap_base.specs.declared.Page.{Page}
 use Rattle.swap_base.specs.declared.Caller.{Caller}
 use Rattle.swap_base.specs.declared.EntryNo.{EntryNo}
 use Rattle.swap_base.specs.declared.DiskWhich.{DiskWhich}
 use Rattle.swap_base.specs.declared.DiskWhich.TheVariants as which
 use Rattle.swap_base.specs.Sizes.{Sizes}
-use Rattle.swap_wire.specs.Input.{Input, IsInRange}
+use Rattle.swap_wire.specs.Input.{Input}
 use Rattle.swap_wire.specs.declared.Event.{Event}
 use Rattle.swap_wire.specs.declared.Event.TheVariants as event
 use Rattle.swap_wire.specs.declared.Seen.{Seen}
@@ -19,20 +18,19 @@ use Rattle.swap_record.specs.History.{History, Row, pushed, row_of, last, entrie
 use Rattle.swap_queue.specs.Queue as queue
 use Rattle.swap_queue.specs.Queue.{Copy}
 use Rattle.swap_disk.specs.Disk.{Taken}
-use Rattle.swap_disk.specs.Port.{Port, DiskCall, DiskAnswer}
+use Rattle.swap_disk.specs.Port.{DiskCall, DiskAnswer}
 use Rattle.swap_calls.specs.Calls as calls
 use Rattle.swap_calls.specs.Calls.{Call, Calls, state_of, call_of, idle, is_idle}
 use Rattle.swap_calls.specs.declared.Arrived.{Arrived}
 use Rattle.swap_calls.specs.declared.Arrived.TheVariants as arrived
 use Rattle.swap_calls.specs.declared.CallState.{CallState}
 use Rattle.swap_calls.specs.declared.CallState.TheVariants.{Idle, Room, Reading}
-use Rattle.swap_device.specs.Ports.{Prog, Ret, AskDisk, answering, Leads}
+use Rattle.swap_device.specs.Ports.{Prog, answering, Leads}
 use Rattle.swap_device.specs.Device.{Device, new, accept, route, route_by, routed_again, out, finish, finish_by, disk_start, start_front, start_copy, disk_take, took, took_back, wrote}
 use Rattle.swap_device.specs.declared.OutStep.{OutStep}
 use Rattle.swap_device.specs.declared.InStep.{InStep}
 use Rattle.swap_device.specs.declared.InStep.TheVariants as ins
 use Rattle.swap_device.specs.declared.Step.{Step}
-use Rattle.swap_device.specs.declared.DiskStep.{DiskStep}
 use Rattle.swap_device.proofs.Lists.{chosen, by_caller, not_eqb}
 use Rattle.swap_device.proofs.Agree.{get_or-map_idle}
 use Rattle.swap_device.proofs.Programs.{Leads-answering, Leads-implies}

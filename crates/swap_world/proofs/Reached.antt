@@ -1,5 +1,5 @@
 -- A world goes on by one event.
-use Rattle.std.proofs.Common.{◌≡◌, ℕ, ◌+◌, ◌<◌, ◌≤◌, Bool, true, false, List, [], ◌∷◌, ◌++◌, length, refl, sym, ap, ◌∙◌, subst, arith, length-append}
+use Rattle.std.proofs.Common.{◌≡◌, ℕ, ◌≤◌, Bool, true, false, List, [], ◌∷◌, ◌++◌, length, refl, sym, ap, ◌∙◌, subst, arith, length-append}
 use Rattle.swap_base.specs.Sizes.{Sizes}
 use Rattle.swap_wire.specs.Input.{Input, IsInRange}
 use Rattle.swap_wire.specs.declared.Event.{Event}
@@ -9,7 +9,6 @@ use Rattle.swap_device.specs.Device.{Device, Core, new}
 use Rattle.swap_device.specs.Fits.{IsBlank}
 use Rattle.swap_world.specs.World.{IsStep}
 use Rattle.swap_world.specs.Runs.{IsRun, begin, effect, without, has_effect, IsReached, logged_of, logged_if}
-use Rattle.swap_world.specs.Failures.{failed_writes_in, failed_reads_in}
 use Rattle.swap_world.proofs.Legal.{step_kept}
 use Rattle.swap_world.proofs.Runs.{run_fits}
 use Rattle.swap_world.proofs.Effects.{step_stays}

@@ -1,8 +1,8 @@
 -- What holds after every run.
-use Rattle.std.proofs.Common.{◌≡◌, ℕ, ◌<◌, ◌≤◌, Bool, true, false, List, [], ◌∷◌, length, replicate, refl, sym, ap, ◌∙◌, subst, arith, lit<, is_some, MatchOption, Option, None, Some}
+use Rattle.std.proofs.Common.{◌≡◌, ◌<◌, Bool, true, List, [], ◌∷◌, length, refl, sym, ap, ◌∙◌, subst, lit<, is_some}
 use Rattle.std.specs.List.{AllByRecursion}
 use Rattle.swap_base.specs.declared.Caller.{Caller}
-use Rattle.swap_base.specs.Sizes.{Sizes, pages_of, zeros}
+use Rattle.swap_base.specs.Sizes.{Sizes, zeros}
 use Rattle.swap_wire.specs.Input.{Input, IsInRange}
 use Rattle.swap_wire.specs.declared.Seen.{Seen}
 use Rattle.swap_record.specs.History.{IsLegal}
@@ -14,13 +14,13 @@ use Rattle.swap_device.specs.Device.{Device, new}
 use Rattle.swap_device.specs.Fits.{Fits, IsBlank, trusted, IsFaithfulFrom}
 use Rattle.swap_device.proofs.Programs.{Leads-Along}
 use Rattle.swap_device.proofs.Held.{new_fits}
-use Rattle.swap_world.specs.Answered.{calls_of, with_call, AreAnsweredOnce}
-use Rattle.swap_world.specs.World.{World, Next, IsStep, happens, next, next_of, start, reach, made_by, history}
+use Rattle.swap_world.specs.Answered.{calls_of, with_call}
+use Rattle.swap_world.specs.World.{World, IsStep, happens, next, next_of, start, reach, made_by, history}
 use Rattle.swap_world.specs.Runs.{IsRun, begin, effect, without}
 use Rattle.swap_world.specs.Laws.{Holds}
 use Rattle.swap_world.proofs.Legal.{step_kept, happens_kept, all_faithful}
 use Rattle.swap_device.proofs.Kept.{IsKept}
-use Rattle.swap_world.proofs.Once.{OpenAt, Lists, once, starts_once, answered_once}
+use Rattle.swap_world.proofs.Once.{OpenAt, once, starts_once, answered_once}
 
 caller_in : (T : Bool) (s : Sizes) (c : Caller) (d : Device) (p : Port) → Fits T d p → d.sizes ≡ s → c.0 < s.callers → c.0 < length d.calls
 caller_in T s c d p k e within = subst (λ n. c.0 < n) (sym (k.agrees.calls_len ∙ ap (λ (z : Sizes). z.callers) e)) within

@@ -12,7 +12,7 @@ use Rattle.swap_wire.specs.Input.{Input, IsInRange}
 use Rattle.swap_calls.specs.Calls.{state_of, is_idle}
 use Rattle.swap_record.specs.declared.Op.{Op}
 use Rattle.swap_record.specs.declared.Op.TheVariants as op
-use Rattle.swap_record.specs.History.{History, Row, entries_of}
+use Rattle.swap_record.specs.History.{Row, entries_of}
 use Rattle.swap_device.specs.Device.{Device}
 use Rattle.swap_world.specs.World.{start, reach, made_by}
 

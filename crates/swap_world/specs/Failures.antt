@@ -1,6 +1,5 @@
 -- Which events saw the disk fail, and when a caller's call was started last.
-use Rattle.std.specs.Prelude.{◌≡◌, ℕ, ◌<◌, ◌==◌, Bool, true, false, if◌then◌else◌, List, [], ◌∷◌, count_by}
-use Rattle.swap_base.specs.declared.Caller.{Caller}
+use Rattle.std.specs.Prelude.{ℕ, Bool, true, false, List, count_by}
 use Rattle.swap_wire.specs.Input.{Input}
 use Rattle.swap_wire.specs.declared.Seen.{Seen}
 use Rattle.swap_wire.specs.declared.Seen.TheVariants as seen

@@ -1,5 +1,5 @@
 -- What holds of every run.
-use Rattle.std.specs.Prelude.{◌≡◌, ◌<◌, ℕ, Bool, List, is_some}
+use Rattle.std.specs.Prelude.{◌≡◌, ◌<◌, Bool, List, is_some}
 use Rattle.std.specs.List.{AllByRecursion}
 use Rattle.swap_base.specs.declared.Caller.{Caller}
 use Rattle.swap_base.specs.Sizes.{Sizes, zeros}
@@ -12,7 +12,7 @@ use Rattle.swap_device.specs.Device.{Device, new}
 use Rattle.swap_device.specs.Fits.{IsFaithfulFrom, IsBlank, trusted}
 use Rattle.swap_world.specs.Answered.{AreAnsweredOnce}
 use Rattle.swap_world.specs.Runs.{IsRun, GoesOn}
-use Rattle.swap_world.specs.World.{World, Next, IsStep, start, next, reach, history}
+use Rattle.swap_world.specs.World.{World, IsStep, start, next, reach, history}
 
 -- over the disk in memory the history is one of an array of pages that starts as zeros
 abbrev pub AlwaysLegal : Type 0

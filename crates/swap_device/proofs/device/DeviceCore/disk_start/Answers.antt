@@ -1,7 +1,4 @@
-use Rattle.std.proofs.Common.{ap, sym, ◌∙◌, length, refl, subst}
-use Rattle.swap_queue.specs.Kept.{IsQueue}
-use Rattle.swap_disk.specs.Port.{started, kept_by}
-use Rattle.swap_disk.specs.Disk.{Write}
+use Rattle.std.proofs.Common.{ap, sym, ◌∙◌, length}
 use Rattle.swap_device.proofs.Held.{none_start_held, start_held, start_free, start_room, length-lent, lent}
 use Rattle.swap_device.proofs.device.DeviceCore.disk_start.Goals as goal
 

@@ -1,5 +1,4 @@
-use Rattle.std.proofs.Common.{ap, refl, ◌∙◌, sym, replicate}
-use Rattle.swap_disk.specs.Port.{StartRead}
+use Rattle.std.proofs.Common.{ap, ◌∙◌, sym, replicate}
 use Rattle.swap_device.proofs.Held.{zero_held, queue_held, read_free, disk_wait_held}
 use Rattle.swap_device.proofs.device.DeviceCore.route.Goals as goal
 

@@ -1,8 +1,6 @@
-use Rattle.std.proofs.Common.{arith, ap, ◌≡◌, ◌<◌, ◌-◌, length, vec_capacity, subst, sym, ℕ}
-use Rattle.swap_wire.specs.Input.{IsInRange}
+use Rattle.std.proofs.Common.{arith, ap, ◌≡◌, ◌-◌, length, vec_capacity}
 use Rattle.swap_world.proofs.Entries.{step_adds}
 use Rattle.swap_world.proofs.Busy.{step_grows}
-use Rattle.swap_world.proofs.Effects.{step_stays}
 use Rattle.swap_world.proofs.Reached.{reached_counts, reached_step, reached_sizes}
 use Rattle.swap_world.proofs.world.World.step.Goals as goal
 
