@@ -77,7 +77,7 @@ entries-other c e H p o bytes ne = ap (λ b. cond b (row_of H e p o bytes ∷ en
 entries-own : (c : Caller) (H : History) (p : Page) (o : Op) (bytes : List ℕ) → entries_of c (pushed H c p o bytes) ≡ row_of H c p o bytes ∷ entries_of c H
 entries-own c H p o bytes = ap (λ b. cond b (row_of H c p o bytes ∷ entries_of c H) (entries_of c H)) (eq-eqb c.0 c.0 refl)
 
-set-idle : (cs : Calls) (i : ℕ) → get_or (set cs i idle) i idle ≡ idle
+pub set-idle : (cs : Calls) (i : ℕ) → get_or (set cs i idle) i idle ≡ idle
 set-idle [] i = refl
 set-idle (x ∷ cs) zero = refl
 set-idle (x ∷ cs) (suc i) = set-idle cs i
@@ -142,7 +142,7 @@ answers_all (Room p since) own (i ∷ is) rows h = h.1
 answers_all (Reading p n v how newer since) own [] rows h = h
 answers_all (Reading p n v how newer since) own (i ∷ is) rows h = h.1
 
-idle_at : (n i : ℕ) → get_or (replicate n idle) i idle ≡ idle
+pub idle_at : (n i : ℕ) → get_or (replicate n idle) i idle ≡ idle
 idle_at zero i = refl
 idle_at (suc n) zero = refl
 idle_at (suc n) (suc i) = idle_at n i

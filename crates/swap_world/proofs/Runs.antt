@@ -22,7 +22,7 @@ use Rattle.swap_world.proofs.Legal.{step_kept, happens_kept, all_faithful}
 use Rattle.swap_device.proofs.Kept.{IsKept}
 use Rattle.swap_world.proofs.Once.{OpenAt, once, starts_once, answered_once}
 
-caller_in : (T : Bool) (s : Sizes) (c : Caller) (d : Device) (p : Port) → Fits T d p → d.sizes ≡ s → c.0 < s.callers → c.0 < length d.calls
+pub caller_in : (T : Bool) (s : Sizes) (c : Caller) (d : Device) (p : Port) → Fits T d p → d.sizes ≡ s → c.0 < s.callers → c.0 < length d.calls
 caller_in T s c d p k e within = subst (λ n. c.0 < n) (sym (k.agrees.calls_len ∙ ap (λ (z : Sizes). z.callers) e)) within
 
 module _ {D : Type 0} (means : D → Port) (moves : D → (c : DiskCall) → DiskAnswer c → D → Type 0) (follows : (d : D) (c : DiskCall) (answer : DiskAnswer c) (e : D) → moves d c answer e → Follows (means d) c answer (means e)) where
@@ -42,16 +42,6 @@ module _ {D : Type 0} (means : D → Port) (moves : D → (c : DiskCall) → Dis
       Leads-Along moves (happens d0 i.page i.event) k0 k' (d', seen_) (λ a _. OpenAt c a.0 (with_call c i a.1 (calls_of c before)))
       (once moves c d0 k0 i.page i.event (calls_of c before) (caller_in _ s c d0 (means k0) was.0 was.1 within) (run_once s first before d0 k0 c within blank run)) step
   run_once s first made d disk c within blank (without {made = before} {d = d0} {k = k0} i seen_ k' run range step has) = run_once s first before d0 k0 c within blank run
-
-  -- over any disk
-  pub holds : (s : Sizes) (first : D) (made : List (Input × Seen)) (d : Device) (disk : D) → IsBlank s (means first) → IsRun moves (new s) first made d disk → Holds (is_some (means first).blocks) s made d
-  holds s first made d disk blank run =
-      let k = run_fits s first made d disk blank run in
-      record {
-        ordered = k.0.in_order.ordered;
-        faithful = let P : Sizes → Type 0 = λ z. IsFaithfulFrom (trusted (is_some (means first).blocks)) (zeros z) d.history in subst P k.1 k.0.agrees.faithful;
-        once = λ c within. answered_once c d made (run_once s first made d disk c within blank run);
-      }
 
 -- over the disk in memory: what a program leads to is what it computes
 run_leads : {A : Type 0} (p : Prog A) (d : Drive) (P : A → Drive → Type 0) → IsDrive d → Leads Moves p d P → P (run ask p d).0 (run ask p d).1 × IsDrive (run ask p d).1

@@ -1,8 +1,17 @@
--- Which events saw the disk fail, and when a caller's call was started last.
-use Rattle.std.specs.Prelude.{ℕ, Bool, true, false, List, count_by}
+-- Which events saw the disk fail, when a caller's call was started last, and which counts a failed call's entry has.
+use Rattle.std.specs.Prelude.{◌≡◌, ◌<◌, ℕ, Bool, true, false, ◌&&◌, ◌==◌, if◌then◌else◌, List, [], ◌∷◌, length, count_by, Option, None, Some}
+use Rattle.swap_base.specs.declared.Caller.{Caller}
+use Rattle.swap_base.specs.declared.EntryNo.{EntryNo}
+use Rattle.swap_base.specs.declared.CallKind.TheVariants as kind
 use Rattle.swap_wire.specs.Input.{Input}
+use Rattle.swap_wire.specs.declared.Event.{Event}
+use Rattle.swap_wire.specs.declared.Event.TheVariants as event
 use Rattle.swap_wire.specs.declared.Seen.{Seen}
 use Rattle.swap_wire.specs.declared.Seen.TheVariants as seen
+use Rattle.swap_record.specs.declared.Op.{Op}
+use Rattle.swap_record.specs.declared.Op.TheVariants as op
+use Rattle.swap_record.specs.History.{Row}
+use Rattle.swap_world.specs.Runs.{entry_seen}
 
 abbrev pub is_write_failed : Seen → Bool
 is_write_failed (seen.WriteKept e) = true
@@ -19,3 +28,46 @@ failed_writes_in made = count_by (λ (m : Input × Seen). is_write_failed m.1) m
 
 abbrev pub failed_reads_in : List (Input × Seen) → ℕ
 failed_reads_in made = count_by (λ (m : Input × Seen). is_read_failed m.1) made
+
+-- an event of this caller's
+abbrev pub is_of : Caller → Event → Bool
+is_of c (event.PageOut e p) = e.0 == c.0
+is_of c (event.PageIn e p) = e.0 == c.0
+is_of c (event.Finish e) = e.0 == c.0
+is_of c _ = false
+
+-- the first step of a page-out that waits for room, and each step of a page-in that starts a read
+abbrev pub is_start : Event → Seen → Bool
+is_start (event.PageOut e p) seen.Room = true
+is_start (event.PageIn e p) (seen.Wait via) = true
+is_start (event.Finish e) (seen.Again via) = true
+is_start _ _ = false
+
+abbrev pub is_start_of : Caller → Event → Seen → Bool
+is_start_of c e s = is_of c e && is_start e s
+
+-- what was made before a caller's last start
+abbrev pub before_start : Caller → List (Input × Seen) → List (Input × Seen)
+before_start c [] = []
+before_start c ((i, s) ∷ made) = if is_start_of c i.event s then made else before_start c made
+
+-- The two counts of a failed call: the failed writes, or reads, before its last start and before the step that ended
+-- it. The first is below the second: the disk failed during the call.
+abbrev pub AreItsCounts : ℕ → ℕ → ℕ → ℕ → Type 0
+AreItsCounts since at before now = (since ≡ before) × (at ≡ now) × (since < at)
+
+abbrev pub HasItsCounts : Caller → List (Input × Seen) → Op → Type 0
+HasItsCounts c made op.PageOut = Unit {0}
+HasItsCounts c made (op.PageIn named from) = Unit {0}
+HasItsCounts c made (op.Failed kind.PageOut since at) = AreItsCounts since at (failed_writes_in (before_start c made)) (failed_writes_in made)
+HasItsCounts c made (op.Failed kind.PageIn since at) = AreItsCounts since at (failed_reads_in (before_start c made)) (failed_reads_in made)
+
+-- The history holds exactly the entries that were seen, in order, and each that tells a failure has its counts.
+abbrev pub HoldsEntry : (List Row → Type 0) → List (Input × Seen) → List Row → Option EntryNo → Type 0
+HoldsEntry rest made H None = rest H
+HoldsEntry rest made [] (Some e) = ⊥
+HoldsEntry rest made (row ∷ H) (Some e) = (e.0 ≡ length H) × HasItsCounts row.entry.caller made row.entry.op × rest H
+
+abbrev pub HoldsEntriesSeen : List (Input × Seen) → List Row → Type 0
+HoldsEntriesSeen [] H = H ≡ []
+HoldsEntriesSeen ((i, s) ∷ made) H = HoldsEntry (HoldsEntriesSeen made) made H (entry_seen s)

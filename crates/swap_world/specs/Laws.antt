@@ -11,6 +11,7 @@ use Rattle.swap_disk.specs.Drive.{Drive, Moves}
 use Rattle.swap_device.specs.Device.{Device, new}
 use Rattle.swap_device.specs.Fits.{IsFaithfulFrom, IsBlank, trusted}
 use Rattle.swap_world.specs.Answered.{AreAnsweredOnce}
+use Rattle.swap_world.specs.Failures.{HoldsEntriesSeen}
 use Rattle.swap_world.specs.Runs.{IsRun, GoesOn}
 use Rattle.swap_world.specs.World.{World, IsStep, start, next, reach, history}
 
@@ -19,11 +20,13 @@ abbrev pub AlwaysLegal : Type 0
 AlwaysLegal = (s : Sizes) (is : List Input) → AllByRecursion (λ (i : Input). IsInRange s i.event) is → IsLegal (zeros s) (history (reach (start s) is))
 
 -- After these events the history is ordered, each page-in that the disk didn't give is faithful, and each that it gave
--- too where the disk tells its blocks; and each caller's calls were answered once, in its order.
+-- too where the disk tells its blocks; each caller's calls were answered once, in its order; and the history holds
+-- exactly the entries that were seen, where each failure has the counts of its own call.
 pub record Holds (told : Bool) (s : Sizes) (made : List (Input × Seen)) (d : Device) : Type 0 where
   pub ordered : IsOrdered d.history
   pub faithful : IsFaithfulFrom (trusted told) (zeros s) d.history
   pub once : (c : Caller) → c.0 < s.callers → AreAnsweredOnce c made d
+  pub entries : HoldsEntriesSeen made d.history
 
 -- it holds after every run over a disk that was blank
 abbrev pub HoldsAfterEach : {D : Type 0} → (D → Port) → (D → (c : DiskCall) → DiskAnswer c → D → Type 0) → Type 0

@@ -23,8 +23,9 @@ pub fn each_call_once()
 {}
 
 /// Over any disk that was blank, after every list of events: the history is ordered, each page-in that the disk
-/// didn't give is faithful, each that it gave too where it tells its blocks, and each caller's calls were
-/// answered once, in its order.
+/// didn't give is faithful, each that it gave too where it tells its blocks, each caller's calls were answered once,
+/// in its order, and the history holds exactly the entries that were seen. The two counts of a failure are those of
+/// its own call: the failed writes, or reads, before its last start and before the step that ended it.
 pub fn over_any_disk<D: DiskPort>()
     ensures { HoldsAfterEach D.means D.moves }
 {}
