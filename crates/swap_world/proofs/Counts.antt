@@ -101,7 +101,7 @@ module _ {D : Type 0} (moves : D → (c : DiskCall) → DiskAnswer c → D → T
   taken_counts d disk true = λ taken mid moved. took_back_counts d taken
   taken_counts d disk false = same d d seen.Nothing refl refl refl refl
 
-  happens_counts : (d : Device) (disk : D) (page : List ℕ) (e : Event) → Leads moves (happens d page e) disk (λ a _. Counts d a)
+  pub happens_counts : (d : Device) (disk : D) (page : List ℕ) (e : Event) → Leads moves (happens d page e) disk (λ a _. Counts d a)
   happens_counts d disk page (event.PageOut c p) = chosen (λ (x : Prog (Device × Seen)). Leads moves x disk (λ a _. Counts d a)) (is_idle (state_of d.calls c)) _ _ (λ _. Leads-answering moves _ (out d c p page) disk _ (out_counts d disk c p page)) (λ _. same d d seen.Busy refl refl refl refl)
   happens_counts d disk page (event.PageIn c p) = chosen (λ (x : Prog (Device × Seen)). Leads moves x disk (λ a _. Counts d a)) (is_idle (state_of d.calls c)) _ _ (λ _. Leads-answering moves _ (route d c p) disk _ (route_counts d disk c p (last d.history p) (queue.newest d.queue p))) (λ _. same d d seen.Busy refl refl refl refl)
   happens_counts d disk page (event.Finish c) = chosen (λ (x : Prog (Device × Seen)). Leads moves x disk (λ a _. Counts d a)) (is_idle (state_of d.calls c)) _ _ (λ _. same d d seen.Idle refl refl refl refl) (λ _. Leads-answering moves _ (finish d c) disk _ (finish_counts d disk c (call_of d.calls c).bytes (state_of d.calls c)))
@@ -125,15 +125,16 @@ module _ {D : Type 0} (moves : D → (c : DiskCall) → DiskAnswer c → D → T
     pub writes : d.failed_writes ≡ failed_writes_in made
     pub reads : d.failed_reads ≡ failed_reads_in made
 
+  pub counted_after : (made : List (Input × Seen)) (d d' : Device) (i : Input) (s : Seen) → AreCounted made d → Counts d (d', s) → AreCounted ((i, s) ∷ made) d'
+  counted_after made d d' i s was now = record {
+    writes = let a = count_by-cons (λ (m : Input × Seen). is_write_failed m.1) (i, s) made in omega (arith, was.writes, now.writes, a);
+    reads = let a = count_by-cons (λ (m : Input × Seen). is_read_failed m.1) (i, s) made in omega (arith, was.reads, now.reads, a);
+  }
+
   pub run_counts : (s : Sizes) (first : D) (made : List (Input × Seen)) (d : Device) (disk : D) → IsRun moves (new s) first made d disk → AreCounted made d
   run_counts s first made d disk begin = record { writes = refl; reads = refl }
   run_counts s first made d disk (effect {made = before} {d = d0} {k = k0} i seen_ d' k' run range step has) =
-      let was = run_counts s first before d0 k0 run in
-      let now = step_counts d0 d' k0 k' i seen_ step in
-      record {
-        writes = let a = count_by-cons (λ (m : Input × Seen). is_write_failed m.1) (i, seen_) before in omega (arith, was.writes, now.writes, a);
-        reads = let a = count_by-cons (λ (m : Input × Seen). is_read_failed m.1) (i, seen_) before in omega (arith, was.reads, now.reads, a);
-      }
+      counted_after before d0 d' i seen_ (run_counts s first before d0 k0 run) (step_counts d0 d' k0 k' i seen_ step)
   run_counts s first made d disk (without {made = before} {d = d0} {k = k0} i seen_ k' run range step has) = run_counts s first before d0 k0 run
 
 pub few_failed : (made : List (Input × Seen)) → (failed_writes_in made ≤ length made) × (failed_reads_in made ≤ length made)

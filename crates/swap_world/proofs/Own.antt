@@ -1,6 +1,7 @@
 -- The history holds exactly the entries that were seen, and each failure has the counts of its own call.
 use Rattle.std.proofs.Common.{◌≡◌, ℕ, ◌+◌, ◌<◌, Bool, true, false, cond, nat_lt, List, [], ◌∷◌, length, refl, sym, ap, ◌∙◌, subst, is_none, is_some, inl, inr, ◌⊎◌, Option, None, Some}
 use Rattle.std.proofs.lemmas.Bool.{ltb-true}
+use Rattle.std.specs.List.{AllByRecursion}
 use Rattle.swap_base.specs.declared.Page.{Page}
 use Rattle.swap_base.specs.declared.Caller.{Caller}
 use Rattle.swap_base.specs.declared.EntryNo.{EntryNo}
@@ -16,6 +17,7 @@ use Rattle.swap_record.specs.History.{Row, History, last, next_name}
 use Rattle.swap_queue.specs.Queue as queue
 use Rattle.swap_queue.specs.Queue.{Copy}
 use Rattle.swap_disk.specs.Disk.{Taken}
+use Rattle.swap_disk.specs.Drive.{port_of, Moves}
 use Rattle.swap_disk.specs.Port.{Port, DiskCall, DiskAnswer, Follows}
 use Rattle.swap_calls.specs.Calls.{Call, Calls, state_of, call_of, is_idle, idle}
 use Rattle.swap_base.specs.declared.Via.TheVariants as via
@@ -32,12 +34,12 @@ use Rattle.swap_device.proofs.Lists.{chosen, All-get_or}
 use Rattle.swap_device.proofs.Programs.{Leads-answering, Leads-Along}
 use Rattle.swap_world.specs.Failures.{before_start, failed_writes_in, failed_reads_in, HasItsCounts, HoldsEntry, HoldsEntriesSeen}
 use Rattle.swap_world.specs.Runs.{IsRun, begin, effect, without, entry_seen, has_effect}
-use Rattle.swap_world.specs.World.{happens, taken_if, see_out, see_in, see_step, see_start, see_disk, IsStep}
-use Rattle.swap_world.proofs.Counts.{AreCounted, run_counts}
+use Rattle.swap_world.specs.World.{World, start, next, reach, made_by, happens, taken_if, see_out, see_in, see_step, see_start, see_disk, IsStep}
+use Rattle.swap_world.proofs.Counts.{AreCounted, Counts, counted_after, happens_counts, run_counts}
 use Rattle.swap_world.proofs.Starts.{Since, SinceIn, starts, since_new}
-use Rattle.swap_world.specs.Laws.{Holds}
+use Rattle.swap_world.specs.Laws.{Holds, EntriesAreSeen}
 use Rattle.swap_world.proofs.Once.{answered_once}
-use Rattle.swap_world.proofs.Runs.{run_fits, run_once, caller_in}
+use Rattle.swap_world.proofs.Runs.{run_fits, run_once, caller_in, run_leads, IsSound, starts_sound, next_sound}
 
 -- an event adds no entry and none is seen, or it adds the one that is seen
 pub record AddsSeen (made : List (Input × Seen)) (d : Device) (a : Device × Seen) : Type 0 where
@@ -172,3 +174,33 @@ module _ {D : Type 0} (means : D → Port) (moves : D → (c : DiskCall) → Dis
         once = λ c within. answered_once c d made (run_once means moves follows s first made d disk c within blank run);
         entries = holds_entries s first made d disk blank run;
       }
+
+-- over the disk in memory, whose events all stand in the list
+pub record IsTold (made : List (Input × Seen)) (s : Sizes) (d : Device) : Type 0 where
+  pub counted : AreCounted Moves made d
+  pub since : (c : Caller) → c.0 < s.callers → SinceIn c (before_start c made) d.calls
+  pub entries : HoldsEntriesSeen made d.history
+
+starts_told : (s : Sizes) → IsTold [] s (new s)
+starts_told s = record { counted = record { writes = refl; reads = refl }; since = λ c within. since_new s c; entries = refl }
+
+next_told : (s : Sizes) (w : World) (i : Input) (made : List (Input × Seen)) → IsInRange s i.event → IsSound s w → IsTold made s w.device → IsTold ((i, (next w i).seen) ∷ made) s (next w i).world.device
+next_told s w i made range k t =
+    let p = happens w.device i.page i.event in
+    let keep : AllKeep Moves made w.device = λ c within. (t.since c (subst (λ (z : Sizes). c.0 < z.callers) k.sizes within), All-get_or (λ (call : Call). KeepsNewest w.device.history w.device.failed_reads call.state) w.device.calls c.0 idle k.fits.in_order.calls tt) in
+    let counts = (run_leads p w.drive (λ a _. Counts w.device a) k.drive (happens_counts Moves w.device w.drive i.page i.event)).0 in
+    let adds = (run_leads p w.drive (λ a _. AddsSeen made w.device a) k.drive (happens_seen Moves made w.device w.drive i.page i.event t.counted keep (subst (λ z. IsInRange z i.event) (sym k.sizes) range))).0 in
+    record {
+      counted = counted_after Moves made w.device (next w i).world.device i (next w i).seen t.counted counts;
+      since = λ c within.
+          (run_leads p w.drive (λ a _. SinceIn c (before_start c ((i, a.1) ∷ made)) a.0.calls) k.drive
+          (starts Moves c made w.device w.drive i.page i.event t.counted (caller_in true s c w.device (port_of w.drive) k.fits k.sizes within) (t.since c within))).0;
+      entries = holds_entry Moves made w.device (next w i).world.device (next w i).seen adds t.entries;
+    }
+
+reach_told : (s : Sizes) (w : World) (is : List Input) (made : List (Input × Seen)) → AllByRecursion (λ (i : Input). IsInRange s i.event) is → IsSound s w → IsTold made s w.device → IsTold (made_by made w is) s (reach w is).device
+reach_told s w [] made range k t = t
+reach_told s w (i ∷ is) made range k t = reach_told s (next w i).world is ((i, (next w i).seen) ∷ made) range.1 (next_sound s w i range.0 k) (next_told s w i made range.0 k t)
+
+pub entries_are_seen : EntriesAreSeen
+entries_are_seen s is range = (reach_told s (start s) is [] range (starts_sound s) (starts_told s)).entries

@@ -44,7 +44,7 @@ module _ {D : Type 0} (means : D → Port) (moves : D → (c : DiskCall) → Dis
   run_once s first made d disk c within blank (without {made = before} {d = d0} {k = k0} i seen_ k' run range step has) = run_once s first before d0 k0 c within blank run
 
 -- over the disk in memory: what a program leads to is what it computes
-run_leads : {A : Type 0} (p : Prog A) (d : Drive) (P : A → Drive → Type 0) → IsDrive d → Leads Moves p d P → P (run ask p d).0 (run ask p d).1 × IsDrive (run ask p d).1
+pub run_leads : {A : Type 0} (p : Prog A) (d : Drive) (P : A → Drive → Type 0) → IsDrive d → Leads Moves p d P → P (run ask p d).0 (run ask p d).1 × IsDrive (run ask p d).1
 run_leads (Ret a) d P drive leads = (leads, drive)
 run_leads (AskDisk c more) d P drive leads = run_leads (more (ask d c).0) (ask d c).1 P (drives.ask_keeps d c drive) (leads (ask d c).0 (ask d c).1 (drive, refl))
 

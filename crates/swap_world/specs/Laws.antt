@@ -1,5 +1,5 @@
 -- What holds of every run.
-use Rattle.std.specs.Prelude.{◌≡◌, ◌<◌, Bool, List, is_some}
+use Rattle.std.specs.Prelude.{◌≡◌, ◌<◌, Bool, List, is_some, []}
 use Rattle.std.specs.List.{AllByRecursion}
 use Rattle.swap_base.specs.declared.Caller.{Caller}
 use Rattle.swap_base.specs.Sizes.{Sizes, zeros}
@@ -13,7 +13,7 @@ use Rattle.swap_device.specs.Fits.{IsFaithfulFrom, IsBlank, trusted}
 use Rattle.swap_world.specs.Answered.{AreAnsweredOnce}
 use Rattle.swap_world.specs.Failures.{HoldsEntriesSeen}
 use Rattle.swap_world.specs.Runs.{IsRun, GoesOn}
-use Rattle.swap_world.specs.World.{World, IsStep, start, next, reach, history}
+use Rattle.swap_world.specs.World.{World, IsStep, start, next, reach, history, made_by}
 
 -- over the disk in memory the history is one of an array of pages that starts as zeros
 abbrev pub AlwaysLegal : Type 0
@@ -41,3 +41,7 @@ StepsAreNext =
 -- a history goes on with every event
 abbrev pub HistoriesGoOn : Type 0
 HistoriesGoOn = (w : World) (is : List Input) → GoesOn (history w) (history (reach w is))
+
+-- over the disk in memory the history holds exactly the entries that were seen, and each failure has its counts
+abbrev pub EntriesAreSeen : Type 0
+EntriesAreSeen = (s : Sizes) (is : List Input) → AllByRecursion (λ (i : Input). IsInRange s i.event) is → HoldsEntriesSeen (made_by [] (start s) is) (history (reach (start s) is))

@@ -2,7 +2,7 @@
 #![tactic(auto)]
 
 ghost use Rattle.swap_world.specs.Answered.{EachCallOnce};
-ghost use Rattle.swap_world.specs.Laws.{AlwaysLegal, HistoriesGoOn, HoldsAfterEach, StepsAreNext};
+ghost use Rattle.swap_world.specs.Laws.{AlwaysLegal, EntriesAreSeen, HistoriesGoOn, HoldsAfterEach, StepsAreNext};
 ghost use Rattle.swap_world.specs.Rows.{PageOutWithoutRoomFailsWhereAWriteFailed, ReadOvertakenByAPageOutAlreadyOnTheDisk};
 
 mod events;
@@ -28,6 +28,12 @@ pub fn each_call_once()
 /// its own call: the failed writes, or reads, before its last start and before the step that ended it.
 pub fn over_any_disk<D: DiskPort>()
     ensures { HoldsAfterEach D.means D.moves }
+{}
+
+/// Over the disk in memory the history holds exactly the entries that were seen, in order, and the two counts of a
+/// failure are those of its own call.
+pub fn entries_are_seen()
+    ensures { EntriesAreSeen }
 {}
 
 /// Over the disk in memory the world is a function of the events.
