@@ -49,3 +49,6 @@ pub fn rows()
     ensures disk { DiskRows }
     ensures refused { RefusedRows }
 {}
+
+#[cfg(test)]
+mod tests;
