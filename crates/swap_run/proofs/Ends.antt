@@ -3,7 +3,7 @@ use Rattle.std.proofs.Common.{◌≡◌, ℕ, ◌≤◌, true, false, List, ◌+
 use Rattle.std.specs.Io.KnownBytes.{Appends, Keeps}
 use Rattle.swap_io.specs.Causes.{AppendsFront, HasCause, WasReadWhole}
 use Rattle.swap_world.specs.Answered.{EachCallOnce}
-use Rattle.swap_world.specs.Laws.{AlwaysLegal}
+use Rattle.swap_world.specs.Laws.{AlwaysLegal, EntriesAreSeen}
 use Rattle.swap_world.specs.World.{World, start, reach, history}
 use Rattle.swap_script.specs.declared.TheConstants.{TEXT_LIMIT}
 use Rattle.swap_script.specs.declared.ScriptRefused.{ScriptRefused}
@@ -45,16 +45,20 @@ keeps_same None = tt
 keeps_same (Some bytes) = refl
 
 -- the headline of each script
-pub headline : AlwaysLegal → EachCallOnce → EventsInRange → ScriptsKeepTheHeadline
-headline legal once range text s e = record { legal = legal s.sizes s.inputs (range text s e); once = λ c within. once s.sizes s.inputs c within (range text s e) }
+pub headline : AlwaysLegal → EachCallOnce → EntriesAreSeen → EventsInRange → ScriptsKeepTheHeadline
+headline legal once seen range text s e = record {
+  legal = legal s.sizes s.inputs (range text s e);
+  once = λ c within. once s.sizes s.inputs c within (range text s e);
+  entries = seen s.sizes s.inputs (range text s e);
+}
 
 -- a text that was read whole, and how its run ended
-pub script_ends : AlwaysLegal → EachCallOnce → EventsInRange → (source out : Stream) (text : List ℕ) (end : Ending) → WasReadWhole source.before source.now text → length text ≤ TEXT_LIMIT → TextEnds (reading.script text) out end → ScriptEnds source out end
-script_ends legal once range source out text end read within h = go (reading.script text) end refl h
+pub script_ends : AlwaysLegal → EachCallOnce → EntriesAreSeen → EventsInRange → (source out : Stream) (text : List ℕ) (end : Ending) → WasReadWhole source.before source.now text → length text ≤ TEXT_LIMIT → TextEnds (reading.script text) out end → ScriptEnds source out end
+script_ends legal once seen range source out text end read within h = go (reading.script text) end refl h
   where
     go : (r : Result reading.Script ScriptRefused) (end : Ending) → reading.script text ≡ r → TextEnds r out end → ScriptEnds source out end
-    go (Ok s) ending.Done e h = record { script = s; read = record { text = text; was_read = read; within = within; is_script = e }; wrote = h.wrote; fault = h.fault; headline = headline legal once range text s e }
-    go (Ok s) ending.Faulted e h = record { script = s; read = record { text = text; was_read = read; within = within; is_script = e }; wrote = h.wrote; fault = h.fault; headline = headline legal once range text s e }
+    go (Ok s) ending.Done e h = record { script = s; read = record { text = text; was_read = read; within = within; is_script = e }; wrote = h.wrote; fault = h.fault; headline = headline legal once seen range text s e }
+    go (Ok s) ending.Faulted e h = record { script = s; read = record { text = text; was_read = read; within = within; is_script = e }; wrote = h.wrote; fault = h.fault; headline = headline legal once seen range text s e }
     go (Ok s) ending.Usage e h = absurd h
     go (Ok s) ending.ReadFailed e h = absurd h
     go (Ok s) ending.WriteFailed e h = record { script = s; read = record { text = text; was_read = read; within = within; is_script = e }; wrote = h.0; failed = h.1 }

@@ -10,6 +10,8 @@ use Rattle.swap_record.specs.declared.Op.TheVariants.{PageOut, PageIn, Failed}
 use Rattle.swap_record.specs.History.{History, Row, IsLegal}
 use Rattle.swap_world.specs.World.{World, start, reach, seens, history, made_by}
 use Rattle.swap_world.specs.Answered.{AreAnsweredOnce}
+use Rattle.swap_world.specs.Failures.{HoldsEntriesSeen, failed_writes_in, failed_reads_in}
+use Rattle.swap_wire.specs.Input.{Input}
 use Rattle.swap_script.specs.declared.ScriptRefused.{ScriptRefused}
 use Rattle.swap_script.specs.Reading.{Script, script, ◌>>=◌}
 use Rattle.swap_script.specs.Transcript.{transcript, line}
@@ -43,12 +45,21 @@ is_failed_row row = is_failed row.entry.op
 abbrev pub has_failed : History → Bool
 has_failed H = list_any is_failed_row H
 
+-- what was seen of each event of a script, the newest first
+abbrev pub made_of : Script → List (Input × Seen)
+made_of s = made_by [] (start s.sizes) s.inputs
+
 -- The history that a script prints is one of an array of pages that starts as zeros, and holds each caller's answered
--- calls once, in its order.
+-- calls once, in its order. It is exactly the entries that were seen, and a failure has the counts of its own call.
 pub record IsHeadline (s : Script) : Type 0 where
   pub legal : IsLegal (zeros s.sizes) (history_of s)
-  pub once : (c : Caller) → c.0 < s.sizes.callers → AreAnsweredOnce c (made_by [] (start s.sizes) s.inputs) (world_of s).device
+  pub once : (c : Caller) → c.0 < s.sizes.callers → AreAnsweredOnce c (made_of s) (world_of s).device
+  pub entries : HoldsEntriesSeen (made_of s) (history_of s)
 
 -- so has each text that is a script
 abbrev pub ScriptsKeepTheHeadline : Type 0
 ScriptsKeepTheHeadline = (text : List ℕ) (s : Script) → script text ≡ Ok s → IsHeadline s
+
+-- no call of a script fails where no disk operation was seen to fail
+abbrev pub FailsWithTheDisk : Type 0
+FailsWithTheDisk = (text : List ℕ) (s : Script) → script text ≡ Ok s → failed_writes_in (made_of s) ≡ 0 → failed_reads_in (made_of s) ≡ 0 → has_failed (history_of s) ≡ false

@@ -3,14 +3,14 @@
 
 ghost use Rattle.swap_run.specs.Clause.{Completes};
 ghost use Rattle.swap_run.specs.Rows.{QueueRows, DiskRows, RefusedRows};
-ghost use Rattle.swap_run.specs.Run.{ScriptsKeepTheHeadline};
+ghost use Rattle.swap_run.specs.Run.{FailsWithTheDisk, ScriptsKeepTheHeadline};
 
 mod print;
 mod run;
 
 pub use run::run_lab;
 use swap_script::{ScriptRefused, events_in_range};
-use swap_world::{always_legal, each_call_once};
+use swap_world::{always_legal, each_call_once, entries_are_seen};
 
 /// How a call of the program ends.
 #[derive(Clone, Copy, Debug, PartialEq, Eq)]
@@ -28,12 +28,22 @@ pub enum Ending {
 }
 
 /// Whatever a script's events are and whatever fails, the history that its transcript prints is one of an array of pages
-/// that starts as zeros, and holds each caller's answered calls once, in its order.
+/// that starts as zeros, and holds each caller's answered calls once, in its order. It is exactly the entries that were
+/// seen, and the two counts of a failure are those of its own call.
 pub fn scripts_keep_the_headline()
     ensures { ScriptsKeepTheHeadline }
 {
     always_legal();
     each_call_once();
+    entries_are_seen();
+    events_in_range();
+}
+
+/// A script's call fails only where the local disk failed: where no disk operation was seen to fail, no call failed.
+pub fn fails_with_the_disk()
+    ensures { FailsWithTheDisk }
+{
+    entries_are_seen();
     events_in_range();
 }
 

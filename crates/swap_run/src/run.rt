@@ -14,7 +14,7 @@ use swap_disk::MemDisk;
 use swap_io::{LineBuf, Sink, Source, WholeRefused, read_whole, write_line};
 use swap_record::{Op, Record};
 use swap_script::{Script, TEXT_LIMIT, events_in_range, read_script, refusal_line};
-use swap_world::{World, always_legal, each_call_once};
+use swap_world::{World, always_legal, each_call_once, entries_are_seen};
 
 // Whether an entry is of a call that failed.
 fn is_failed(op: Op) -> bool
@@ -105,6 +105,7 @@ fn run_script<S: Source, K: Sink>(
 {
     always_legal();
     each_call_once();
+    entries_are_seen();
     events_in_range();
     match read_whole(alloc, source, TEXT_LIMIT) {
         Ok(text) => run_text(alloc, &text, line, out),

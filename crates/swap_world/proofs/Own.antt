@@ -1,5 +1,5 @@
 -- The history holds exactly the entries that were seen, and each failure has the counts of its own call.
-use Rattle.std.proofs.Common.{◌≡◌, ℕ, ◌+◌, ◌<◌, Bool, true, false, cond, nat_lt, List, [], ◌∷◌, length, refl, sym, ap, ◌∙◌, subst, is_none, is_some, inl, inr, ◌⊎◌, Option, None, Some}
+use Rattle.std.proofs.Common.{◌≡◌, ℕ, ◌+◌, ◌<◌, Bool, true, false, cond, nat_lt, List, [], ◌∷◌, refl, sym, subst, is_none, is_some, inl, inr, ◌⊎◌, Option, None, Some}
 use Rattle.std.proofs.lemmas.Bool.{ltb-true}
 use Rattle.std.specs.List.{AllByRecursion}
 use Rattle.swap_base.specs.declared.Page.{Page}
@@ -13,28 +13,28 @@ use Rattle.swap_wire.specs.declared.Event.{Event}
 use Rattle.swap_wire.specs.declared.Event.TheVariants as event
 use Rattle.swap_wire.specs.declared.Seen.{Seen}
 use Rattle.swap_wire.specs.declared.Seen.TheVariants as seen
-use Rattle.swap_record.specs.History.{Row, History, last, next_name}
+use Rattle.swap_record.specs.History.{Row, last, next_name}
 use Rattle.swap_queue.specs.Queue as queue
 use Rattle.swap_queue.specs.Queue.{Copy}
 use Rattle.swap_disk.specs.Disk.{Taken}
 use Rattle.swap_disk.specs.Drive.{port_of, Moves}
 use Rattle.swap_disk.specs.Port.{Port, DiskCall, DiskAnswer, Follows}
-use Rattle.swap_calls.specs.Calls.{Call, Calls, state_of, call_of, is_idle, idle}
+use Rattle.swap_calls.specs.Calls.{Call, state_of, call_of, is_idle, idle}
 use Rattle.swap_base.specs.declared.Via.TheVariants as via
 use Rattle.swap_calls.specs.declared.Arrived.TheVariants as arrived
 use Rattle.swap_calls.specs.declared.CallState.{CallState}
 use Rattle.swap_calls.specs.declared.CallState.TheVariants.{Idle, Room, Reading}
 use Rattle.swap_device.specs.Ports.{Prog, answering, Leads}
 use Rattle.swap_device.specs.Device.{Device, new, route, route_by, routed_again, out, finish, finish_by, disk_start, start_front, start_copy, took, took_back, wrote}
-use Rattle.swap_device.specs.Fits.{Fits, IsBlank, KeepsNewest, trusted, IsFaithfulFrom}
+use Rattle.swap_device.specs.Fits.{IsBlank, KeepsNewest, trusted, IsFaithfulFrom}
 use Rattle.swap_device.specs.declared.OutStep.{OutStep}
 use Rattle.swap_device.specs.declared.Step.{Step}
 use Rattle.swap_device.specs.declared.DiskStep.{DiskStep}
 use Rattle.swap_device.proofs.Lists.{chosen, All-get_or}
 use Rattle.swap_device.proofs.Programs.{Leads-answering, Leads-Along}
-use Rattle.swap_world.specs.Failures.{before_start, failed_writes_in, failed_reads_in, HasItsCounts, HoldsEntry, HoldsEntriesSeen}
-use Rattle.swap_world.specs.Runs.{IsRun, begin, effect, without, entry_seen, has_effect}
-use Rattle.swap_world.specs.World.{World, start, next, reach, made_by, happens, taken_if, see_out, see_in, see_step, see_start, see_disk, IsStep}
+use Rattle.swap_world.specs.Failures.{before_start, HasItsCounts, HoldsEntry, HoldsEntriesSeen}
+use Rattle.swap_world.specs.Runs.{IsRun, begin, effect, without, entry_seen}
+use Rattle.swap_world.specs.World.{World, start, next, reach, made_by, happens, taken_if, see_out, see_in, see_step, see_start, see_disk}
 use Rattle.swap_world.proofs.Counts.{AreCounted, Counts, counted_after, happens_counts, run_counts}
 use Rattle.swap_world.proofs.Starts.{Since, SinceIn, starts, since_new}
 use Rattle.swap_world.specs.Laws.{Holds, EntriesAreSeen}
@@ -140,6 +140,7 @@ module _ {D : Type 0} (moves : D → (c : DiskCall) → DiskAnswer c → D → T
     where
       P : Option EntryNo → Type 0
       P o = HoldsEntry (HoldsEntriesSeen made) made d'.history o
+
       go : ((entry_seen s ≡ None) × (d'.history ≡ d.history)) ⊎ ((entry_seen s ≡ Some (next_name d.history)) × (row : Row) × (d'.history ≡ row ∷ d.history) × HasItsCounts row.entry.caller made row.entry.op) → P (entry_seen s)
       go (inl (n, e)) = subst P (sym n) (let Q : List Row → Type 0 = λ H. HoldsEntriesSeen made H in subst Q (sym e) h)
       go (inr (n, row, e, own)) = subst P (sym n) (let Q : List Row → Type 0 = λ H. HoldsEntry (HoldsEntriesSeen made) made H (Some (next_name d.history)) in subst Q (sym e) (refl, own, h))

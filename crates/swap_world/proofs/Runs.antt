@@ -11,16 +11,15 @@ use Rattle.swap_disk.specs.Drive.{Drive, ask, port_of, new_drive, IsDrive, Moves
 use Rattle.swap_disk.specs.Follows as drives
 use Rattle.swap_device.specs.Ports.{Prog, Ret, AskDisk, Along, Leads, run}
 use Rattle.swap_device.specs.Device.{Device, new}
-use Rattle.swap_device.specs.Fits.{Fits, IsBlank, trusted, IsFaithfulFrom}
+use Rattle.swap_device.specs.Fits.{Fits, IsBlank}
 use Rattle.swap_device.proofs.Programs.{Leads-Along}
 use Rattle.swap_device.proofs.Held.{new_fits}
 use Rattle.swap_world.specs.Answered.{calls_of, with_call}
 use Rattle.swap_world.specs.World.{World, IsStep, happens, next, next_of, start, reach, made_by, history}
 use Rattle.swap_world.specs.Runs.{IsRun, begin, effect, without}
-use Rattle.swap_world.specs.Laws.{Holds}
 use Rattle.swap_world.proofs.Legal.{step_kept, happens_kept, all_faithful}
 use Rattle.swap_device.proofs.Kept.{IsKept}
-use Rattle.swap_world.proofs.Once.{OpenAt, once, starts_once, answered_once}
+use Rattle.swap_world.proofs.Once.{OpenAt, once, starts_once}
 
 pub caller_in : (T : Bool) (s : Sizes) (c : Caller) (d : Device) (p : Port) → Fits T d p → d.sizes ≡ s → c.0 < s.callers → c.0 < length d.calls
 caller_in T s c d p k e within = subst (λ n. c.0 < n) (sym (k.agrees.calls_len ∙ ap (λ (z : Sizes). z.callers) e)) within

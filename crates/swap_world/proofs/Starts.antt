@@ -1,5 +1,5 @@
 -- Each call under way keeps the count of failures from its last start.
-use Rattle.std.proofs.Common.{◌≡◌, ℕ, ◌<◌, Bool, true, false, cond, ◌&&◌, nat_lt, List, [], ◌∷◌, get_or, set, length, refl, sym, ap, ◌∙◌, subst, get_or-set_same, get_or-set_other, Option, None, Some}
+use Rattle.std.proofs.Common.{◌≡◌, ℕ, ◌<◌, Bool, true, false, cond, ◌&&◌, nat_lt, List, [], ◌∷◌, set, length, refl, sym, ap, subst, get_or-set_same, get_or-set_other, Option, None, Some}
 use Rattle.std.proofs.lemmas.Bool.{eq-eqb}
 use Rattle.swap_base.specs.declared.Page.{Page}
 use Rattle.swap_base.specs.declared.Caller.{Caller}
@@ -33,7 +33,7 @@ use Rattle.swap_device.proofs.Lists.{chosen, by_caller, not_eqb}
 use Rattle.swap_device.proofs.Agree.{get_or-map_idle}
 use Rattle.swap_device.proofs.Programs.{Leads-answering, Leads-implies}
 use Rattle.swap_world.specs.Failures.{is_of, is_start, is_start_of, before_start, failed_writes_in, failed_reads_in}
-use Rattle.swap_world.specs.World.{happens, seen_by, taken_if, see_out, see_in, see_step, see_start, see_disk}
+use Rattle.swap_world.specs.World.{happens, seen_by, taken_if, see_out, see_in, see_step, see_start}
 use Rattle.swap_world.proofs.Counts.{AreCounted}
 use Rattle.swap_world.proofs.Once.{set-idle, idle_at}
 
