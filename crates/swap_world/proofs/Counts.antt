@@ -22,7 +22,7 @@ use Rattle.swap_calls.specs.declared.Arrived.TheVariants as arrived
 use Rattle.swap_calls.specs.declared.CallState.{CallState}
 use Rattle.swap_calls.specs.declared.CallState.TheVariants.{Idle, Room, Reading}
 use Rattle.swap_device.specs.Ports.{Prog, answering, Leads}
-use Rattle.swap_device.specs.Device.{Device, new, route, route_by, routed_again, out, finish, finish_by, disk_start, start_front, start_copy, took, took_back, wrote}
+use Rattle.swap_device.specs.Device.{Device, new, route, route_by, routed_again, out, finish, finish_by, disk_start, start_front, start_copy, disk_take, took, took_back, wrote}
 use Rattle.swap_device.specs.declared.OutStep.{OutStep}
 use Rattle.swap_device.specs.declared.InStep.{InStep}
 use Rattle.swap_device.specs.declared.Step.{Step}
@@ -31,7 +31,7 @@ use Rattle.swap_device.proofs.Lists.{chosen, one_if, count_by-cons}
 use Rattle.swap_device.proofs.Programs.{Leads-answering, Leads-Along}
 use Rattle.swap_world.specs.World.{happens, taken_if, see_out, see_in, see_step, see_start, see_disk, IsStep}
 use Rattle.swap_world.specs.Failures.{is_write_failed, is_read_failed, failed_writes_in, failed_reads_in}
-use Rattle.swap_world.specs.Runs.{IsRun, begin, effect, without}
+use Rattle.swap_world.specs.Runs.{IsRun, begin, effect, without, polled, with_polled}
 
 -- the counts after an event, by what was seen of it
 pub record Counts (d : Device) (a : Device × Seen) : Type 0 where
@@ -131,10 +131,21 @@ module _ {D : Type 0} (moves : D → (c : DiskCall) → DiskAnswer c → D → T
     reads = let a = count_by-cons (λ (m : Input × Seen). is_read_failed m.1) (i, s) made in omega (arith, was.reads, now.reads, a);
   }
 
+  -- a poll
+  polled_counts : (made : List (Input × Seen)) (d d' : Device) (step : DiskStep) → AreCounted made d → Counts d (d', see_disk step) → AreCounted (with_polled step made) d'
+  polled_counts made d d' DiskStep.Nothing was now = record { writes = omega (arith, was.writes, now.writes); reads = omega (arith, was.reads, now.reads) }
+  polled_counts made d d' (DiskStep.Written p e) was now = counted_after made d d' _ (seen.Written e) was now
+  polled_counts made d d' (DiskStep.Kept p e) was now = counted_after made d d' _ (seen.WriteKept e) was now
+  polled_counts made d d' (DiskStep.Dropped p e) was now = counted_after made d d' _ (seen.WriteDropped e) was now
+  polled_counts made d d' (DiskStep.Came c p) was now = counted_after made d d' _ (seen.ReadCame p) was now
+  polled_counts made d d' (DiskStep.Failed c p) was now = counted_after made d d' _ (seen.ReadFailed p) was now
+
   pub run_counts : (s : Sizes) (first : D) (made : List (Input × Seen)) (d : Device) (disk : D) → IsRun moves (new s) first made d disk → AreCounted made d
   run_counts s first made d disk begin = record { writes = refl; reads = refl }
   run_counts s first made d disk (effect {made = before} {d = d0} {k = k0} i seen_ d' k' run range step has) =
       counted_after before d0 d' i seen_ (run_counts s first before d0 k0 run) (step_counts d0 d' k0 k' i seen_ step)
+  run_counts s first made d disk (polled {made = before} {d = d0} {k = k0} step d' k' run along) =
+      polled_counts before d0 d' step (run_counts s first before d0 k0 run) (Leads-Along moves (disk_take d0) k0 k' (d', step) (λ a _. Counts d0 (a.0, see_disk a.1)) (λ taken mid moved. took_back_counts d0 taken) along)
   run_counts s first made d disk (without {made = before} {d = d0} {k = k0} i seen_ k' run range step has) = run_counts s first before d0 k0 run
 
 pub few_failed : (made : List (Input × Seen)) → (failed_writes_in made ≤ length made) × (failed_reads_in made ≤ length made)

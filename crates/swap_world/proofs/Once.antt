@@ -265,7 +265,7 @@ module _ {D : Type 0} (moves : D → (c : DiskCall) → DiskAnswer c → D → T
   start_front_opens c d disk [] is h = h
   start_front_opens c d disk (p ∷ line) is h = start_copy_opens c d disk p (queue.next d.queue p) is h
 
-  disk_take_opens : (c : Caller) (d : Device) (disk : D) (is : List Input) → c.0 < length d.calls → OpenAt c d is → Opens c is (disk_take d) disk
+  pub disk_take_opens : (c : Caller) (d : Device) (disk : D) (is : List Input) → c.0 < length d.calls → OpenAt c d is → Opens c is (disk_take d) disk
   disk_take_opens c d disk is within h = λ taken mid moved. took_back_open c d taken is within h
 
   -- an event that is no call of this caller's

@@ -25,7 +25,7 @@ use Rattle.swap_calls.specs.declared.Arrived.TheVariants as arrived
 use Rattle.swap_calls.specs.declared.CallState.{CallState}
 use Rattle.swap_calls.specs.declared.CallState.TheVariants.{Idle, Room, Reading}
 use Rattle.swap_device.specs.Ports.{Prog, answering, Leads}
-use Rattle.swap_device.specs.Device.{Device, new, route, route_by, routed_again, out, finish, finish_by, disk_start, start_front, start_copy, took, took_back, wrote}
+use Rattle.swap_device.specs.Device.{Device, new, route, route_by, routed_again, out, finish, finish_by, disk_start, start_front, start_copy, disk_take, took, took_back, wrote}
 use Rattle.swap_device.specs.Fits.{IsBlank, KeepsNewest, trusted, IsFaithfulFrom}
 use Rattle.swap_device.specs.declared.OutStep.{OutStep}
 use Rattle.swap_device.specs.declared.Step.{Step}
@@ -33,10 +33,10 @@ use Rattle.swap_device.specs.declared.DiskStep.{DiskStep}
 use Rattle.swap_device.proofs.Lists.{chosen, All-get_or}
 use Rattle.swap_device.proofs.Programs.{Leads-answering, Leads-Along}
 use Rattle.swap_world.specs.Failures.{before_start, HasItsCounts, HoldsEntry, HoldsEntriesSeen}
-use Rattle.swap_world.specs.Runs.{IsRun, begin, effect, without, entry_seen}
+use Rattle.swap_world.specs.Runs.{IsRun, begin, effect, without, polled, with_polled, entry_seen}
 use Rattle.swap_world.specs.World.{World, start, next, reach, made_by, happens, taken_if, see_out, see_in, see_step, see_start, see_disk}
 use Rattle.swap_world.proofs.Counts.{AreCounted, Counts, counted_after, happens_counts, run_counts}
-use Rattle.swap_world.proofs.Starts.{Since, SinceIn, starts, since_new}
+use Rattle.swap_world.proofs.Starts.{Since, SinceIn, starts, since_new, took_back_since}
 use Rattle.swap_world.specs.Laws.{Holds, EntriesAreSeen}
 use Rattle.swap_world.proofs.Once.{answered_once}
 use Rattle.swap_world.proofs.Runs.{run_fits, run_once, caller_in, run_leads, IsSound, starts_sound, next_sound}
@@ -145,6 +145,23 @@ module _ {D : Type 0} (moves : D → (c : DiskCall) → DiskAnswer c → D → T
       go (inl (n, e)) = subst P (sym n) (let Q : List Row → Type 0 = λ H. HoldsEntriesSeen made H in subst Q (sym e) h)
       go (inr (n, row, e, own)) = subst P (sym n) (let Q : List Row → Type 0 = λ H. HoldsEntry (HoldsEntriesSeen made) made H (Some (next_name d.history)) in subst Q (sym e) (refl, own, h))
 
+-- the end of an operation starts nothing, and adds no entry
+start_polled : (c : Caller) (made : List (Input × Seen)) (step : DiskStep) → before_start c (with_polled step made) ≡ before_start c made
+start_polled c made DiskStep.Nothing = refl
+start_polled c made (DiskStep.Written p e) = refl
+start_polled c made (DiskStep.Kept p e) = refl
+start_polled c made (DiskStep.Dropped p e) = refl
+start_polled c made (DiskStep.Came e p) = refl
+start_polled c made (DiskStep.Failed e p) = refl
+
+polled_holds : (made : List (Input × Seen)) (H : List Row) (step : DiskStep) → HoldsEntry (HoldsEntriesSeen made) made H (entry_seen (see_disk step)) → HoldsEntriesSeen (with_polled step made) H
+polled_holds made H DiskStep.Nothing h = h
+polled_holds made H (DiskStep.Written p e) h = h
+polled_holds made H (DiskStep.Kept p e) h = h
+polled_holds made H (DiskStep.Dropped p e) h = h
+polled_holds made H (DiskStep.Came c p) h = h
+polled_holds made H (DiskStep.Failed c p) h = h
+
 module _ {D : Type 0} (means : D → Port) (moves : D → (c : DiskCall) → DiskAnswer c → D → Type 0) (follows : (d : D) (c : DiskCall) (answer : DiskAnswer c) (e : D) → moves d c answer e → Follows (means d) c answer (means e)) where
   pub run_since : (s : Sizes) (first : D) (made : List (Input × Seen)) (d : Device) (disk : D) (c : Caller) → c.0 < s.callers → IsBlank s (means first) → IsRun moves (new s) first made d disk → SinceIn c (before_start c made) d.calls
   run_since s first made d disk c within blank begin = since_new s c
@@ -152,6 +169,11 @@ module _ {D : Type 0} (means : D → Port) (moves : D → (c : DiskCall) → Dis
       let was = run_fits means moves follows s first before d0 k0 blank run in
       Leads-Along moves (happens d0 i.page i.event) k0 k' (d', seen_) (λ a _. SinceIn c (before_start c ((i, a.1) ∷ before)) a.0.calls)
       (starts moves c before d0 k0 i.page i.event (run_counts moves s first before d0 k0 run) (caller_in _ s c d0 (means k0) was.0 was.1 within) (run_since s first before d0 k0 c within blank run)) step
+  run_since s first made d disk c within blank (polled {made = before} {d = d0} {k = k0} step d' k' run along) =
+      let was = run_fits means moves follows s first before d0 k0 blank run in
+      let now = Leads-Along moves (disk_take d0) k0 k' (d', step) (λ a _. SinceIn c (before_start c before) a.0.calls)
+      (λ taken mid moved. took_back_since c (before_start c before) d0 taken (caller_in _ s c d0 (means k0) was.0 was.1 within) (run_since s first before d0 k0 c within blank run)) along in
+      subst (λ b. SinceIn c b d'.calls) (sym (start_polled c before step)) now
   run_since s first made d disk c within blank (without {made = before} {d = d0} {k = k0} i seen_ k' run range step has) = run_since s first before d0 k0 c within blank run
 
   pub holds_entries : (s : Sizes) (first : D) (made : List (Input × Seen)) (d : Device) (disk : D) → IsBlank s (means first) → IsRun moves (new s) first made d disk → HoldsEntriesSeen made d.history
@@ -163,6 +185,9 @@ module _ {D : Type 0} (means : D → Port) (moves : D → (c : DiskCall) → Dis
       (Leads-Along moves (happens d0 i.page i.event) k0 k' (d', seen_) (λ a _. AddsSeen before d0 a)
       (happens_seen moves before d0 k0 i.page i.event (run_counts moves s first before d0 k0 run) keep (subst (λ z. IsInRange z i.event) (sym was.1) range)) step)
       (holds_entries s first before d0 k0 blank run)
+  holds_entries s first made d disk blank (polled {made = before} {d = d0} {k = k0} step d' k' run along) =
+      let adds = Leads-Along moves (disk_take d0) k0 k' (d', step) (λ a _. AddsSeen before d0 (a.0, see_disk a.1)) (λ taken mid moved. took_back_seen before d0 taken) along in
+      polled_holds before d'.history step (holds_entry moves before d0 d' (see_disk step) adds (holds_entries s first before d0 k0 blank run))
   holds_entries s first made d disk blank (without {made = before} {d = d0} {k = k0} i seen_ k' run range step has) = holds_entries s first before d0 k0 blank run
 
   -- over any disk

@@ -10,16 +10,17 @@ use Rattle.swap_disk.specs.Port.{Port, DiskCall, DiskAnswer, Follows}
 use Rattle.swap_disk.specs.Drive.{Drive, ask, port_of, new_drive, IsDrive, Moves}
 use Rattle.swap_disk.specs.Follows as drives
 use Rattle.swap_device.specs.Ports.{Prog, Ret, AskDisk, Along, Leads, run}
-use Rattle.swap_device.specs.Device.{Device, new}
+use Rattle.swap_device.specs.declared.DiskStep.{DiskStep}
+use Rattle.swap_device.specs.Device.{Device, new, disk_take}
 use Rattle.swap_device.specs.Fits.{Fits, IsBlank}
 use Rattle.swap_device.proofs.Programs.{Leads-Along}
 use Rattle.swap_device.proofs.Held.{new_fits}
 use Rattle.swap_world.specs.Answered.{calls_of, with_call}
 use Rattle.swap_world.specs.World.{World, IsStep, happens, next, next_of, start, reach, made_by, history}
-use Rattle.swap_world.specs.Runs.{IsRun, begin, effect, without}
+use Rattle.swap_world.specs.Runs.{IsRun, begin, effect, without, polled, with_polled}
 use Rattle.swap_world.proofs.Legal.{step_kept, happens_kept, all_faithful}
-use Rattle.swap_device.proofs.Kept.{IsKept}
-use Rattle.swap_world.proofs.Once.{OpenAt, once, starts_once}
+use Rattle.swap_device.proofs.Kept.{IsKept, disk_take_kept}
+use Rattle.swap_world.proofs.Once.{OpenAt, disk_take_opens, once, starts_once}
 
 pub caller_in : (T : Bool) (s : Sizes) (c : Caller) (d : Device) (p : Port) → Fits T d p → d.sizes ≡ s → c.0 < s.callers → c.0 < length d.calls
 caller_in T s c d p k e within = subst (λ n. c.0 < n) (sym (k.agrees.calls_len ∙ ap (λ (z : Sizes). z.callers) e)) within
@@ -33,6 +34,18 @@ module _ {D : Type 0} (means : D → Port) (moves : D → (c : DiskCall) → Dis
   run_fits s first made d disk blank (without {made = before} {d = d0} {k = k0} i seen_ k' run range step has) =
       let was = run_fits s first before d0 k0 blank run in
       let now = step_kept means moves follows (is_some (means first).blocks) d0 d0 k0 k' i seen_ was.0 (subst (λ z. IsInRange z i.event) (sym was.1) range) step in (now.0, was.1)
+  run_fits s first made d disk blank (polled {made = before} {d = d0} {k = k0} step d' k' run along) =
+      let was = run_fits s first before d0 k0 blank run in
+      let now = Leads-Along moves (disk_take d0) k0 k' (d', step) (λ a e. IsKept means moves follows (is_some (means first).blocks) d0.sizes a e) (disk_take_kept means moves follows (is_some (means first).blocks) d0 k0 was.0) along in (now.0, now.1 ∙ was.1)
+
+  -- the end of an operation is no call
+  calls_polled : (c : Caller) (made : List (Input × Seen)) (step : DiskStep) → calls_of c (with_polled step made) ≡ calls_of c made
+  calls_polled c made DiskStep.Nothing = refl
+  calls_polled c made (DiskStep.Written p e) = refl
+  calls_polled c made (DiskStep.Kept p e) = refl
+  calls_polled c made (DiskStep.Dropped p e) = refl
+  calls_polled c made (DiskStep.Came e p) = refl
+  calls_polled c made (DiskStep.Failed e p) = refl
 
   pub run_once : (s : Sizes) (first : D) (made : List (Input × Seen)) (d : Device) (disk : D) (c : Caller) → c.0 < s.callers → IsBlank s (means first) → IsRun moves (new s) first made d disk → OpenAt c d (calls_of c made)
   run_once s first made d disk c within blank begin = starts_once s c
@@ -40,6 +53,10 @@ module _ {D : Type 0} (means : D → Port) (moves : D → (c : DiskCall) → Dis
       let was = run_fits s first before d0 k0 blank run in
       Leads-Along moves (happens d0 i.page i.event) k0 k' (d', seen_) (λ a _. OpenAt c a.0 (with_call c i a.1 (calls_of c before)))
       (once moves c d0 k0 i.page i.event (calls_of c before) (caller_in _ s c d0 (means k0) was.0 was.1 within) (run_once s first before d0 k0 c within blank run)) step
+  run_once s first made d disk c within blank (polled {made = before} {d = d0} {k = k0} step d' k' run along) =
+      let was = run_fits s first before d0 k0 blank run in
+      let now = Leads-Along moves (disk_take d0) k0 k' (d', step) (λ a _. OpenAt c a.0 (calls_of c before)) (disk_take_opens moves c d0 k0 (calls_of c before) (caller_in _ s c d0 (means k0) was.0 was.1 within) (run_once s first before d0 k0 c within blank run)) along in
+      subst (λ is. OpenAt c d' is) (sym (calls_polled c before step)) now
   run_once s first made d disk c within blank (without {made = before} {d = d0} {k = k0} i seen_ k' run range step has) = run_once s first before d0 k0 c within blank run
 
 -- over the disk in memory: what a program leads to is what it computes

@@ -89,7 +89,7 @@ took_since c before d (which.Write q) p ok bytes within h = wrote_since c before
 took_since c before d (which.Read e) p true bytes within h = arrived_since c e before d.calls arrived.Came bytes within h
 took_since c before d (which.Read e) p false bytes within h = arrived_since c e before d.calls arrived.Failed [] within h
 
-took_back_since : (c : Caller) (before : List (Input × Seen)) (d : Device) (taken : Option Taken) → c.0 < length d.calls → SinceIn c before d.calls → SinceIn c before (took_back d taken).0.calls
+pub took_back_since : (c : Caller) (before : List (Input × Seen)) (d : Device) (taken : Option Taken) → c.0 < length d.calls → SinceIn c before d.calls → SinceIn c before (took_back d taken).0.calls
 took_back_since c before d None within h = h
 took_back_since c before d (Some t) within h = took_since c before d t.done.which t.done.page t.done.ok t.bytes within h
 

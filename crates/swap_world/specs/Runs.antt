@@ -1,5 +1,5 @@
 -- Runs of events over any disk.
-use Rattle.std.specs.Prelude.{◌≡◌, ◌+◌, ◌-◌, ◌<◌, ◌≤◌, Bool, true, false, not, ℕ, List, [], ◌∷◌, ◌++◌, length, count_by, MatchOption, Option, None, Some}
+use Rattle.std.specs.Prelude.{◌≡◌, ◌+◌, ◌-◌, ◌<◌, ◌≤◌, ◌↔◌, Bool, true, false, not, ℕ, List, [], ◌∷◌, ◌++◌, length, count_by, MatchOption, Option, None, Some}
 use Rattle.swap_base.specs.declared.EntryNo.{EntryNo}
 use Rattle.swap_base.specs.Sizes.{Sizes}
 use Rattle.swap_wire.specs.Input.{Input, IsInRange}
@@ -8,12 +8,17 @@ use Rattle.swap_wire.specs.declared.Event.TheVariants as event
 use Rattle.swap_wire.specs.declared.Seen.{Seen}
 use Rattle.swap_wire.specs.declared.Seen.TheVariants as seen
 use Rattle.swap_record.specs.History.{History}
-use Rattle.swap_disk.specs.Port.{Port, DiskCall, DiskAnswer}
+use Rattle.swap_base.specs.declared.DiskWhich.TheVariants as which
+use Rattle.swap_disk.specs.Disk.{Taken}
+use Rattle.swap_disk.specs.Port.{Port, DiskCall, DiskAnswer, TakeDone}
 use Rattle.swap_calls.specs.Calls.{Call, is_idle, state_of}
-use Rattle.swap_device.specs.Device.{Device, Core, new}
+use Rattle.swap_device.specs.Ports.{Along}
+use Rattle.swap_device.specs.declared.DiskStep.{DiskStep}
+use Rattle.swap_device.specs.declared.DiskStep.TheVariants as ends
+use Rattle.swap_device.specs.Device.{Device, Core, new, disk_take, took_back}
 use Rattle.swap_device.specs.Fits.{IsBlank}
 use Rattle.swap_device.specs.State.{GivesLast}
-use Rattle.swap_world.specs.World.{IsStep}
+use Rattle.swap_world.specs.World.{IsStep, see_disk}
 
 -- an event has an effect unless nothing is seen of it, or a caller is told to wait on
 abbrev pub has_effect : Event → Seen → Bool
@@ -24,14 +29,34 @@ has_effect (event.Finish c) (seen.Wait via) = false
 has_effect (event.Finish c) seen.Room = false
 has_effect e s = true
 
+-- the event of an operation that the disk ended by itself, by what became of it
+abbrev pub event_of : DiskStep → Option Event
+event_of ends.Nothing = None
+event_of (ends.Written page entry) = Some (event.Disk (which.Write page) true)
+event_of (ends.Kept page entry) = Some (event.Disk (which.Write page) false)
+event_of (ends.Dropped page entry) = Some (event.Disk (which.Write page) false)
+event_of (ends.Came caller page) = Some (event.Disk (which.Read caller) true)
+event_of (ends.Failed caller page) = Some (event.Disk (which.Read caller) false)
+
+-- what was made, with such an event
+abbrev pub made_with : Option Event → Seen → List (Input × Seen) → List (Input × Seen)
+made_with None s made = made
+made_with (Some e) s made = (record { event = e; page = [] }, s) ∷ made
+
+abbrev pub with_polled : DiskStep → List (Input × Seen) → List (Input × Seen)
+with_polled step made = made_with (event_of step) (see_disk step) made
+
 -- A run from a device and its disk, with the events that had an effect and what was seen of each, the newest
--- first. Events without an effect leave the device as it was, and the disk where the disk is in memory.
+-- first. Events without an effect leave the device as it was, and the disk where the disk is in memory. A disk that
+-- ends its operations by itself is polled; what it ended counts as an event.
 pub data IsRun {D : Type 0} (moves : D → (c : DiskCall) → DiskAnswer c → D → Type 0) (first : Device) (disk : D) : List (Input × Seen) → Device → D → Type 0 where
   begin : IsRun moves first disk [] first disk
   effect : {made : List (Input × Seen)} {d : Device} {k : D} (i : Input) (s : Seen) (d' : Device) (k' : D)
       → IsRun moves first disk made d k → IsInRange first.sizes i.event → IsStep moves d k i s d' k' → has_effect i.event s ≡ true → IsRun moves first disk ((i, s) ∷ made) d' k'
   without : {made : List (Input × Seen)} {d : Device} {k : D} (i : Input) (s : Seen) (k' : D)
       → IsRun moves first disk made d k → IsInRange first.sizes i.event → IsStep moves d k i s d k' → has_effect i.event s ≡ false → IsRun moves first disk made d k'
+  polled : {made : List (Input × Seen)} {d : Device} {k : D} (step : DiskStep) (d' : Device) (k' : D)
+      → IsRun moves first disk made d k → Along moves (disk_take d) k k' (d', step) → IsRun moves first disk (with_polled step made) d' k'
 
 -- a device over its disk, its events that had an effect with what was seen of each, the oldest first, and for how
 -- many more there is room
@@ -52,6 +77,23 @@ pub record IsReached {D : Type 0} (means : D → Port) (moves : D → (c : DiskC
   pub blank : IsBlank sizes (means first)
   pub run : IsRun moves (new sizes) first made core.device core.disk
   pub logged : log ≡ logged_of made
+
+-- the log after a poll
+abbrev pub logged_with : Option Event → Seen → List (Event × Seen) → List (Event × Seen)
+logged_with None s log = log
+logged_with (Some e) s log = log ++ (e, s) ∷ []
+
+abbrev pub logged_polled : DiskStep → List (Event × Seen) → List (Event × Seen)
+logged_polled step log = logged_with (event_of step) (see_disk step) log
+
+-- a poll took what the disk gave; nothing is seen of it exactly where the disk gave nothing
+pub record IsPolled {D : Type 0} (moves : D → (c : DiskCall) → DiskAnswer c → D → Type 0) (d : Device) (k : D) (log : List (Event × Seen)) (s : Seen) (d' : Device) (k' : D) (log' : List (Event × Seen)) : Type 0 where
+  pub taken : Option Taken
+  pub moved : moves k TakeDone taken k'
+  pub device : d' ≡ (took_back d taken).0
+  pub answer : s ≡ see_disk (took_back d taken).1
+  pub logged : log' ≡ logged_polled (took_back d taken).1 log
+  pub nothing : (s ≡ seen.Nothing) ↔ (taken ≡ None)
 
 -- the log and its room after an event
 abbrev pub logged_if : Bool → List (Event × Seen) → Event → Seen → List (Event × Seen)

@@ -4,12 +4,12 @@ ghost use Rattle.swap_device.specs.Device.{new};
 ghost use Rattle.swap_device.specs.Fits.{IsBlank};
 ghost use Rattle.swap_device.specs.State.{KeepsRoom};
 ghost use Rattle.swap_world.specs.World.{IsStep, see_out, see_in, see_step, see_start, see_disk};
-ghost use Rattle.swap_world.specs.Runs.{has_effect, logged_if, one_less_if, HasSpare, GivesPage, GoesOn, StandsIn, GrowsByCalls};
+ghost use Rattle.swap_world.specs.Runs.{has_effect, event_of, logged_if, logged_polled, IsPolled, one_less_if, HasSpare, GivesPage, GoesOn, StandsIn, GrowsByCalls};
 
 use crate::events::happen;
 use std::alloc::Global;
 use std::marker::Model;
-use swap_base::{EntryNo, Geometry, NoMemory, Page};
+use swap_base::{DiskWhich, EntryNo, Geometry, NoMemory, Page};
 use swap_device::{DeviceCore, DiskStep, InStep, OutStep, Step};
 use swap_disk::DiskPort;
 use swap_record::ReserveRefused;
@@ -76,6 +76,20 @@ impl<D: DiskPort> World<D> {
         seen
     }
 
+    /// Takes one operation that the disk ended by itself, and logs it as the event of its end. `Nothing` comes exactly
+    /// where the disk had none.
+    pub fn poll_disk(&mut self) -> Seen
+        requires log_spare { 0 < self.old.log_spare }
+        ensures polled { IsPolled D.moves self.old.core.device self.old.core.disk self.old.log result self.new.core.device self.new.core.disk self.new.log }
+        ensures room { KeepsRoom self.old.core self.new.core }
+    {
+        let _len = self.log.len();
+        let _capacity = self.log.capacity();
+        let step = self.device.disk_take();
+        note_end(&mut self.log, step);
+        see_disk(step)
+    }
+
     /// For how many more entries there is room.
     pub fn spare(&self) -> u32
         ensures { result ≡ self.now.core.spare }
@@ -135,6 +149,33 @@ fn note(log: &mut Vec<(Event, Seen)>, event: &Event, seen: Seen)
 {
     if has_effect(event, &seen) {
         log.push_reserved((*event, seen));
+    }
+}
+
+// The event of an operation that the disk ended by itself.
+fn event_of(step: DiskStep) -> Option<Event>
+    ensures { result ≡ event_of step }
+{
+    let (which, ok) = match step {
+        DiskStep::Nothing => return None,
+        DiskStep::Written { page, .. } => (DiskWhich::Write(page), true),
+        DiskStep::Kept { page, .. } | DiskStep::Dropped { page, .. } => {
+            (DiskWhich::Write(page), false)
+        }
+        DiskStep::Came { caller, .. } => (DiskWhich::Read(caller), true),
+        DiskStep::Failed { caller, .. } => (DiskWhich::Read(caller), false),
+    };
+    Some(Event::Disk { which, ok })
+}
+
+// The end of an operation is logged.
+fn note_end(log: &mut Vec<(Event, Seen)>, step: DiskStep)
+    requires { vec_len log.old < vec_capacity log.old }
+    ensures items { log.new.items ≡ logged_polled step log.old.items }
+    ensures capacity { vec_capacity log.new ≡ vec_capacity log.old }
+{
+    if let Some(event) = event_of(step) {
+        log.push_reserved((event, see_disk(step)));
     }
 }
 
