@@ -292,6 +292,23 @@ fn a_source_that_fails_leaves_out_empty(rt: HostRuntime) -> Result<(), Fail> {
 }
 
 #[test]
+fn a_read_that_is_not_made_does_not_fail(rt: HostRuntime) -> Result<(), Fail> {
+    let ran = run_script(rt.alloc(), PAGED, Failing { read: 2, ..NONE })?;
+    let out =
+        "geometry 8 4 2 4 2 4 20\nout 0 3 = entry 0 out 3 aa\nin 0 3 = entry 1 in 3 of 0 queue aa\nend 2\n";
+    judge(&rt, "read 2", &ran, (out, "", 0))
+}
+
+#[test]
+fn a_script_of_the_disk_breaks_off_at_its_second_event(rt: HostRuntime) -> Result<(), Fail> {
+    let text =
+        "geometry 8 4 2 4 2 4 20\nout 0 3 aa\nstart\ndisk write 3 ok\nin 0 3\ndisk read 0 ok\nfinish 0\n";
+    let ran = run_script(rt.alloc(), text, Failing { out: 2, ..NONE })?;
+    let front = "geometry 8 4 2 4 2 4 20\nout 0 3 = entry 0 out 3 aa\n";
+    judge(&rt, "write 2", &ran, (front, "write failed\n", 4))
+}
+
+#[test]
 fn a_sink_that_fails_holds_the_lines_before(rt: HostRuntime) -> Result<(), Fail> {
     for (out, front) in FRONTS {
         let ran = run_script(rt.alloc(), PAGED, Failing { out, ..NONE })?;
