@@ -28,6 +28,12 @@ ZerosBeforeAnyPageOut =
     (codes "geometry 8 4 2 4 2 4 20" ∷ codes "in 0 5" ∷ [])
     (codes "geometry 8 4 2 4 2 4 20" ∷ codes "in 0 5 = entry 0 in 5 of none zero 00" ∷ codes "end 1" ∷ [])
 
+abbrev pub PageInOfTheLastPage : Type 0
+PageInOfTheLastPage =
+    Gives
+    (codes "geometry 8 4 2 4 2 4 20" ∷ codes "in 0 7" ∷ [])
+    (codes "geometry 8 4 2 4 2 4 20" ∷ codes "in 0 7 = entry 0 in 7 of none zero 00" ∷ codes "end 1" ∷ [])
+
 abbrev pub PageInFromTheQueue : Type 0
 PageInFromTheQueue =
     Gives
@@ -109,7 +115,7 @@ CallerBeforePage = Refuses (text (codes "geometry 8 4 2 4 2 4 20" ∷ codes "in 
 -- the rows of page-outs and page-ins from zeros and the queue
 abbrev pub QueueRows : Type 0
 QueueRows =
-    HeaderAlone × ZerosBeforeAnyPageOut × PageInFromTheQueue × PatternIsPrintedShortest
+    HeaderAlone × ZerosBeforeAnyPageOut × PageInOfTheLastPage × PageInFromTheQueue × PatternIsPrintedShortest
 
 -- the rows of the disk
 abbrev pub DiskRows : Type 0

@@ -5,7 +5,7 @@ use Rattle.swap_run.proofs.rows.Goals as goal
 
 pub returns-clause-queue : goal.returns-clause-queue
 unfolding digits
-returns-clause-queue c = (refl, refl, refl, refl)
+returns-clause-queue c = (refl, refl, refl, refl, refl)
 
 pub returns-clause-disk : goal.returns-clause-disk
 unfolding digits
