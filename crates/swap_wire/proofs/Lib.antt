@@ -1,0 +1,7 @@
+pub mod Bytes
+pub mod Fields
+pub mod Buffers
+pub mod Unique
+pub mod Judging
+pub mod Answering
+pub mod Streaming
