@@ -1,0 +1,5 @@
+use Rattle.swap_link.specs.Whole.{new_is_harbor, ask_keeps}
+use Rattle.swap_link.proofs.calls_keep.Goals as goal
+
+pub returns : goal.returns
+returns c = record { made = new_is_harbor; called = ask_keeps }
