@@ -1,0 +1,105 @@
+-- What a device keeps of its lenders: the pages that remote memory has, the state of each slab, and the links.
+use Rattle.std.specs.Prelude.{ℕ, ◌+◌, Bool, true, false, ◌&&◌, ◌==◌, not, if◌then◌else◌, List, [], ◌∷◌, Option, None, Some}
+use Rattle.swap_base.specs.declared.Page.{Page}
+use Rattle.swap_base.specs.declared.Slab.{Slab}
+use Rattle.swap_base.specs.declared.Lender.{Lender}
+use Rattle.swap_base.specs.declared.Lease.{Lease}
+use Rattle.swap_base.specs.Sizes.{Sizes, pages_of, slab_of, place_of}
+use Rattle.swap_bits.specs.Bits.{no_numbers, has, with_number, without_number}
+use Rattle.swap_slabs.specs.Slabs as slabs
+use Rattle.swap_slabs.specs.declared.SlabState.{SlabState}
+use Rattle.swap_slabs.specs.declared.SlabState.TheVariants.{Local, Asking, Borrowing, Mapped, Draining}
+use Rattle.swap_slabs.specs.declared.TheConstants.{MOST_LENDERS}
+use Rattle.swap_rings.specs.Rings as rings
+use Rattle.swap_rings.specs.Rings.{LinkState}
+use Rattle.swap_rings.specs.declared.Request.{Request}
+use Rattle.swap_rings.specs.declared.Request.TheVariants as request
+
+-- a set bit says that the page can be read from its slab's lender
+pub record Remote : Type 0 where
+  pub bits : List Bool
+  pub slabs : List SlabState
+  pub links : List LinkState
+
+-- with the sizes of the device
+pub record Table : Type 0 where
+  pub sizes : Sizes
+  pub remote : Remote
+
+-- no link is up, no slab mapped, no bit set
+abbrev pub none : Sizes → Remote
+none s = record { bits = no_numbers (pages_of s); slabs = slabs.all_local s.slabs; links = rings.all_down MOST_LENDERS }
+
+-- the slab of a page, and its state
+abbrev pub slab_for : Sizes → Page → Slab
+slab_for s page = record { 0 = slab_of s page.0 }
+
+abbrev pub state_for : Sizes → List SlabState → Page → SlabState
+state_for s states page = slabs.state_of states (slab_for s page)
+
+-- where a page lies: the lender and the lease of its slab, while the slab is mapped
+abbrev pub mapping : SlabState → Option (Lender × Lease)
+mapping Local = None
+mapping (Asking pair) = None
+mapping (Borrowing lender) = None
+mapping (Mapped lender lease flying) = Some (lender, lease)
+mapping (Draining lender lease flying) = None
+
+-- and where its link takes a request now
+abbrev pub open_at : Sizes → List LinkState → Option (Lender × Lease) → Option (Lender × Lease)
+open_at s links None = None
+open_at s links (Some place) = if rings.may_send s.window (rings.link_of links place.0) then Some place else None
+
+abbrev pub target : Sizes → Remote → Page → Option (Lender × Lease)
+target s r page = open_at s r.links (mapping (state_for s r.slabs page))
+
+-- remote memory can be read for this page
+abbrev pub has_page : Remote → Page → Bool
+has_page r page = has r.bits page.0
+
+-- the message names the page: its slab has this lease of the lender, and the page this place
+abbrev pub names_page : Sizes → Remote → Lender → Page → Lease → ℕ → Bool
+names_page s r lender page lease place = slabs.has_lease lender lease (state_for s r.slabs page) && place_of s page.0 == place
+
+-- a page was changed: remote memory can't be read for it
+abbrev pub changed : Remote → Page → Remote
+changed r page = record r { bits = without_number r.bits page.0 }
+
+-- a request for a page was sent to the lender of its slab
+abbrev pub sent_for : Sizes → Remote → Lender → Page → Request → Remote
+sent_for s r lender page item = record r { slabs = slabs.begun r.slabs (slab_for s page); links = rings.sent r.links lender item }
+
+-- a slab is borrowed, lent, or refused
+abbrev pub borrow_sent : Remote → Slab → Lender → Remote
+borrow_sent r slab lender = record r { slabs = slabs.borrowed r.slabs slab lender; links = rings.sent r.links lender (request.Borrow slab) }
+
+abbrev pub lent : Remote → Lender → Slab → Lease → Remote
+lent r lender slab lease = record r { slabs = slabs.lent r.slabs slab lease; links = rings.answered r.links lender }
+
+abbrev pub refused : Remote → Lender → Slab → Remote
+refused r lender slab = record r { slabs = slabs.refused r.slabs slab; links = rings.answered r.links lender }
+
+-- the oldest request, one for this page, was answered
+abbrev pub settled_for : Sizes → Remote → Lender → Page → Remote
+settled_for s r lender page = record r { slabs = slabs.settled r.slabs (slab_for s page); links = rings.answered r.links lender }
+
+-- and it was a write: remote memory can be read for the page where the slab is mapped and the page is as it was written
+abbrev pub with_page_if : Bool → Remote → Page → Remote
+with_page_if true r page = record r { bits = with_number r.bits page.0 }
+with_page_if false r page = r
+
+abbrev pub written : Sizes → Remote → Lender → Page → Bool → Remote
+written s r lender page newest = with_page_if (newest && slabs.is_mapped (state_for s r.slabs page)) (settled_for s r lender page) page
+
+-- the pages from n on that aren't at a lender
+abbrev pub left_from : Sizes → List SlabState → Lender → List Bool → ℕ → List Bool
+left_from s states lender [] n = []
+left_from s states lender (bit ∷ bits) n = (bit && not (slabs.is_at lender (state_for s states (record { 0 = n })))) ∷ left_from s states lender bits (n + 1)
+
+-- a link was lost: it is down, and the slabs at its lender are local with their bits cleared
+abbrev pub lost : Sizes → Remote → Lender → Remote
+lost s r lender = record { bits = left_from s r.slabs lender r.bits 0; slabs = slabs.lost r.slabs lender; links = rings.lost r.links lender }
+
+-- a link was made
+abbrev pub raised : Remote → Lender → Remote
+raised r lender = record r { links = rings.raised r.links lender }

@@ -1,0 +1,8 @@
+//! What a device keeps of its lenders: which pages remote memory has, where each slab is, and the requests under way.
+#![tactic(auto)]
+
+mod remote;
+#[cfg(test)]
+mod tests;
+
+pub use remote::Remote;

@@ -1,0 +1,22 @@
+//! The links of a device: which are up, and the requests under way on each.
+#![tactic(auto)]
+
+mod link;
+mod rings;
+#[cfg(test)]
+mod tests;
+
+pub use rings::Rings;
+use swap_base::{Caller, EntryNo, Page, Slab};
+
+/// How many requests may be under way on a link.
+pub const MOST_UNDER_WAY: u32 = 64;
+
+/// A request to a lender that an answer is waited for.
+#[derive(Clone, Copy, Debug, PartialEq, Eq)]
+pub enum Request {
+    Query { slab: Slab },
+    Borrow { slab: Slab },
+    Write { page: Page, entry: EntryNo },
+    Read { caller: Caller, page: Page },
+}
