@@ -1,0 +1,348 @@
+-- The device table: what each call makes of the device, what it asks of disk and fabric, and what it answers.
+use Rattle.std.specs.Prelude.{ℕ, ◌+◌, Bool, true, false, ◌&&◌, ◌==◌, nat_lt, if◌then◌else◌, List, [], ◌∷◌, is_none, Option, None, Some}
+use Rattle.swap_base.specs.declared.Page.{Page}
+use Rattle.swap_base.specs.declared.Caller.{Caller}
+use Rattle.swap_base.specs.declared.EntryNo.{EntryNo}
+use Rattle.swap_base.specs.declared.Slab.{Slab}
+use Rattle.swap_base.specs.declared.Lender.{Lender}
+use Rattle.swap_base.specs.declared.Link.{Link}
+use Rattle.swap_base.specs.declared.Lease.{Lease}
+use Rattle.swap_base.specs.declared.Origin.{Origin}
+use Rattle.swap_base.specs.declared.Origin.TheVariants as origin
+use Rattle.swap_base.specs.declared.Via.{Via}
+use Rattle.swap_base.specs.declared.Via.TheVariants as via
+use Rattle.swap_base.specs.declared.CallKind.{CallKind}
+use Rattle.swap_base.specs.declared.CallKind.TheVariants as kind
+use Rattle.swap_base.specs.declared.DiskWhich.{DiskWhich}
+use Rattle.swap_base.specs.declared.DiskWhich.TheVariants as which
+use Rattle.swap_base.specs.Sizes.{Sizes, pages_of, place_of, zeros}
+use Rattle.swap_record.specs.declared.Op.TheVariants as op
+use Rattle.swap_record.specs.History.{History, next_name, last, pushed}
+use Rattle.swap_queue.specs.Queue as queue
+use Rattle.swap_queue.specs.Queue.{Queue, Copy}
+use Rattle.swap_disk.specs.Disk.{Taken}
+use Rattle.swap_disk.specs.Port.{StartWrite, StartRead, TakeDone, LetFinish}
+use Rattle.swap_wire.specs.declared.Msg.{Msg}
+use Rattle.swap_wire.specs.declared.Msg.TheVariants as msg
+use Rattle.swap_wire.specs.declared.fabric.Sent.{Sent}
+use Rattle.swap_wire.specs.declared.fabric.Sent.TheVariants as sent
+use Rattle.swap_wire.specs.declared.fabric.Gave.{Gave}
+use Rattle.swap_wire.specs.declared.fabric.Hosted.{Hosted}
+use Rattle.swap_wire.specs.Fabric.{Parcel, parcel_of, Handed, Brought, NothingCame, LinkLost, Connect, Send, Take, End, Give, Cut, Crash, Host}
+use Rattle.swap_slabs.specs.Slabs as slabs
+use Rattle.swap_rings.specs.Rings as rings
+use Rattle.swap_rings.specs.declared.Request.{Request}
+use Rattle.swap_rings.specs.declared.Request.TheVariants as request
+use Rattle.swap_remote.specs.Remote as remote
+use Rattle.swap_remote.specs.Remote.{Remote}
+use Rattle.swap_calls.specs.Calls as calls
+use Rattle.swap_calls.specs.Calls.{Calls}
+use Rattle.swap_calls.specs.declared.Arrived.TheVariants as arrived
+use Rattle.swap_calls.specs.declared.CallState.{CallState}
+use Rattle.swap_calls.specs.declared.CallState.TheVariants.{Idle, Room, Reading}
+use Rattle.swap_table.specs.declared.OutStep.{OutStep}
+use Rattle.swap_table.specs.declared.OutStep.TheVariants as outs
+use Rattle.swap_table.specs.declared.InStep.{InStep}
+use Rattle.swap_table.specs.declared.InStep.TheVariants as ins
+use Rattle.swap_table.specs.declared.Step.{Step}
+use Rattle.swap_table.specs.declared.Step.TheVariants as steps
+use Rattle.swap_table.specs.declared.DiskStep.{DiskStep}
+use Rattle.swap_table.specs.declared.DiskStep.TheVariants as disk
+use Rattle.swap_table.specs.declared.LinkStep.{LinkStep}
+use Rattle.swap_table.specs.declared.LinkStep.TheVariants as link
+use Rattle.swap_table.specs.declared.TheConstants.{MOST_LINKS, WIRE_VERSION}
+use Rattle.swap_table.specs.Ports.{Prog, Ret, AskDisk, AskFabric, answering}
+
+-- The newest entry of a page is the history's last page-out of it, and isn't kept beside the history.
+pub record Device : Type 0 where
+  pub sizes : Sizes
+  pub history : History
+  pub queue : Queue
+  pub calls : Calls
+  pub failed_writes : ℕ
+  pub failed_reads : ℕ
+  pub remote : Remote
+  pub links_made : ℕ
+
+-- a device beside its disk and its fabric, and the entries that its history has room for
+pub record Core (D F : Type 0) : Type 0 where
+  pub device : Device
+  pub disk : D
+  pub fabric : F
+  pub spare : ℕ
+
+abbrev pub new : Sizes → Device
+new s =
+    record {
+      sizes = s;
+      history = [];
+      queue = queue.empty (pages_of s) s.queue;
+      calls = calls.all_idle s.callers;
+      failed_writes = 0;
+      failed_reads = 0;
+      remote = remote.none s;
+      links_made = 0;
+    }
+
+-- an accepted page-out: its entry, its copy in the queue, the page's readers marked, the page's bit cleared, and the
+-- caller idle
+abbrev pub enter : Device → Caller → Page → List ℕ → Device
+enter d c p bytes =
+    record d {
+      history = pushed d.history c p op.PageOut bytes;
+      queue = queue.put d.queue p (record { entry = next_name d.history; bytes = bytes });
+      calls = calls.ended (calls.paged_out d.calls p) c;
+      remote = remote.changed d.remote p;
+    }
+
+-- an answered page-in
+abbrev pub give : Device → Caller → Page → Option EntryNo → Origin → List ℕ → Device
+give d c p named from bytes = record d { history = pushed d.history c p (op.PageIn named from) bytes; calls = calls.ended d.calls c }
+
+-- a call that a failure of the disk ends
+abbrev pub fault : Device → Caller → Page → CallKind → ℕ → ℕ → List ℕ → Device
+fault d c p kind since at bytes = record d { history = pushed d.history c p (op.Failed kind since at) bytes; calls = calls.ended d.calls c }
+
+-- a page-out that is kept until the queue has room
+abbrev pub wait_for_room : Device → Caller → Page → List ℕ → Device
+wait_for_room d c p bytes = record d { calls = calls.waits_for_room d.calls c p d.failed_writes bytes }
+
+-- a page-in that waits for the disk
+abbrev pub wait_for_disk : Device → Caller → Page → EntryNo → Device
+wait_for_disk d c p newest = record d { calls = calls.reads d.calls c p newest via.Disk d.failed_reads }
+
+-- a link that is lost: the slabs at its lender are local, and the calls that wait through it are lost
+abbrev pub lost : Device → Lender → Device
+lost d l = record d { remote = remote.lost d.sizes d.remote l; calls = calls.lost d.calls l }
+
+-- a write, or a read, that was sent to the lender of the page's slab
+abbrev pub write_sent : Device → Lender → Page → EntryNo → Device
+write_sent d l p e = record d { remote = remote.sent_for d.sizes d.remote l p (request.Write p e) }
+
+abbrev pub read_sent : Device → Lender → Caller → Page → EntryNo → Device
+read_sent d l c p newest = record d { remote = remote.sent_for d.sizes d.remote l p (request.Read c p); calls = calls.reads d.calls c p newest (via.Lender l) d.failed_reads }
+
+-- a page goes to the lender of its slab, where the slab is mapped and the link takes a request
+abbrev pub after_write : Device → Lender → Page → EntryNo → Sent → Device × Option Lender
+after_write d l p e sent.Sent = (write_sent d l p e, Some l)
+after_write d l p e sent.Down = (lost d l, None)
+
+abbrev pub write_to : Device → Page → EntryNo → List ℕ → Option (Lender × Lease) → Prog (Device × Option Lender)
+write_to d p e bytes None = Ret (d, None)
+write_to d p e bytes (Some at) = AskFabric (Send at.0 (parcel_of (msg.Write at.1 (place_of d.sizes p.0)) bytes)) (λ r. Ret (after_write d at.0 p e r))
+
+abbrev pub accept : Device → Caller → Page → List ℕ → Prog (Device × Option Lender)
+accept d c p bytes = write_to (enter d c p bytes) p (next_name d.history) bytes (remote.target d.sizes d.remote p)
+
+-- a read of the disk
+abbrev pub read_disk : Device → Caller → Page → EntryNo → Prog (Device × InStep)
+read_disk d c p newest = AskDisk (StartRead c p) (λ _. Ret (wait_for_disk d c p newest, ins.Wait via.Disk))
+
+-- a read of the lender, and of the disk where the link is down
+abbrev pub after_read : Device → Lender → Caller → Page → EntryNo → Sent → Prog (Device × InStep)
+after_read d l c p newest sent.Sent = Ret (read_sent d l c p newest, ins.Wait (via.Lender l))
+after_read d l c p newest sent.Down = read_disk (lost d l) c p newest
+
+abbrev pub read_at : Device → Caller → Page → EntryNo → Option (Lender × Lease) → Prog (Device × InStep)
+read_at d c p newest None = read_disk d c p newest
+read_at d c p newest (Some at) = AskFabric (Send at.0 (parcel_of (msg.Read at.1 (place_of d.sizes p.0)) [])) (λ r. after_read d at.0 c p newest r)
+
+-- where remote memory can be read for a page now
+abbrev pub source : Device → Page → Option (Lender × Lease)
+source d p = if remote.has_page d.remote p then remote.target d.sizes d.remote p else None
+
+-- where a page is read: nowhere without a newest entry, then the queue, then remote memory, then the disk
+abbrev pub route_by : Device → Caller → Page → Option EntryNo → Option Copy → Prog (Device × InStep)
+route_by d c p None copy = Ret (give d c p None origin.Zero (zeros d.sizes), ins.Done (next_name d.history))
+route_by d c p (Some newest) (Some copy) = Ret (give d c p (Some newest) origin.Queue copy.bytes, ins.Done (next_name d.history))
+route_by d c p (Some newest) None = read_at d c p newest (source d p)
+
+abbrev pub route : Device → Caller → Page → Prog (Device × InStep)
+route d c p = route_by d c p (last d.history p) (queue.newest d.queue p)
+
+-- a page-out's first step
+abbrev pub accepted : EntryNo → Device × Option Lender → Device × OutStep
+accepted entry r = (r.0, outs.Done entry r.1)
+
+abbrev pub out : Device → Caller → Page → List ℕ → Prog (Device × OutStep)
+out d c p bytes =
+    if queue.has_room d.queue p then answering (accepted (next_name d.history)) (accept d c p bytes) else Ret (wait_for_room d c p bytes, outs.Room)
+
+-- a page-in's first step
+abbrev pub read : Device → Caller → Page → Prog (Device × InStep)
+read d c p = route d c p
+
+-- a page-in that was routed again
+abbrev pub routed_again : Device × InStep → Device × Step
+routed_again (d, ins.Done entry) = (d, steps.Done entry None)
+routed_again (d, ins.Wait via) = (d, steps.Again via)
+
+abbrev pub origin_of : Via → Origin
+origin_of via.Disk = origin.Disk
+origin_of (via.Lender l) = origin.Lender l
+
+-- a page-out that waits: it is accepted where there is room, and fails where a disk write failed since its first step
+abbrev pub accepted_late : EntryNo → Device × Option Lender → Device × Step
+accepted_late entry r = (r.0, steps.Done entry r.1)
+
+abbrev pub finish_out : Device → Caller → Page → ℕ → List ℕ → Prog (Device × Step)
+finish_out d c p since bytes =
+    if queue.has_room d.queue p then answering (accepted_late (next_name d.history)) (accept d c p bytes)
+    else
+    (if nat_lt since d.failed_writes then Ret (fault d c p kind.PageOut since d.failed_writes bytes, steps.Fault (next_name d.history) since d.failed_writes)
+    else Ret (d, steps.Room))
+
+-- a later step of a call that isn't idle, by its state
+abbrev pub finish_by : Device → Caller → List ℕ → CallState → Prog (Device × Step)
+finish_by d c bytes Idle = Ret (d, steps.Room)
+finish_by d c bytes (Room p since) = finish_out d c p since bytes
+finish_by d c bytes (Reading p newest via arrived.Waiting newer since) = Ret (d, steps.Wait via)
+finish_by d c bytes (Reading p newest via arrived.Came false since) = Ret (give d c p (Some newest) (origin_of via) bytes, steps.Done (next_name d.history) None)
+finish_by d c bytes (Reading p newest via arrived.Failed false since) =
+    Ret (fault d c p kind.PageIn since d.failed_reads (zeros d.sizes), steps.Fault (next_name d.history) since d.failed_reads)
+finish_by d c bytes (Reading p newest via _ newer since) = answering routed_again (route d c p)
+
+abbrev pub finish : Device → Caller → Prog (Device × Step)
+finish d c = finish_by d c (calls.call_of d.calls c).bytes (calls.state_of d.calls c)
+
+-- the copy at the front of the line goes to the disk
+abbrev pub start_copy : Device → Page → Option Copy → Prog (Device × Option (Page × EntryNo))
+start_copy d p None = Ret (d, None)
+start_copy d p (Some copy) = AskDisk (StartWrite p copy.bytes) (λ _. Ret (record d { queue = queue.start d.queue }, Some (p, copy.entry)))
+
+abbrev pub start_front : Device → List Page → Prog (Device × Option (Page × EntryNo))
+start_front d [] = Ret (d, None)
+start_front d (p ∷ line) = start_copy d p (queue.next d.queue p)
+
+abbrev pub disk_start : Device → Prog (Device × Option (Page × EntryNo))
+disk_start d = start_front d d.queue.line
+
+-- a write that came back, by the copy that was flying
+abbrev pub wrote : Device → Page → Option Copy → Bool → Device × DiskStep
+wrote d p None ok = (d, disk.Nothing)
+wrote d p (Some copy) true = (record d { queue = queue.done d.queue p }, disk.Written p copy.entry)
+wrote d p (Some copy) false =
+    (record d { queue = queue.failed d.queue p; failed_writes = d.failed_writes + 1 }, if is_none (queue.next d.queue p) then disk.Kept p copy.entry else disk.Dropped p copy.entry)
+
+-- an operation that the disk gave back
+abbrev pub took : Device → DiskWhich → Page → Bool → List ℕ → Device × DiskStep
+took d (which.Write q) p ok bytes = wrote d p (queue.flying d.queue p) ok
+took d (which.Read c) p true bytes = (record d { calls = calls.came d.calls c bytes }, disk.Came c p)
+took d (which.Read c) p false bytes = (record d { calls = calls.failed d.calls c; failed_reads = d.failed_reads + 1 }, disk.Failed c p)
+
+abbrev pub took_back : Device → Option Taken → Device × DiskStep
+took_back d None = (d, disk.Nothing)
+took_back d (Some t) = took d t.done.which t.done.page t.done.ok t.bytes
+
+abbrev pub disk_take : Device → Prog (Device × DiskStep)
+disk_take d = AskDisk TakeDone (λ taken. Ret (took_back d taken))
+
+-- an operation of a disk in memory is let finish
+abbrev pub disk_finish : Device → DiskWhich → Bool → Prog (Device × Bool)
+disk_finish d which ok = AskDisk (LetFinish which ok) (λ done. Ret (d, done))
+
+-- which requests a message answers: a slab that was lent or refused, a page that was written or read
+abbrev pub borrow_reply : Msg → Option (Slab × Option Lease)
+borrow_reply (msg.Lent slab lease) = Some (slab, Some lease)
+borrow_reply (msg.Refused slab) = Some (slab, None)
+borrow_reply _ = None
+
+abbrev pub write_reply : Msg → Option (Lease × ℕ)
+write_reply (msg.Wrote lease place) = Some (lease, place)
+write_reply _ = None
+
+abbrev pub read_reply : Msg → Option (Lease × ℕ)
+read_reply (msg.PageIs lease place) = Some (lease, place)
+read_reply _ = None
+
+-- a slab that was lent is mapped, where no slab at the lender has this lease; one that was refused is local
+abbrev pub lent_or_refused : Device → Lender → Slab → Option Lease → Option Device
+lent_or_refused d l slab None = Some (record d { remote = remote.refused d.remote l slab })
+lent_or_refused d l slab (Some lease) = if is_none (slabs.by_lease d.remote.slabs l lease) then Some (record d { remote = remote.lent d.remote l slab lease }) else None
+
+abbrev pub borrow_answered : Device → Lender → Slab → Option (Slab × Option Lease) → Option Device
+borrow_answered d l slab None = None
+borrow_answered d l slab (Some reply) = if reply.0.0 == slab.0 then lent_or_refused d l slab reply.1 else None
+
+-- a write that came back: remote memory can be read where it was of the page's newest entry
+abbrev pub is_newest : Option EntryNo → EntryNo → Bool
+is_newest None e = false
+is_newest (Some newest) e = newest.0 == e.0
+
+abbrev pub write_answered : Device → Lender → Page → EntryNo → Option (Lease × ℕ) → Option Device
+write_answered d l p e None = None
+write_answered d l p e (Some at) = if remote.names_page d.sizes d.remote l p at.0 at.1 then Some (record d { remote = remote.written d.sizes d.remote l p (is_newest (last d.history p) e) }) else None
+
+-- a read that came back
+abbrev pub read_answered : Device → Lender → Caller → Page → List ℕ → Option (Lease × ℕ) → Option Device
+read_answered d l c p bytes None = None
+read_answered d l c p bytes (Some at) = if remote.names_page d.sizes d.remote l p at.0 at.1 then Some (record d { remote = remote.settled_for d.sizes d.remote l p; calls = calls.came d.calls c bytes }) else None
+
+-- what a message does that answers the oldest request of its link; no other is allowed
+abbrev pub heard : Device → Lender → Parcel → Option Request → Option Device
+heard d l parcel None = None
+heard d l parcel (Some (request.Query slab)) = None
+heard d l parcel (Some (request.Borrow slab)) = borrow_answered d l slab (borrow_reply parcel.msg)
+heard d l parcel (Some (request.Write p e)) = write_answered d l p e (write_reply parcel.msg)
+heard d l parcel (Some (request.Read c p)) = read_answered d l c p parcel.page (read_reply parcel.msg)
+
+-- a link that brought a message which isn't allowed is ended, and lost
+abbrev pub understood : Device → Lender → Msg → Option Device → Prog (Device × LinkStep)
+understood d l m (Some heard) = Ret (heard, link.Got m)
+understood d l m None = AskFabric (End l) (λ _. Ret (lost d l, link.Lied))
+
+abbrev pub took_from : Device → Lender → Handed → Prog (Device × LinkStep)
+took_from d l (Brought parcel) = understood d l parcel.msg (heard d l parcel (rings.oldest (rings.ring_of d.remote.links l)))
+took_from d l NothingCame = Ret (d, link.Nothing)
+took_from d l LinkLost = Ret (lost d l, link.Lost)
+
+-- a message is taken from a link that is up
+abbrev pub link_take : Device → Lender → Prog (Device × LinkStep)
+link_take d l = if rings.is_up d.remote.links l then AskFabric (Take l) (took_from d l) else Ret (d, link.Nothing)
+
+-- a local slab is borrowed from a lender whose link takes a request
+abbrev pub after_borrow : Device → Slab → Lender → Sent → Device × Bool
+after_borrow d slab l sent.Sent = (record d { remote = remote.borrow_sent d.remote slab l }, true)
+after_borrow d slab l sent.Down = (lost d l, true)
+
+abbrev pub may_map : Device → Slab → Lender → Bool
+may_map d slab l = slabs.is_local (slabs.state_of d.remote.slabs slab) && rings.may_send d.sizes.window (rings.link_of d.remote.links l)
+
+abbrev pub map : Device → Slab → Lender → Prog (Device × Bool)
+map d slab l = if may_map d slab l then AskFabric (Send l (parcel_of (msg.Borrow slab) [])) (λ r. Ret (after_borrow d slab l r)) else Ret (d, false)
+
+-- a link is made, with the next number, in place of the one that is up, and greeted
+abbrev pub raised : Device → Lender → Device
+raised d l = record d { remote = remote.raised d.remote l; links_made = d.links_made + 1 }
+
+abbrev pub next_link : Device → Link
+next_link d = record { 0 = d.links_made }
+
+abbrev pub hello : Sizes → Parcel
+hello s = parcel_of (msg.Hello WIRE_VERSION s.page_bytes s.pages_per_slab) []
+
+abbrev pub after_hello : Device → Lender → Sent → Device
+after_hello d l sent.Sent = d
+after_hello d l sent.Down = lost d l
+
+abbrev pub connect_on : Device → Lender → Prog (Device × Option Link)
+connect_on d l = AskFabric (Connect l (next_link d)) (λ _. AskFabric (Send l (hello d.sizes)) (λ r. Ret (after_hello (raised d l) l r, Some (next_link d))))
+
+abbrev pub without_link : Device → Lender → Device
+without_link d l = if rings.is_up d.remote.links l then lost d l else d
+
+abbrev pub connect : Device → Lender → Prog (Device × Option Link)
+connect d l = if nat_lt d.links_made MOST_LINKS then connect_on (without_link d l) l else Ret (d, None)
+
+-- the far side of the links moves, where the fabric holds it
+abbrev pub give_to : Device → Lender → Prog (Device × Gave)
+give_to d l = AskFabric (Give l) (λ r. Ret (d, r))
+
+abbrev pub cut : Device → Lender → ℕ → ℕ → Prog (Device × Bool)
+cut d l to_lender to_device = AskFabric (Cut l to_lender to_device) (λ r. Ret (d, r))
+
+abbrev pub crash : Device → Lender → Prog (Device × Bool)
+crash d l = AskFabric (Crash l) (λ r. Ret (d, r))
+
+abbrev pub host : Device → Lender → ℕ → ℕ → Prog (Device × Option Hosted)
+host d l used word = AskFabric (Host l used word) (λ r. Ret (d, r))

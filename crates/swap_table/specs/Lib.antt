@@ -1,0 +1,6 @@
+pub mod Ports
+pub mod Device
+pub mod Serves
+pub mod Fits
+pub mod Fabrics
+pub mod Laws

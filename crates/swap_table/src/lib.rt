@@ -1,0 +1,79 @@
+//! The device's table: what each of its calls does, asks of disk and fabric, and answers.
+#![tactic(auto)]
+
+ghost use Rattle.swap_table.specs.Laws.{EachCallKeeps, NewAgrees};
+
+use swap_base::{Caller, EntryNo, Lender, Page, Via};
+use swap_disk::DiskPort;
+use swap_wire::{Fabric, Msg};
+
+/// How many links may be made.
+pub const MOST_LINKS: u32 = 4_294_967_295;
+
+/// The version of the messages that a device speaks.
+pub const WIRE_VERSION: u32 = 1;
+
+/// What a page-out's first step answers.
+#[derive(Clone, Copy, Debug, PartialEq, Eq)]
+pub enum OutStep {
+    Done {
+        entry: EntryNo,
+        sent: Option<Lender>,
+    },
+    Room,
+}
+
+/// What a page-in's first step answers.
+#[derive(Clone, Copy, Debug, PartialEq, Eq)]
+pub enum InStep {
+    Done { entry: EntryNo },
+    Wait { via: Via },
+}
+
+/// What a later step of a call answers.
+#[derive(Clone, Copy, Debug, PartialEq, Eq)]
+pub enum Step {
+    Done {
+        entry: EntryNo,
+        sent: Option<Lender>,
+    },
+    Room,
+    Wait {
+        via: Via,
+    },
+    Again {
+        via: Via,
+    },
+    Fault {
+        entry: EntryNo,
+        since: u64,
+        at: u64,
+    },
+}
+
+/// What became of an operation that the disk gave back.
+#[derive(Clone, Copy, Debug, PartialEq, Eq)]
+pub enum DiskStep {
+    Nothing,
+    Written { page: Page, entry: EntryNo },
+    Kept { page: Page, entry: EntryNo },
+    Dropped { page: Page, entry: EntryNo },
+    Came { caller: Caller, page: Page },
+    Failed { caller: Caller, page: Page },
+}
+
+/// What became of a take from a link.
+#[derive(Clone, Copy, Debug, PartialEq, Eq)]
+pub enum LinkStep {
+    Nothing,
+    Got(Msg),
+    Lost,
+    Lied,
+}
+
+/// Whatever disk and fabric answer, what a device, its disk and its fabric agree on holds after each call where it
+/// held before. Any disk and any fabric may stand below.
+pub fn calls_keep<D: DiskPort, F: Fabric>()
+    ensures each { EachCallKeeps D.means D.moves F.of F.moves F.keeps F.owes F.answers }
+    ensures new { NewAgrees D.means D.moves F.of F.moves F.keeps F.owes F.answers }
+{}
