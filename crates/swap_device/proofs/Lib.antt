@@ -1,6 +1,5 @@
-pub mod Lists
-pub mod Order
-pub mod Agree
-pub mod Programs
-pub mod Kept
+pub mod Goes
+pub mod Free
+pub mod Started
+pub mod Served
 pub mod Held

@@ -1,6 +1,6 @@
 -- What the tables of a device keep: each knows the device's sizes, and the newest entry of each page is the
 -- history's last page-out of it.
-use Rattle.std.specs.Prelude.{◌≡◌, ℕ, ◌+◌, ◌<◌, List, [], ◌∷◌, length, is_some, slice_index_or, IsSome, true, false, Option, None}
+use Rattle.std.specs.Prelude.{◌≡◌, ℕ, ◌+◌, ◌<◌, List, [], ◌∷◌, length, is_some, slice_index_or, IsSome, Bool, true, false, Option, None, Some}
 use Rattle.swap_base.specs.declared.Page.{Page}
 use Rattle.swap_base.specs.declared.EntryNo.{EntryNo}
 use Rattle.swap_base.specs.Sizes.{Sizes, pages_of}
@@ -18,14 +18,27 @@ use Rattle.swap_calls.specs.declared.Arrived.TheVariants as arrived
 use Rattle.swap_calls.specs.declared.CallState.{CallState}
 use Rattle.swap_calls.specs.declared.CallState.TheVariants.{Reading}
 use Rattle.swap_disk.specs.Port.{Port}
-use Rattle.swap_device.specs.declared.InStep.{InStep}
-use Rattle.swap_device.specs.declared.InStep.TheVariants as ins
-use Rattle.swap_device.specs.declared.Step.{Step}
-use Rattle.swap_device.specs.declared.Step.TheVariants as steps
-use Rattle.swap_device.specs.Device.{Device, Core}
-use Rattle.swap_device.specs.Fits.{Fits}
+use Rattle.swap_table.specs.declared.InStep.{InStep}
+use Rattle.swap_table.specs.declared.InStep.TheVariants as ins
+use Rattle.swap_table.specs.declared.Step.{Step}
+use Rattle.swap_table.specs.declared.Step.TheVariants as steps
+use Rattle.swap_table.specs.Device.{Device, Core, borrow_reply, write_reply, read_reply, borrow_answered, write_answered, read_answered}
+use Rattle.swap_wire.specs.Fabric.{FabricOf}
+use Rattle.swap_base.specs.declared.Lender.{Lender}
+use Rattle.swap_base.specs.declared.Lease.{Lease}
+use Rattle.swap_slabs.specs.Slabs.{is_mapped, flying_of}
+use Rattle.swap_slabs.specs.declared.TheConstants.{MOST_LENDERS, MOST_FLYING}
+use Rattle.swap_slabs.specs.Slabs as slabs
+use Rattle.swap_slabs.specs.declared.SlabState.TheVariants.{Borrowing}
+use Rattle.swap_wire.specs.declared.Msg.{Msg}
+use Rattle.swap_rings.specs.declared.Request.{Request}
+use Rattle.swap_rings.specs.declared.Request.TheVariants as request
+use Rattle.swap_rings.specs.Rings.{ring_of}
+use Rattle.swap_remote.specs.Remote.{Table, Remote, state_for}
+use Rattle.swap_table.specs.Serves.{Keeping, Owing}
+use Rattle.swap_table.specs.Fits.{Fits}
 
--- a device without its disk, and the entries that its history has room for
+-- a device without its ports, and the entries that its history has room for
 pub record Standing : Type 0 where
   pub device : Device
   pub spare : ℕ
@@ -34,7 +47,8 @@ pub record Standing : Type 0 where
 abbrev pub IsNewest : ℕ → List (Option EntryNo) → History → Type 0
 IsNewest pages newest H = (p : Page) → p.0 < pages → slice_index_or newest p.0 None ≡ last H p
 
-pub record AreTables (s : Sizes) (book : Book) (queue : Backlog) (calls : CallTable) (newest : List (Option EntryNo)) : Type 0 where
+pub record AreTables (s : Sizes) (book : Book) (queue : Backlog) (calls : CallTable) (newest : List (Option EntryNo)) (remote : Table) : Type 0 where
+  pub remote_sizes : remote.sizes ≡ s
   pub record_page : book.page_bytes ≡ s.page_bytes
   pub queue_sizes : queue.sizes ≡ s
   pub calls_page : calls.page_bytes ≡ s.page_bytes
@@ -42,9 +56,10 @@ pub record AreTables (s : Sizes) (book : Book) (queue : Backlog) (calls : CallTa
   pub newest_len : length newest ≡ pages_of s
   pub newest_is : IsNewest (pages_of s) newest book.history
 
--- the device and its disk agree, and there is room for a page on its way
-pub record IsDevice (p : Port) (d : Device) (page : List ℕ) : Type 0 where
-  pub fits : Fits (is_some p.blocks) d p
+-- the device, its disk and its fabric agree, the fabric is of the device, and there is room for a page on its way
+pub record IsDevice (answers : List ℕ → List ℕ → Type 0) (keeps : Keeping) (owes : Owing) (of : FabricOf) (p : Port) (d : Device) (page : List ℕ) : Type 0 where
+  pub fits : Fits (is_some p.blocks) answers keeps owes of.lenders d p
+  pub fabric : of.sizes ≡ d.sizes
   pub page_len : length page ≡ d.sizes.page_bytes
 
 -- an answered page-in gives the bytes that its entry keeps
@@ -66,7 +81,7 @@ GivesStep (steps.Done entry sent) H given = GivesLast H given
 GivesStep _ H given = Unit {0}
 
 -- each entry takes one from the room for entries
-abbrev pub KeepsRoom : {D : Type 0} → Core D → Core D → Type 0
+abbrev pub KeepsRoom : {D F : Type 0} → Core D F → Core D F → Type 0
 KeepsRoom before now = length now.device.history + now.spare ≡ length before.device.history + before.spare
 
 -- a page-out's later step gives no bytes
@@ -98,3 +113,42 @@ WritesBack q (which.Read c) page = Unit {0}
 abbrev pub ReadsBack : Device → DiskWhich → Type 0
 ReadsBack d (which.Write r) = Unit {0}
 ReadsBack d (which.Read c) = (c.0 < d.sizes.callers) × (is_waiting (state_of d.calls c) ≡ true)
+
+-- a request for a page may go to this lender: its slab is mapped, with few requests flying, and the ring has room
+pub record MayGo (s : Sizes) (r : Remote) (page : Page) (lender : Lender) : Type 0 where
+  pub few : lender.0 < MOST_LENDERS
+  pub mapped : is_mapped (state_for s r.slabs page) ≡ true
+  pub flying : flying_of (state_for s r.slabs page) < MOST_FLYING
+  pub room : length (ring_of r.links lender) < s.window
+
+-- and the lender is one of the fabric's
+abbrev pub MayGoTo : Sizes → Remote → ℕ → Page → Option (Lender × Lease) → Type 0
+MayGoTo s r lenders page None = Unit {0}
+MayGoTo s r lenders page (Some at) = MayGo s r page at.0 × (at.0.0 < lenders)
+
+-- what a message does: it is heard, or nothing changes
+abbrev pub IsHeard : Option Device → Device → Device → Bool → Type 0
+IsHeard None before now heard = (heard ≡ false) × (now ≡ before)
+IsHeard (Some after) before now heard = (heard ≡ true) × (now ≡ after)
+
+-- a read was started
+abbrev pub Waits : InStep → Type 0
+Waits (ins.Done entry) = ⊥
+Waits (ins.Wait via) = Unit {0}
+
+-- a request that is answered: a slab is borrowed from this lender, a write or a read is under way, and a caller waits
+abbrev pub IsServed : Device → Lender → Option Request → Type 0
+IsServed d lender None = Unit {0}
+IsServed d lender (Some (request.Query slab)) = Unit {0}
+IsServed d lender (Some (request.Borrow slab)) = (slab.0 < d.sizes.slabs) × (slabs.state_of d.remote.slabs slab ≡ Borrowing lender)
+IsServed d lender (Some (request.Write page entry)) = (page.0 < pages_of d.sizes) × (0 < flying_of (state_for d.sizes d.remote.slabs page))
+IsServed d lender (Some (request.Read caller page)) =
+    (caller.0 < d.sizes.callers) × (page.0 < pages_of d.sizes) × (0 < flying_of (state_for d.sizes d.remote.slabs page)) × (is_waiting (state_of d.calls caller) ≡ true)
+
+-- what is heard of a message whose page stands in a buffer
+abbrev pub heard_of : Device → Lender → Msg → List ℕ → Option Request → Option Device
+heard_of d lender m bytes None = None
+heard_of d lender m bytes (Some (request.Query slab)) = None
+heard_of d lender m bytes (Some (request.Borrow slab)) = borrow_answered d lender slab (borrow_reply m)
+heard_of d lender m bytes (Some (request.Write page entry)) = write_answered d lender page entry (write_reply m)
+heard_of d lender m bytes (Some (request.Read caller page)) = read_answered d lender caller page bytes (read_reply m)

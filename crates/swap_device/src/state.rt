@@ -1,30 +1,44 @@
-ghost use Rattle.std.specs.Prelude.{◌≡◌, ◌<◌, ◌-◌, ◌+◌, ◌^◌, ◌↔◌, max, length, IfOk, OnOk, OnErr, IfSome, IsSome, IsTrue, true, slice_set, Some, None, replicate, option_map};
-ghost use Rattle.swap_base.specs.Sizes.{pages_of, zeros};
+ghost use Rattle.std.specs.Prelude.{◌≡◌, ◌<◌, ◌-◌, ◌+◌, ◌^◌, ◌↔◌, max, length, IfOk, OnOk, OnErr, IfSome, IsSome, IsTrue, true, slice_set, is_some, Some, None, replicate, option_map};
+ghost use Rattle.swap_base.specs.Sizes.{pages_of, place_of, zeros, IsWithin};
 ghost use Rattle.swap_record.specs.History.{next_name, last};
 ghost use Rattle.swap_record.specs.Book.{written};
 ghost use Rattle.swap_queue.specs.Queue.{Copy, put, has_room, front, start, done, failed, flying, next, newest, copies};
 ghost use Rattle.swap_queue.specs.Backlog.{started_answer, started_bytes, failed_answer, bytes_or};
 ghost use Rattle.swap_queue.specs.Kept.{IsQueue};
 ghost use Rattle.swap_calls.specs.Calls.{call_of, state_of, is_idle, may_read, is_waiting, keeps_page, came, failed as failed_call};
-ghost use Rattle.swap_device.specs.Device.{new, accept, give, fault, wait_for_room, wait_for_disk};
+ghost use Rattle.swap_slabs.specs.Slabs as slabs;
+ghost use Rattle.swap_slabs.specs.Kept.{IsSlabs};
+ghost use Rattle.swap_slabs.specs.declared.TheConstants.{MOST_LENDERS, MOST_FLYING};
+ghost use Rattle.swap_rings.specs.Rings as rings;
+ghost use Rattle.swap_remote.specs.Remote as remote;
+ghost use Rattle.swap_slabs.specs.declared.SlabState.TheVariants as SlabState;
+ghost use Rattle.swap_device.specs.State.{MayGo};
+ghost use Rattle.swap_table.specs.Device.{new, enter, give, fault, wait_for_room, wait_for_disk, lost, write_sent, read_sent, source, may_map, is_newest, raised};
 
 use std::alloc::Global;
 use std::marker::Model;
-use swap_base::{CallKind, Caller, EntryNo, Geometry, NoMemory, Origin, Page, Via};
+use swap_base::{
+    CallKind, Caller, EntryNo, Geometry, Lease, Lender, NoMemory, Origin, Page, Slab, Via,
+};
 use swap_calls::{CallState, Calls};
 use swap_queue::{Behind, Failed};
 use swap_record::{Op, Record, ReserveRefused};
+use swap_remote::Remote;
+use swap_rings::Request;
+use swap_slabs::MOST_LENDERS;
 
 /// A device's tables. The newest entry of a page stands beside the history, which has it as its last page-out.
 #[derive(Drop)]
 pub(crate) struct State {
     geometry: Geometry,
-    record: Record,
+    entries: Record,
     queue: Behind,
     calls: Calls,
     newest: Vec<Option<EntryNo>>,
     failed_writes: u64,
     failed_reads: u64,
+    remote: Remote,
+    links_made: u32,
 }
 
 impl Model for State {
@@ -35,16 +49,18 @@ impl Model for State {
     ghost view = { λ t. record {
       device = record {
         sizes = t.geometry;
-        history = t.record.history;
+        history = t.entries.history;
         queue = t.queue.queue;
         calls = t.calls.calls;
         failed_writes = t.failed_writes;
         failed_reads = t.failed_reads;
+        remote = t.remote.remote;
+        links_made = t.links_made;
       };
-      spare = t.record.spare;
+      spare = t.entries.spare;
     } };
 
-    ghost invariant = { λ t. AreTables t.geometry t.record t.queue t.calls t.newest.items };
+    ghost invariant = { λ t. AreTables t.geometry t.entries t.queue t.calls t.newest.items t.remote };
 }
 
 // A page-out enters the history, the queue, and the table of newest entries.
@@ -81,7 +97,7 @@ impl State {
         ensures { IfOk result (λ t. t ≡ record { device = new geometry; spare = 0 }) }
     {
         let pages = geometry.pages() as usize;
-        let record = Record::make(alloc, geometry.page_bytes());
+        let entries = Record::make(alloc, geometry.page_bytes());
         let queue = Behind::make(alloc, &geometry)?;
         let calls = Calls::make(alloc, &geometry)?;
         let Ok(newest) = vec![in alloc; None; pages] else {
@@ -89,28 +105,30 @@ impl State {
         };
         Ok(State {
             geometry,
-            record,
+            entries,
             queue,
             calls,
             newest,
             failed_writes: 0,
             failed_reads: 0,
+            remote: Remote::make(alloc, geometry)?,
+            links_made: 0,
         })
     }
 
     /// An accepted page-out.
-    pub fn accept(&mut self, caller: Caller, page: Page, bytes: &[u8]) -> EntryNo
+    pub fn enter(&mut self, caller: Caller, page: Page, bytes: &[u8]) -> EntryNo
         requires caller { caller.0 < self.old.device.sizes.callers }
         requires page { page.0 < pages_of self.old.device.sizes }
         requires bytes { length bytes.now ≡ self.old.device.sizes.page_bytes }
         requires room { IsTrue (has_room self.old.device.queue page) }
         requires spare { 0 < self.old.spare }
-        ensures state { self.new ≡ record { device = accept self.old.device caller page bytes.now; spare = self.old.spare - 1 } }
+        ensures state { self.new ≡ record { device = enter self.old.device caller page bytes.now; spare = self.old.spare - 1 } }
         ensures name { result ≡ next_name self.old.device.history }
     {
         self.geometry.limits();
         let name = enter(
-            &mut self.record,
+            &mut self.entries,
             &mut self.queue,
             &mut self.newest,
             caller,
@@ -119,30 +137,7 @@ impl State {
         );
         self.calls.paged_out(page);
         self.calls.end(caller);
-        name
-    }
-
-    /// The page-out that waits for this caller is accepted.
-    pub fn accept_kept(&mut self, caller: Caller, page: Page) -> EntryNo
-        requires caller { caller.0 < self.old.device.sizes.callers }
-        requires page { page.0 < pages_of self.old.device.sizes }
-        requires kept { keeps_page (state_of self.old.device.calls caller) ≡ true }
-        requires room { IsTrue (has_room self.old.device.queue page) }
-        requires spare { 0 < self.old.spare }
-        ensures state { self.new ≡ record { device = accept self.old.device caller page (call_of self.old.device.calls caller).bytes; spare = self.old.spare - 1 } }
-        ensures name { result ≡ next_name self.old.device.history }
-    {
-        self.geometry.limits();
-        let name = enter(
-            &mut self.record,
-            &mut self.queue,
-            &mut self.newest,
-            caller,
-            page,
-            self.calls.bytes(caller),
-        );
-        self.calls.paged_out(page);
-        self.calls.end(caller);
+        self.remote.changed(page);
         name
     }
 
@@ -162,7 +157,7 @@ impl State {
         ensures name { result ≡ next_name self.old.device.history }
     {
         self.geometry.limits();
-        let name = self.record.push_in(caller, page, named, origin, bytes);
+        let name = self.entries.push_in(caller, page, named, origin, bytes);
         self.calls.end(caller);
         name
     }
@@ -178,7 +173,7 @@ impl State {
         self.geometry.limits();
         let at = self.failed_reads;
         let name = self
-            .record
+            .entries
             .push_failed(caller, page, CallKind::PageIn, since, at, zeros);
         self.calls.end(caller);
         name
@@ -196,7 +191,7 @@ impl State {
         let at = self.failed_writes;
         let bytes = self.calls.bytes(caller);
         let name = self
-            .record
+            .entries
             .push_failed(caller, page, CallKind::PageOut, since, at, bytes);
         self.calls.end(caller);
         name
@@ -281,7 +276,7 @@ impl State {
         ensures err { OnErr result (self.new ≡ self.old) }
         ensures too_many { (result ≡ Err ReserveRefused.TooMany) ↔ (4_194_304 < length self.old.device.history + n) }
     {
-        self.record.reserve(n)
+        self.entries.reserve(n)
     }
 
     pub fn geometry(&self) -> Geometry
@@ -295,7 +290,7 @@ impl State {
         ensures page { result.now.page_bytes ≡ self.now.device.sizes.page_bytes }
         ensures spare { result.now.spare ≡ self.now.spare }
     {
-        &self.record
+        &self.entries
     }
 
     pub fn call(&self, caller: Caller) -> CallState
@@ -365,5 +360,206 @@ impl State {
         ensures { result ≡ self.now.device.failed_reads }
     {
         self.failed_reads
+    }
+
+    /// The place of a page in its slab.
+    pub fn place(&self, page: Page) -> u32
+        requires { page.0 < pages_of self.now.device.sizes }
+        ensures { result ≡ place_of self.now.device.sizes page.0 }
+    {
+        self.geometry.place_in_slab(page)
+    }
+
+    /// Where a page may be written now: the lender and the lease of its slab.
+    pub fn target(&self, page: Page) -> Option<(Lender, Lease)>
+        requires { page.0 < pages_of self.now.device.sizes }
+        ensures { result ≡ remote.target self.now.device.sizes self.now.device.remote page }
+    {
+        self.remote.target(page)
+    }
+
+    /// Where remote memory can be read for a page now.
+    pub fn source(&self, page: Page) -> Option<(Lender, Lease)>
+        requires { page.0 < pages_of self.now.device.sizes }
+        ensures { result ≡ source self.now.device page }
+    {
+        if self.remote.has_page(page) {
+            self.remote.target(page)
+        } else {
+            None
+        }
+    }
+
+    /// What slabs and links keep.
+    pub fn keeps_remote(&self)
+        ensures slabs { IsSlabs self.now.device.remote.slabs }
+        ensures limits { IsWithin self.now.device.sizes }
+    {
+        self.remote.keeps();
+        self.geometry.limits();
+    }
+
+    pub fn is_up(&self, lender: Lender) -> bool
+        requires { lender.0 < MOST_LENDERS }
+        ensures { result ≡ rings.is_up self.now.device.remote.links lender }
+    {
+        self.remote.is_up(lender)
+    }
+
+    /// Whether a slab may be borrowed from a lender.
+    pub fn may_map(&self, slab: Slab, lender: Lender) -> bool
+        requires slab { slab.0 < self.now.device.sizes.slabs }
+        requires lender { lender.0 < MOST_LENDERS }
+        ensures { result ≡ may_map self.now.device slab lender }
+    {
+        self.remote.is_local(slab) && self.remote.may_send(lender)
+    }
+
+    /// The request on a link that was sent first, of those that no answer came to.
+    pub fn oldest(&self, lender: Lender) -> Option<Request>
+        requires { lender.0 < MOST_LENDERS }
+        ensures { result ≡ rings.oldest (rings.ring_of self.now.device.remote.links lender) }
+    {
+        self.remote.oldest(lender)
+    }
+
+    /// Whether a message names a page.
+    pub fn names_page(&self, lender: Lender, page: Page, lease: Lease, place: u32) -> bool
+        requires { page.0 < pages_of self.now.device.sizes }
+        ensures { result ≡ remote.names_page self.now.device.sizes self.now.device.remote lender page lease place }
+    {
+        self.remote.names_page(lender, page, lease, place)
+    }
+
+    /// Whether a slab has this lease of the lender.
+    pub fn is_leased(&self, lender: Lender, lease: Lease) -> bool
+        requires { lender.0 < MOST_LENDERS }
+        ensures { result ≡ is_some (slabs.by_lease self.now.device.remote.slabs lender lease) }
+    {
+        self.remote.is_leased(lender, lease)
+    }
+
+    /// How many slabs are mapped.
+    pub fn mapped(&self) -> u32
+        ensures { result ≡ slabs.mapped self.now.device.remote.slabs }
+    {
+        self.remote.mapped()
+    }
+
+    /// How many links were made.
+    pub fn links_made(&self) -> u32
+        ensures { result ≡ self.now.device.links_made }
+    {
+        self.links_made
+    }
+
+    /// A write of a page was sent to the lender of its slab.
+    pub fn write_sent(&mut self, lender: Lender, page: Page, entry: EntryNo)
+        requires page { page.0 < pages_of self.old.device.sizes }
+        requires may { MayGo self.old.device.sizes self.old.device.remote page lender }
+        ensures { self.new ≡ record self.old { device = write_sent self.old.device lender page entry } }
+    {
+        self.remote
+            .sent_for(lender, page, Request::Write { page, entry });
+    }
+
+    /// A read of a page was sent to the lender of its slab.
+    pub fn read_sent(&mut self, lender: Lender, caller: Caller, page: Page, newest: EntryNo)
+        requires caller { caller.0 < self.old.device.sizes.callers }
+        requires page { page.0 < pages_of self.old.device.sizes }
+        requires may { MayGo self.old.device.sizes self.old.device.remote page lender }
+        requires may_read { may_read (state_of self.old.device.calls caller) ≡ true }
+        ensures { self.new ≡ record self.old { device = read_sent self.old.device lender caller page newest } }
+    {
+        let since = self.failed_reads;
+        self.remote
+            .sent_for(lender, page, Request::Read { caller, page });
+        self.calls
+            .begin_read(caller, page, newest, Via::Lender(lender), since);
+    }
+
+    /// A slab was asked to be lent.
+    pub fn borrow_sent(&mut self, slab: Slab, lender: Lender)
+        requires slab { slab.0 < self.old.device.sizes.slabs }
+        requires lender { lender.0 < MOST_LENDERS }
+        requires may { may_map self.old.device slab lender ≡ true }
+        ensures { self.new ≡ record self.old { device = record self.old.device { remote = remote.borrow_sent self.old.device.remote slab lender } } }
+    {
+        self.remote.borrow_sent(slab, lender);
+    }
+
+    /// A slab was lent: it is mapped.
+    pub fn lent(&mut self, lender: Lender, slab: Slab, lease: Lease)
+        requires slab { slab.0 < self.old.device.sizes.slabs }
+        requires lender { lender.0 < MOST_LENDERS }
+        requires borrowing { slabs.state_of self.old.device.remote.slabs slab ≡ SlabState.Borrowing lender }
+        requires lease { slabs.by_lease self.old.device.remote.slabs lender lease ≡ None }
+        ensures { self.new ≡ record self.old { device = record self.old.device { remote = remote.lent self.old.device.remote lender slab lease } } }
+    {
+        self.remote.lent(lender, slab, lease);
+    }
+
+    /// A slab wasn't lent: it is local.
+    pub fn refused(&mut self, lender: Lender, slab: Slab)
+        requires slab { slab.0 < self.old.device.sizes.slabs }
+        requires lender { lender.0 < MOST_LENDERS }
+        requires borrowing { slabs.state_of self.old.device.remote.slabs slab ≡ SlabState.Borrowing lender }
+        ensures { self.new ≡ record self.old { device = record self.old.device { remote = remote.refused self.old.device.remote lender slab } } }
+    {
+        self.remote.refused(lender, slab);
+    }
+
+    /// A write came back from a lender: remote memory can be read where it was of the page's newest entry.
+    pub fn written(&mut self, lender: Lender, page: Page, entry: EntryNo)
+        requires page { page.0 < pages_of self.old.device.sizes }
+        requires lender { lender.0 < MOST_LENDERS }
+        requires flying { 0 < slabs.flying_of (remote.state_for self.old.device.sizes self.old.device.remote.slabs page) }
+        ensures { self.new ≡ record self.old { device = record self.old.device { remote = remote.written self.old.device.sizes self.old.device.remote lender page (is_newest (last self.old.device.history page) entry) } } }
+    {
+        let newest = is_newest(self.newest[page.0 as usize], entry);
+        self.remote.written(lender, page, newest);
+    }
+
+    /// A page came from a lender.
+    pub fn brought(&mut self, lender: Lender, caller: Caller, page: Page, bytes: &[u8])
+        requires caller { caller.0 < self.old.device.sizes.callers }
+        requires page { page.0 < pages_of self.old.device.sizes }
+        requires lender { lender.0 < MOST_LENDERS }
+        requires bytes { length bytes.now ≡ self.old.device.sizes.page_bytes }
+        requires waiting { is_waiting (state_of self.old.device.calls caller) ≡ true }
+        requires flying { 0 < slabs.flying_of (remote.state_for self.old.device.sizes self.old.device.remote.slabs page) }
+        ensures { self.new ≡ record self.old { device = record self.old.device { remote = remote.settled_for self.old.device.sizes self.old.device.remote lender page; calls = came self.old.device.calls caller bytes.now } } }
+    {
+        self.remote.settled_for(lender, page);
+        self.calls.came(caller, bytes);
+    }
+
+    /// A link was lost: its slabs are local, and the calls that wait through it are lost.
+    pub fn lost(&mut self, lender: Lender)
+        requires { lender.0 < MOST_LENDERS }
+        ensures { self.new ≡ record self.old { device = lost self.old.device lender } }
+    {
+        self.remote.lost(lender);
+        self.calls.lost(lender);
+    }
+
+    /// A link was made.
+    pub fn raised(&mut self, lender: Lender)
+        requires lender { lender.0 < MOST_LENDERS }
+        requires links { self.old.device.links_made + 1 < 2 ^ 32 }
+        ensures { self.new ≡ record self.old { device = raised self.old.device lender } }
+    {
+        self.remote.raised(lender);
+        self.links_made += 1;
+    }
+}
+
+// Whether an entry is the newest of its page.
+fn is_newest(newest: Option<EntryNo>, entry: EntryNo) -> bool
+    ensures { result ≡ is_newest newest entry }
+{
+    match newest {
+        None => false,
+        Some(newest) => newest.0 == entry.0,
     }
 }

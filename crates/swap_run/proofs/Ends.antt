@@ -5,11 +5,11 @@ use Rattle.swap_io.specs.Causes.{AppendsFront, HasCause, WasReadWhole}
 use Rattle.swap_world.specs.Answered.{EachCallOnce}
 use Rattle.swap_world.specs.Laws.{AlwaysLegal, EntriesAreSeen}
 use Rattle.swap_world.specs.World.{World, start, reach, history}
-use Rattle.swap_script.specs.declared.TheConstants.{TEXT_LIMIT}
-use Rattle.swap_script.specs.declared.ScriptRefused.{ScriptRefused}
-use Rattle.swap_script.specs.Laws.{EventsInRange}
-use Rattle.swap_script.specs.Reading as reading
-use Rattle.swap_script.specs.Transcript.{header, end_line}
+use Rattle.swap_plain.specs.declared.TheConstants.{TEXT_LIMIT}
+use Rattle.swap_plain.specs.declared.ScriptRefused.{ScriptRefused}
+use Rattle.swap_plain.specs.Laws.{EventsInRange}
+use Rattle.swap_plain.specs.Reading as reading
+use Rattle.swap_plain.specs.Transcript.{header, end_line}
 use Rattle.swap_run.specs.declared.Ending.{Ending}
 use Rattle.swap_run.specs.declared.Ending.TheVariants as ending
 use Rattle.swap_run.specs.Clause.{Command, Ends, Stream, Told, TextEnds, ScriptEnds}

@@ -15,15 +15,15 @@ use Rattle.swap_wire.specs.declared.Seen.{Seen}
 use Rattle.swap_wire.specs.declared.Seen.TheVariants as seen
 use Rattle.swap_record.specs.History.{History}
 use Rattle.swap_disk.specs.Drive.{Drive, Moves, ask}
-use Rattle.swap_device.specs.Ports.{run}
-use Rattle.swap_device.specs.Device.{Device}
-use Rattle.swap_device.specs.State.{KeepsRoom}
+use Rattle.swap_local.specs.Ports.{run}
+use Rattle.swap_local.specs.Device.{Device}
+use Rattle.swap_local.specs.State.{KeepsRoom}
 use Rattle.swap_world.specs.Laws.{StepsAreNext, HistoriesGoOn}
 use Rattle.swap_world.specs.World.{World, Next, IsStep, happens, next, next_of, reach, seens, history}
 use Rattle.swap_world.specs.Runs.{WorldOf, GoesOn, StandsIn, GrowsByCalls, is_new_call, has_effect, one_less_if}
-use Rattle.swap_script.specs.Reading.{Script, calls_of, calls_in, page_after, first_event, later, is_out}
-use Rattle.swap_script.specs.Laws.{LinesStay}
-use Rattle.swap_script.specs.Transcript.{HasEntry, line}
+use Rattle.swap_plain.specs.Reading.{Script, calls_of, calls_in, page_after, first_event, later, is_out}
+use Rattle.swap_plain.specs.Laws.{LinesStay}
+use Rattle.swap_plain.specs.Transcript.{HasEntry, line}
 use Rattle.swap_run.specs.Run.{lines_of}
 use Rattle.swap_run.specs.Printing.{world_in, lines_from, HasRoomFor, Printing}
 

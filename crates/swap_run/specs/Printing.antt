@@ -8,8 +8,8 @@ use Rattle.swap_wire.specs.declared.Seen.{Seen}
 use Rattle.swap_disk.specs.Drive.{Drive}
 use Rattle.swap_world.specs.World.{World, reach, seens, history}
 use Rattle.swap_world.specs.Runs.{WorldOf, busy_callers}
-use Rattle.swap_script.specs.Reading.{Script, calls_of}
-use Rattle.swap_script.specs.Transcript.{HasEntry}
+use Rattle.swap_plain.specs.Reading.{Script, calls_of}
+use Rattle.swap_plain.specs.Transcript.{HasEntry}
 use Rattle.swap_run.specs.Run.{lines_of}
 
 -- the program's world as a function's

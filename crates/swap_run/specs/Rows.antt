@@ -1,9 +1,9 @@
 -- Rows by hand: a script's text and its transcript, and texts that are no scripts.
 use Rattle.std.specs.Prelude.{◌≡◌, ℕ, List, [], ◌∷◌, flat_map, codes, Ok, Err}
 use Rattle.swap_base.specs.declared.Field.TheVariants.{PageBytes}
-use Rattle.swap_script.specs.declared.Why.{Why}
-use Rattle.swap_script.specs.declared.Why.TheVariants as why
-use Rattle.swap_script.specs.Lines.{ended}
+use Rattle.swap_plain.specs.declared.Why.{Why}
+use Rattle.swap_plain.specs.declared.Why.TheVariants as why
+use Rattle.swap_plain.specs.Lines.{ended}
 use Rattle.swap_run.specs.Run.{output_of}
 
 abbrev text : List (List ℕ) → List ℕ

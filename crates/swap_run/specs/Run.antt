@@ -12,9 +12,9 @@ use Rattle.swap_world.specs.World.{World, start, reach, seens, history, made_by}
 use Rattle.swap_world.specs.Answered.{AreAnsweredOnce}
 use Rattle.swap_world.specs.Failures.{HoldsEntriesSeen, failed_writes_in, failed_reads_in}
 use Rattle.swap_wire.specs.Input.{Input}
-use Rattle.swap_script.specs.declared.ScriptRefused.{ScriptRefused}
-use Rattle.swap_script.specs.Reading.{Script, script, ◌>>=◌}
-use Rattle.swap_script.specs.Transcript.{transcript, line}
+use Rattle.swap_plain.specs.declared.ScriptRefused.{ScriptRefused}
+use Rattle.swap_plain.specs.Reading.{Script, script, ◌>>=◌}
+use Rattle.swap_plain.specs.Transcript.{transcript, line}
 
 -- the world after a script's events, their history, and their transcript
 abbrev pub world_of : Script → World
@@ -50,7 +50,8 @@ abbrev pub made_of : Script → List (Input × Seen)
 made_of s = made_by [] (start s.sizes) s.inputs
 
 -- The history that a script prints is one of an array of pages that starts as zeros, and holds each caller's answered
--- calls once, in its order. It is exactly the entries that were seen, and a failure has the counts of its own call.
+-- calls once, in its order. It is exactly the entries that were seen, and a failure has its cause: the counts of its
+-- own call, and for a page-in its own failed read.
 pub record IsHeadline (s : Script) : Type 0 where
   pub legal : IsLegal (zeros s.sizes) (history_of s)
   pub once : (c : Caller) → c.0 < s.sizes.callers → AreAnsweredOnce c (made_of s) (world_of s).device

@@ -9,7 +9,7 @@ mod print;
 mod run;
 
 pub use run::run_lab;
-use swap_script::{ScriptRefused, events_in_range};
+use swap_plain::{ScriptRefused, events_in_range};
 use swap_world::{always_legal, each_call_once, entries_are_seen};
 
 /// How a call of the program ends.
@@ -29,7 +29,7 @@ pub enum Ending {
 
 /// Whatever a script's events are and whatever fails, the history that its transcript prints is one of an array of pages
 /// that starts as zeros, and holds each caller's answered calls once, in its order. It is exactly the entries that were
-/// seen, and the two counts of a failure are those of its own call.
+/// seen, and a failure has its cause: the counts of its own call, and for a page-in its own failed read.
 pub fn scripts_keep_the_headline()
     ensures { ScriptsKeepTheHeadline }
 {

@@ -2,12 +2,12 @@ ghost use Rattle.std.specs.Prelude.{◌≡◌, ◌+◌, ◌≤◌, length, OnOk,
 ghost use Rattle.std.specs.Io.KnownBytes.{Appends};
 ghost use Rattle.swap_io.specs.Causes.{HasCause, AppendsFront};
 ghost use Rattle.swap_world.specs.World.{reach, history};
-ghost use Rattle.swap_script.specs.Transcript.{header, end_line};
+ghost use Rattle.swap_plain.specs.Transcript.{header, end_line};
 ghost use Rattle.swap_run.specs.Printing.{world_in, lines_from, HasRoomFor};
 
 use swap_disk::MemDisk;
 use swap_io::{LineBuf, Sink, WriteFailed, write_line};
-use swap_script::{Walk, end_line, event_line, header_line, lines_stay};
+use swap_plain::{Walk, end_line, event_line, header_line, lines_stay};
 use swap_world::{World, histories_go_on, steps_are_next};
 
 // Makes the events that are left, and writes a line of each.

@@ -1,6 +1,6 @@
 ghost use Rattle.std.specs.Prelude.{◌≡◌, ◌≤◌, length, map, true, false, Some, None, IfOk, OnErr, Err};
 ghost use Rattle.swap_record.specs.History.{History};
-ghost use Rattle.swap_script.specs.Reading.{script as script_of};
+ghost use Rattle.swap_plain.specs.Reading.{script as script_of};
 ghost use Rattle.swap_world.specs.World.{start};
 ghost use Rattle.swap_run.specs.Clause.{EndsWith, RunScript, stream, command_of, TextEnds, LabEnds, ScriptEnds, IsNoRefusal, status_of, err_text};
 ghost use Rattle.swap_run.specs.Run.{has_failed, is_failed};
@@ -12,8 +12,8 @@ use std::alloc::Global;
 use swap_base::{EntryNo, NoMemory};
 use swap_disk::MemDisk;
 use swap_io::{LineBuf, Sink, Source, WholeRefused, read_whole, write_line};
+use swap_plain::{Script, TEXT_LIMIT, events_in_range, read_script, refusal_line};
 use swap_record::{Op, Record};
-use swap_script::{Script, TEXT_LIMIT, events_in_range, read_script, refusal_line};
 use swap_world::{World, always_legal, each_call_once, entries_are_seen};
 
 // Whether an entry is of a call that failed.

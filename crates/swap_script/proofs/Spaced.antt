@@ -1,6 +1,9 @@
 -- Words on a line, one after another.
-use Rattle.std.proofs.Common.{◌≡◌, ℕ, ◌<◌, List, [], ◌∷◌, ◌++◌, length, eqb, cond, Bool, true, false, refl, sym, ap, ◌∙◌, arith, append_assoc, append-nil, Some}
+use Rattle.std.proofs.Common.{◌≡◌, ℕ, ◌+◌, ◌<◌, List, [], ◌∷◌, ◌++◌, length, map, decimal, eqb, cond, Bool, true, false, refl, sym, ap, ◌∙◌, arith, append_assoc, append-nil, Some}
 use Rattle.std.proofs.lemmas.Bool.Decides.{nat_tests}
+use Rattle.std.proofs.lemmas.List.{map-append, map-id}
+use Rattle.std.proofs.lemmas.List.FromFn.{filter_of_map_range_with_len_more}
+use Rattle.std.specs.List.{range_with_len, filter}
 use Rattle.swap_base.specs.declared.EntryNo.{EntryNo}
 use Rattle.swap_record.specs.History.{History, Row, named}
 use Rattle.swap_record.specs.Text.{entry_words, entry_text, row_words}
@@ -26,3 +29,17 @@ named-some (row ∷ H) n l = named-at row H n (eqb (length H) n) refl (λ other.
 
 pub led-entry : (H : History) (e : EntryNo) → e.0 < length H → led (entry_words H e) ≡ 32 ∷ entry_text H e
 led-entry H e l = let some = named-some H e.0 l in ap (λ r. led (row_words e.0 r)) some.1 ∙ sym (ap (λ r. 32 ∷ spaced (row_words e.0 r)) some.1)
+
+-- numbers below another that pass a test, and one more
+filter_more : (p : ℕ → Bool) (n : ℕ) → filter p (range_with_len 0 (n + 1)) ≡ filter p (range_with_len 0 n) ++ cond (p n) (n ∷ []) []
+filter_more p n =
+    ap (filter p) (sym (map-id (range_with_len 0 (n + 1)))) ∙ filter_of_map_range_with_len_more p (λ i. i) 0 n n (omega arith) ∙ ap (λ r. filter p r ++ cond (p n) (n ∷ []) []) (map-id (range_with_len 0 n))
+
+map-one : (b : Bool) (n : ℕ) → map decimal (cond b (n ∷ []) []) ≡ cond b (decimal n ∷ []) []
+map-one true n = refl
+map-one false n = refl
+
+pub led-numbers_more : (p : ℕ → Bool) (n : ℕ) → led (map decimal (filter p (range_with_len 0 (n + 1)))) ≡ led (map decimal (filter p (range_with_len 0 n))) ++ led (cond (p n) (decimal n ∷ []) [])
+led-numbers_more p n =
+    let below = filter p (range_with_len 0 n) in
+    ap (λ l. led (map decimal l)) (filter_more p n) ∙ ap led (map-append decimal below (cond (p n) (n ∷ []) [])) ∙ led-append (map decimal below) (map decimal (cond (p n) (n ∷ []) [])) ∙ ap (λ w. led (map decimal below) ++ led w) (map-one (p n) n)

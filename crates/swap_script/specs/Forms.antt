@@ -2,6 +2,9 @@
 use Rattle.std.specs.Prelude.{ℕ, ◌^◌, Bool, true, false, nat_lt, if◌then◌else◌, List, [], ◌∷◌, Option, None, Some, option_and_then, is_some, codes}
 use Rattle.swap_base.specs.declared.Page.{Page}
 use Rattle.swap_base.specs.declared.Caller.{Caller}
+use Rattle.swap_base.specs.declared.Slab.{Slab}
+use Rattle.swap_base.specs.declared.Lender.{Lender}
+use Rattle.swap_base.specs.declared.geometry.LenderSpec.{LenderSpec}
 use Rattle.swap_base.specs.declared.DiskWhich.{DiskWhich}
 use Rattle.swap_base.specs.declared.DiskWhich.TheVariants as which
 use Rattle.swap_base.specs.Sizes.{Sizes}
@@ -51,12 +54,18 @@ below limit n = if nat_lt n limit then Some n else None
 abbrev pub small : List ℕ → Option ℕ
 small word = number word >>= below (2 ^ 32)
 
--- the words of a caller and of a page
+-- the words of a caller, of a page, of a slab and of a lender
 abbrev pub caller_word : List ℕ → Option Caller
 caller_word word = small word >>= λ n. Some (record { 0 = n })
 
 abbrev pub page_word : List ℕ → Option Page
 page_word word = small word >>= λ n. Some (record { 0 = n })
+
+abbrev pub slab_word : List ℕ → Option Slab
+slab_word word = small word >>= λ n. Some (record { 0 = n })
+
+abbrev pub lender_word : List ℕ → Option Lender
+lender_word word = small word >>= λ n. Some (record { 0 = n })
 
 -- a word that is hex of whole bytes
 abbrev pub hex_word : List ℕ → Option (List ℕ)
@@ -103,6 +112,29 @@ disk_line words = do
   ok ← ok_word how
   plain (event.Disk which ok)
 
+abbrev pub map_line : List (List ℕ) → Option Line
+map_line words = do
+  (s, l) ← two_words words
+  slab ← slab_word s
+  lender ← lender_word l
+  plain (event.Map slab lender)
+
+-- an event that names a lender alone
+abbrev pub lender_event : (Lender → Event) → List (List ℕ) → Option Line
+lender_event of words = do
+  l ← one_word words
+  lender ← lender_word l
+  plain (of lender)
+
+abbrev pub connect_line : List (List ℕ) → Option Line
+connect_line words = lender_event event.Connect words
+
+abbrev pub give_line : List (List ℕ) → Option Line
+give_line words = lender_event event.Give words
+
+abbrev pub take_line : List (List ℕ) → Option Line
+take_line words = lender_event event.Take words
+
 -- a form by its first word, and what its other words give
 pub record Row : Type 0 where
   pub word : List ℕ
@@ -112,7 +144,17 @@ abbrev pub row : List ℕ → (List (List ℕ) → Option Line) → Row
 row word reads = record { word = word; reads = reads }
 
 abbrev pub event_rows : List Row
-event_rows = row (codes "out") out_line ∷ row (codes "in") in_line ∷ row (codes "finish") finish_line ∷ row (codes "start") start_line ∷ row (codes "disk") disk_line ∷ []
+event_rows =
+    row (codes "out") out_line
+    ∷ row (codes "in") in_line
+    ∷ row (codes "finish") finish_line
+    ∷ row (codes "start") start_line
+    ∷ row (codes "disk") disk_line
+    ∷ row (codes "map") map_line
+    ∷ row (codes "connect") connect_line
+    ∷ row (codes "give") give_line
+    ∷ row (codes "take") take_line
+    ∷ []
 
 abbrev pub by_row : List Row → List ℕ → List (List ℕ) → Option Line
 by_row [] word words = None
@@ -135,3 +177,12 @@ sizes_words words = do
   window ← small f
   hot ← small g
   Some (record { page_bytes = page_bytes; pages_per_slab = pages_per_slab; slabs = slabs; queue = queue; callers = callers; window = window; hot = hot })
+
+-- the three numbers of a lender line
+abbrev pub spec_words : List (List ℕ) → Option LenderSpec
+spec_words words = do
+  (a, b, c) ← three_words words
+  slots ← small a
+  headroom ← small b
+  extra ← small c
+  Some (record { slots = slots; headroom = headroom; extra = extra })

@@ -1,16 +1,20 @@
 -- What holds of every script, and of every printed line.
-use Rattle.std.specs.Prelude.{◌≡◌, ℕ, List, ◌++◌, Ok}
+use Rattle.std.specs.Prelude.{◌≡◌, ℕ, List, ◌++◌, length, Ok}
 use Rattle.std.specs.List.{AllByRecursion}
 use Rattle.swap_wire.specs.Input.{Input, IsInRange}
 use Rattle.swap_wire.specs.declared.Event.{Event}
 use Rattle.swap_wire.specs.declared.Seen.{Seen}
 use Rattle.swap_record.specs.History.{History}
-use Rattle.swap_script.specs.Reading.{Script, script}
+use Rattle.swap_script.specs.Reading.{Script, MayLend, script}
 use Rattle.swap_script.specs.Transcript.{HasEntry, line}
 
--- its events name callers and pages that its sizes have
+-- its events name callers, pages and slabs that its sizes have, and lenders that it has
 abbrev pub EventsInRange : Type 0
-EventsInRange = (text : List ℕ) (s : Script) → script text ≡ Ok s → AllByRecursion (λ (i : Input). IsInRange s.sizes i.event) s.inputs
+EventsInRange = (text : List ℕ) (s : Script) → script text ≡ Ok s → AllByRecursion (λ (i : Input). IsInRange s.sizes (length s.lenders) i.event) s.inputs
+
+-- its lenders are within their limits
+abbrev pub LendersMayLend : Type 0
+LendersMayLend = (text : List ℕ) (s : Script) → script text ≡ Ok s → MayLend s.sizes s.lenders
 
 -- an event's line stays what it is while the history grows
 abbrev pub LinesStay : Type 0

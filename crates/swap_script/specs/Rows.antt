@@ -1,10 +1,15 @@
 -- Texts by hand: what they are as scripts, or their first fault, and lines as they are printed.
-use Rattle.std.specs.Prelude.{◌≡◌, ℕ, true, false, List, [], ◌∷◌, flat_map, replicate, codes, None, Ok, Err}
+use Rattle.std.specs.Prelude.{◌≡◌, ℕ, true, false, List, [], ◌∷◌, ◌++◌, map, flat_map, replicate, codes, None, Some, Ok, Err}
 use Rattle.swap_base.specs.declared.DiskWhich.TheVariants as which
-use Rattle.swap_base.specs.declared.Field.TheVariants.{PageBytes}
+use Rattle.swap_base.specs.declared.Field.TheVariants.{PageBytes, Slots, Headroom, Extra}
+use Rattle.swap_base.specs.declared.Origin.TheVariants as origin
 use Rattle.swap_base.specs.declared.Via.TheVariants as via
+use Rattle.swap_base.specs.declared.geometry.LenderSpec.{LenderSpec}
 use Rattle.swap_base.specs.Sizes.{Sizes}
+use Rattle.swap_wire.specs.declared.Event.{Event}
 use Rattle.swap_wire.specs.declared.Event.TheVariants as event
+use Rattle.swap_wire.specs.declared.Msg.TheVariants as msg
+use Rattle.swap_wire.specs.declared.Seen.{Seen}
 use Rattle.swap_wire.specs.declared.Seen.TheVariants as seen
 use Rattle.swap_wire.specs.Input.{Input}
 use Rattle.swap_record.specs.declared.Op.TheVariants as op
@@ -13,7 +18,7 @@ use Rattle.swap_script.specs.declared.Why.{Why}
 use Rattle.swap_script.specs.declared.Why.TheVariants as why
 use Rattle.swap_script.specs.Lines.{ended}
 use Rattle.swap_script.specs.Reading.{script}
-use Rattle.swap_script.specs.Transcript.{header, line, end_line, refusal}
+use Rattle.swap_script.specs.Transcript.{header, lender_header, line, end_line, transcript, refusal}
 
 abbrev text : List (List ℕ) → List ℕ
 text lines = flat_map ended lines
@@ -22,7 +27,14 @@ abbrev small_sizes : Sizes
 small_sizes = record { page_bytes = 8; pages_per_slab = 4; slabs = 2; queue = 4; callers = 2; window = 4; hot = 20 }
 
 abbrev Gives : List ℕ → List Input → Type 0
-Gives bytes inputs = script bytes ≡ Ok (record { sizes = small_sizes; inputs = inputs })
+Gives bytes inputs = script bytes ≡ Ok (record { sizes = small_sizes; lenders = []; inputs = inputs })
+
+-- with one lender
+abbrev one_spec : LenderSpec
+one_spec = record { slots = 4; headroom = 1; extra = 1 }
+
+abbrev Lends : List ℕ → List Input → Type 0
+Lends bytes inputs = script bytes ≡ Ok (record { sizes = small_sizes; lenders = one_spec ∷ []; inputs = inputs })
 
 abbrev Refuses : List ℕ → ℕ → Why → Type 0
 Refuses bytes n w = script bytes ≡ Err (record { line = n; why = w })
@@ -30,11 +42,73 @@ Refuses bytes n w = script bytes ≡ Err (record { line = n; why = w })
 abbrev G : List ℕ
 G = codes "geometry 8 4 2 4 2 4 20"
 
+abbrev L : List ℕ
+L = codes "lender 4 1 1"
+
+-- an event without a page
+abbrev bare : Event → Input
+bare e = record { event = e; page = [] }
+
 abbrev pub ScriptRows : Type 0
 ScriptRows =
     Gives G []
     × Gives (text (codes "# a comment" ∷ G ∷ codes "" ∷ codes "out 1 7 0102" ∷ codes "# out 9 9 9" ∷ codes "disk read 0 bad" ∷ [])) (record { event = event.PageOut (record { 0 = 1 }) (record { 0 = 7 }); page = 1 ∷ 2 ∷ 1 ∷ 2 ∷ 1 ∷ 2 ∷ 1 ∷ 2 ∷ [] } ∷ record { event = event.Disk (which.Read (record { 0 = 0 })) false; page = [] } ∷ [])
     × Gives (text (G ∷ codes "in 0 5" ∷ codes "finish 0" ∷ codes "start" ∷ codes "disk write 3 ok" ∷ [])) (record { event = event.PageIn (record { 0 = 0 }) (record { 0 = 5 }); page = [] } ∷ record { event = event.Finish (record { 0 = 0 }); page = [] } ∷ record { event = event.Start; page = [] } ∷ record { event = event.Disk (which.Write (record { 0 = 3 })) true; page = [] } ∷ [])
+
+-- the events of a page-in that a lender answers: lender 0, slab 0, caller 0, and page 3
+abbrev connect : Event
+connect = event.Connect (record { 0 = 0 })
+
+abbrev map_slab : Event
+map_slab = event.Map (record { 0 = 0 }) (record { 0 = 0 })
+
+abbrev give : Event
+give = event.Give (record { 0 = 0 })
+
+abbrev take : Event
+take = event.Take (record { 0 = 0 })
+
+abbrev page_out : Event
+page_out = event.PageOut (record { 0 = 0 }) (record { 0 = 3 })
+
+abbrev written : Event
+written = event.Disk (which.Write (record { 0 = 3 })) true
+
+abbrev page_in : Event
+page_in = event.PageIn (record { 0 = 0 }) (record { 0 = 3 })
+
+abbrev finish : Event
+finish = event.Finish (record { 0 = 0 })
+
+abbrev page_in_from_a_lender_script : List (List ℕ)
+page_in_from_a_lender_script =
+    G ∷ L ∷ codes "connect 0" ∷ codes "map 0 0" ∷ codes "give 0" ∷ codes "give 0" ∷ codes "take 0" ∷ codes "out 0 3 aa" ∷ codes "give 0" ∷ codes "take 0" ∷ codes "start" ∷ codes "disk write 3 ok" ∷ codes "in 0 3" ∷ codes "give 0" ∷ codes "take 0" ∷ codes "finish 0" ∷ []
+
+abbrev page_in_from_a_lender_transcript : List (List ℕ)
+page_in_from_a_lender_transcript =
+    G
+    ∷ L
+    ∷ codes "connect 0 = link 0"
+    ∷ codes "map 0 0 = borrow"
+    ∷ codes "give 0 = hello 1"
+    ∷ codes "give 0 = borrow 0 > lent 0 0"
+    ∷ codes "take 0 = lent 0 0"
+    ∷ codes "out 0 3 = entry 0 out 3 aa to 0"
+    ∷ codes "give 0 = write 0 3 > wrote 0 3"
+    ∷ codes "take 0 = wrote 0 3"
+    ∷ codes "start = write 3 0"
+    ∷ codes "disk write 3 ok = written 0"
+    ∷ codes "in 0 3 = wait lender 0"
+    ∷ codes "give 0 = read 0 3 > page 0 3"
+    ∷ codes "take 0 = page 0 3"
+    ∷ codes "finish 0 = entry 1 in 3 of 0 lender 0 aa"
+    ∷ codes "end 2"
+    ∷ []
+
+abbrev pub LenderRows : Type 0
+LenderRows =
+    Lends (text (G ∷ L ∷ [])) []
+    × Lends (text page_in_from_a_lender_script) (map bare (connect ∷ map_slab ∷ give ∷ give ∷ take ∷ []) ++ record { event = page_out; page = replicate 8 170 } ∷ map bare (give ∷ take ∷ event.Start ∷ written ∷ page_in ∷ give ∷ take ∷ finish ∷ []))
 
 abbrev pub FaultRows : Type 0
 FaultRows =
@@ -49,6 +123,22 @@ FaultRows =
     × Refuses (text (G ∷ codes "out 0 0 aabbcc" ∷ [])) 2 why.Pattern
     × Refuses (text (G ∷ codes "out 0 0 abc" ∷ [])) 2 why.Form
 
+abbrev pub LenderFaultRows : Type 0
+LenderFaultRows =
+    Refuses (text (G ∷ codes "lender 4 1" ∷ [])) 2 why.Form
+    × Refuses (text (G ∷ codes "lender 65 65 65" ∷ [])) 2 (why.Field Slots)
+    × Refuses (text (G ∷ codes "lender 4 65 65" ∷ [])) 2 (why.Field Headroom)
+    × Refuses (text (G ∷ codes "lender 4 1 65" ∷ [])) 2 (why.Field Extra)
+    × Refuses (text (codes "geometry 4096 65536 1 4 2 4 20" ∷ codes "lender 3 1 1" ∷ [])) 2 why.Lent
+    × Refuses (text (G ∷ L ∷ L ∷ [])) 3 why.Form
+    × Refuses (text (G ∷ codes "start" ∷ L ∷ [])) 3 why.Form
+    × Refuses (text (G ∷ L ∷ codes "map 2 1" ∷ [])) 3 why.Slab
+    × Refuses (text (G ∷ L ∷ codes "map 1 1" ∷ [])) 3 why.Lender
+    × Refuses (text (G ∷ codes "connect 0" ∷ [])) 2 why.Lender
+    × Refuses (text (G ∷ L ∷ codes "connect 0" ∷ codes "connect 0" ∷ [])) 4 why.Form
+    × Refuses (text (G ∷ L ∷ codes "connect 0" ∷ codes "connect 1" ∷ [])) 4 why.Form
+    × Refuses (text (G ∷ L ∷ codes "tick 0" ∷ [])) 3 why.Form
+
 abbrev one_page_out : History
 one_page_out = pushed [] (record { 0 = 0 }) (record { 0 = 3 }) op.PageOut (replicate 8 170)
 
@@ -61,3 +151,36 @@ PrintedRows =
     × (line [] (event.Start, seen.Nothing) ≡ ended (codes "start = -"))
     × (end_line 2 ≡ ended (codes "end 2"))
     × (refusal (record { line = 3; why = why.Page }) ≡ ended (codes "line 3: page"))
+
+-- what was seen of the page-in that a lender answers: lease 0 and place 3
+abbrev seen_of_a_lender : List (Event × Seen)
+seen_of_a_lender =
+    (connect, seen.Linked (record { 0 = 0 }))
+    ∷ (map_slab, seen.Borrowing)
+    ∷ (give, seen.Gave (msg.Hello 1 8 4) None 0)
+    ∷ (give, seen.Gave (msg.Borrow (record { 0 = 0 })) (Some (msg.Lent (record { 0 = 0 }) (record { 0 = 0 }))) 0)
+    ∷ (take, seen.Took (msg.Lent (record { 0 = 0 }) (record { 0 = 0 })))
+    ∷ (page_out, seen.Done (record { 0 = 0 }) (Some (record { 0 = 0 })))
+    ∷ (give, seen.Gave (msg.Write (record { 0 = 0 }) 3) (Some (msg.Wrote (record { 0 = 0 }) 3)) 0)
+    ∷ (take, seen.Took (msg.Wrote (record { 0 = 0 }) 3))
+    ∷ (event.Start, seen.Started (record { 0 = 3 }) (record { 0 = 0 }))
+    ∷ (written, seen.Written (record { 0 = 0 }))
+    ∷ (page_in, seen.Wait (via.Lender (record { 0 = 0 })))
+    ∷ (give, seen.Gave (msg.Read (record { 0 = 0 }) 3) (Some (msg.PageIs (record { 0 = 0 }) 3)) 0)
+    ∷ (take, seen.Took (msg.PageIs (record { 0 = 0 }) 3))
+    ∷ (finish, seen.Done (record { 0 = 1 }) None)
+    ∷ []
+
+abbrev two_entries : History
+two_entries =
+    pushed one_page_out (record { 0 = 0 }) (record { 0 = 3 }) (op.PageIn (Some (record { 0 = 0 })) (origin.Lender (record { 0 = 0 }))) (replicate 8 170)
+
+abbrev pub LinkRows : Type 0
+LinkRows =
+    (lender_header one_spec ≡ ended L)
+    × (transcript small_sizes (one_spec ∷ []) seen_of_a_lender two_entries ≡ text page_in_from_a_lender_transcript)
+    × (line [] (give, seen.Gave (msg.Rates (record { 0 = 0 }) 0) None 5) ≡ ended (codes "give 0 = rates 0 0 evict 0 2"))
+    × (line [] (give, seen.GaveEnded (msg.Done (record { 0 = 7 }))) ≡ ended (codes "give 0 = done 7 ended"))
+    × (line [] (give, seen.GaveEnd) ≡ ended (codes "give 0 = end"))
+    × (line [] (take, seen.Lost) ≡ ended (codes "take 0 = lost"))
+    × (line [] (take, seen.Lied) ≡ ended (codes "take 0 = lied"))

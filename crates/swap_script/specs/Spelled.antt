@@ -1,7 +1,8 @@
 -- What the code's lines and counts are in the terms of the reading.
-use Rattle.std.specs.Prelude.{Result, Ok, Err}
+use Rattle.std.specs.Prelude.{ℕ, Result, Ok, Err}
 use Rattle.swap_base.specs.declared.Field.{Field}
 use Rattle.swap_base.specs.declared.FieldRefused.{FieldRefused}
+use Rattle.swap_base.specs.declared.geometry.LenderSpec.{LenderSpec}
 use Rattle.swap_base.specs.Sizes.{Sizes}
 use Rattle.swap_script.specs.declared.forms.Line.{Line as CodeLine}
 use Rattle.swap_script.specs.declared.faults.Counts.{Counts}
@@ -17,4 +18,8 @@ as_within (Ok s) = Ok s
 as_within (Err refused) = Err refused.field
 
 abbrev pub above_of : Counts → Above
-above_of counts = record { events = counts.events; calls = counts.calls }
+above_of counts = record { events = counts.events; calls = counts.calls; connected = counts.connected }
+
+-- a lender by its three numbers
+abbrev pub spec_of : ℕ × ℕ × ℕ → LenderSpec
+spec_of (slots, headroom, extra) = record { slots = slots; headroom = headroom; extra = extra }

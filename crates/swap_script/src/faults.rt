@@ -1,14 +1,14 @@
 //! What a line owes besides its form.
-ghost use Rattle.std.specs.Prelude.{◌≡◌, ℕ, ◌+◌, ◌<◌, ◌≤◌, ◌==◌, nat_lt, nat_le, is_some, true, if◌then◌else◌};
+ghost use Rattle.std.specs.Prelude.{◌≡◌, ℕ, ◌+◌, ◌<◌, ◌≤◌, ◌==◌, ◌||◌, nat_lt, nat_le, is_some, true, if◌then◌else◌};
 ghost use Rattle.std.specs.List.{list_any};
 ghost use Rattle.swap_base.specs.Sizes.{first_beyond};
 ghost use Rattle.swap_io.specs.Words.{pattern, piece_of, lengths};
-ghost use Rattle.swap_script.specs.Reading.{caller_of, page_of, is_out, calls_in, has_caller, has_page, has_pattern, tests, counted};
+ghost use Rattle.swap_script.specs.Reading.{caller_of, page_of, mapped_slab, lender_of, is_connect, is_out, calls_in, may_connect, has_caller, has_page, has_slab, has_lender, tests};
 ghost use Rattle.swap_script.specs.Spelled.{spelled, above_of};
 
 use super::Why;
 use super::forms::Line;
-use swap_base::{Caller, DiskWhich, Geometry, Page};
+use swap_base::{Caller, DiskWhich, Geometry, Lender, Page, Slab};
 use swap_wire::Event;
 
 /// How many bytes all calls of a script may page, at most.
@@ -17,11 +17,12 @@ const CALL_BYTES: u64 = 1_073_741_824;
 /// How many events a script may have, at most.
 pub const EVENT_LIMIT: u32 = 4_194_304;
 
-/// How many events stand above a line, and how many of them are calls.
+/// How many events stand above a line, how many of them are calls, and whether one is a `connect` line.
 #[derive(Clone, Copy)]
 pub struct Counts {
     pub events: u32,
     pub calls: u32,
+    pub connected: bool,
 }
 
 fn caller_of(event: Event) -> Option<Caller>
@@ -49,6 +50,36 @@ fn page_of(event: Event) -> Option<Page>
         } => Some(page),
         _ => None,
     }
+}
+
+fn mapped_slab(event: Event) -> Option<Slab>
+    ensures { result ≡ mapped_slab event }
+{
+    match event {
+        Event::Map { slab, .. } => Some(slab),
+        _ => None,
+    }
+}
+
+fn lender_of(event: Event) -> Option<Lender>
+    ensures { result ≡ lender_of event }
+{
+    match event {
+        Event::Map { lender, .. }
+        | Event::Connect { lender }
+        | Event::Give { lender }
+        | Event::Take { lender }
+        | Event::Cut { lender, .. }
+        | Event::Crash { lender }
+        | Event::Host { lender, .. } => Some(lender),
+        _ => None,
+    }
+}
+
+fn is_connect(event: Event) -> bool
+    ensures { result ≡ is_connect event }
+{
+    matches!(event, Event::Connect { .. })
 }
 
 pub fn is_out(event: Event) -> bool
@@ -84,6 +115,24 @@ fn has_page(geometry: &Geometry, event: Event) -> bool
     }
 }
 
+fn has_slab(geometry: &Geometry, event: Event) -> bool
+    ensures { result ≡ has_slab geometry.now event }
+{
+    match mapped_slab(event) {
+        None => true,
+        Some(slab) => slab.0 < geometry.slabs(),
+    }
+}
+
+fn has_lender(lenders: u32, event: Event) -> bool
+    ensures { result ≡ has_lender lenders event }
+{
+    match lender_of(event) {
+        None => true,
+        Some(lender) => lender.0 < lenders,
+    }
+}
+
 fn is_piece_length(bytes: usize) -> bool
     ensures { result ≡ list_any (λ n. bytes == n) lengths }
 {
@@ -103,18 +152,27 @@ fn is_pattern(hex: &[u8], page_bytes: u32) -> bool
     is_piece_length(bytes) && bytes <= page_bytes as usize
 }
 
-/// The first fault of a line that has a form.
-pub fn fault_of(geometry: &Geometry, above: Counts, line: Line<'_>) -> Option<Why>
+/// The first fault of a line that has a form, where there are so many lenders.
+pub fn fault_of(geometry: &Geometry, lenders: u32, above: Counts, line: Line<'_>) -> Option<Why>
     requires counts { above.calls ≤ above.events }
     requires within { above.events ≤ EVENT_LIMIT }
     requires hex { is_out line.event ≡ true → is_some (piece_of line.hex.now) ≡ true }
-    ensures { result ≡ first_beyond (tests geometry.now (above_of above) (spelled line.entry)) }
+    ensures { result ≡ first_beyond (tests geometry.now lenders (above_of above) (spelled line.entry)) }
 {
+    if above.connected && is_connect(line.event) {
+        return Some(Why::Form);
+    }
     if !has_caller(geometry, line.event) {
         return Some(Why::Caller);
     }
     if !has_page(geometry, line.event) {
         return Some(Why::Page);
+    }
+    if !has_slab(geometry, line.event) {
+        return Some(Why::Slab);
+    }
+    if !has_lender(lenders, line.event) {
+        return Some(Why::Lender);
     }
     if is_out(line.event) && !is_pattern(line.hex, geometry.page_bytes()) {
         return Some(Why::Pattern);
@@ -136,10 +194,12 @@ impl Counts {
         requires within { self.events < EVENT_LIMIT }
         ensures events { result.events ≡ self.events + 1 }
         ensures calls { result.calls ≡ self.calls + calls_in event }
+        ensures connected { result.connected ≡ (self.connected || is_connect event) }
     {
         Counts {
             events: self.events + 1,
             calls: self.calls + calls_in(event),
+            connected: self.connected || is_connect(event),
         }
     }
 }

@@ -3,13 +3,13 @@ ghost use Rattle.std.specs.Prelude.{◌≡◌, true, false, IfSome, is_some};
 ghost use Rattle.std.specs.Option.{option_map};
 ghost use Rattle.swap_io.specs.Words.{piece_of};
 ghost use Rattle.swap_script.specs.Lines.{words_of, is_word};
-ghost use Rattle.swap_script.specs.Forms.{small, caller_word, page_word, ok_word, which_words, out_line, in_line, finish_line, start_line, disk_line, event_line, sizes_words};
+ghost use Rattle.swap_script.specs.Forms.{small, caller_word, page_word, slab_word, lender_word, ok_word, which_words, out_line, in_line, finish_line, start_line, disk_line, map_line, connect_line, give_line, take_line, event_line, sizes_words};
 ghost use Rattle.swap_script.specs.Reading.{geometry_line, within, is_out};
 ghost use Rattle.swap_script.specs.Spelled.{spelled, as_within};
 
 use super::Why;
 use super::text::Words;
-use swap_base::{Caller, DiskWhich, FieldRefused, Geometry, Page};
+use swap_base::{Caller, DiskWhich, FieldRefused, Geometry, Lender, Page, Slab};
 use swap_io::{is_hex, number};
 use swap_wire::Event;
 
@@ -20,14 +20,14 @@ pub struct Line<'t> {
     pub hex: &'t [u8],
 }
 
-fn is_word(word: &[u8], name: &[u8]) -> bool
+pub fn is_word(word: &[u8], name: &[u8]) -> bool
     ensures { result ≡ is_word name.now word.now }
 {
     name == word
 }
 
 /// A number below 2^32.
-fn small(word: &[u8]) -> Option<u32>
+pub fn small(word: &[u8]) -> Option<u32>
     ensures { result ≡ small word.now }
 {
     let n = number(word)?;
@@ -44,6 +44,18 @@ fn page_word(word: &[u8]) -> Option<Page>
     ensures { result ≡ page_word word.now }
 {
     Some(Page(small(word)?))
+}
+
+fn slab_word(word: &[u8]) -> Option<Slab>
+    ensures { result ≡ slab_word word.now }
+{
+    Some(Slab(small(word)?))
+}
+
+fn lender_word(word: &[u8]) -> Option<Lender>
+    ensures { result ≡ lender_word word.now }
+{
+    Some(Lender(small(word)?))
 }
 
 fn ok_word(how: &[u8]) -> Option<bool>
@@ -122,6 +134,44 @@ fn disk_line<'t>(words: Words<'t>) -> Option<Line<'t>>
     Some(Line { event, hex: &[] })
 }
 
+fn map_line<'t>(words: Words<'t>) -> Option<Line<'t>>
+    ensures line { option_map spelled result ≡ map_line words.entry }
+    ensures plain { IfSome result (λ line. is_out line.event ≡ false) }
+{
+    let (s, l) = words.two()?;
+    let slab = slab_word(s)?;
+    let lender = lender_word(l)?;
+    let event = Event::Map { slab, lender };
+    Some(Line { event, hex: &[] })
+}
+
+fn connect_line<'t>(words: Words<'t>) -> Option<Line<'t>>
+    ensures line { option_map spelled result ≡ connect_line words.entry }
+    ensures plain { IfSome result (λ line. is_out line.event ≡ false) }
+{
+    let lender = lender_word(words.one()?)?;
+    let event = Event::Connect { lender };
+    Some(Line { event, hex: &[] })
+}
+
+fn give_line<'t>(words: Words<'t>) -> Option<Line<'t>>
+    ensures line { option_map spelled result ≡ give_line words.entry }
+    ensures plain { IfSome result (λ line. is_out line.event ≡ false) }
+{
+    let lender = lender_word(words.one()?)?;
+    let event = Event::Give { lender };
+    Some(Line { event, hex: &[] })
+}
+
+fn take_line<'t>(words: Words<'t>) -> Option<Line<'t>>
+    ensures line { option_map spelled result ≡ take_line words.entry }
+    ensures plain { IfSome result (λ line. is_out line.event ≡ false) }
+{
+    let lender = lender_word(words.one()?)?;
+    let event = Event::Take { lender };
+    Some(Line { event, hex: &[] })
+}
+
 /// The event of a line, if the line has the form of one.
 pub fn event_line<'t>(line: &'t [u8]) -> Option<Line<'t>>
     ensures line { option_map spelled result ≡ event_line (words_of line.now) }
@@ -139,6 +189,14 @@ pub fn event_line<'t>(line: &'t [u8]) -> Option<Line<'t>>
         start_line(words)
     } else if is_word(first, b"disk") {
         disk_line(words)
+    } else if is_word(first, b"map") {
+        map_line(words)
+    } else if is_word(first, b"connect") {
+        connect_line(words)
+    } else if is_word(first, b"give") {
+        give_line(words)
+    } else if is_word(first, b"take") {
+        take_line(words)
     } else {
         None
     }

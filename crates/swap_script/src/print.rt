@@ -1,14 +1,16 @@
 //! What a run prints: words, parted by spaces, in a line.
-ghost use Rattle.std.specs.Prelude.{◌≡◌, ℕ, ◌+◌, ◌<◌, ◌≤◌, [], ◌∷◌, ◌++◌, length, decimal};
+ghost use Rattle.std.specs.Prelude.{◌≡◌, ℕ, ◌+◌, ◌*◌, ◌<◌, ◌≤◌, [], ◌∷◌, ◌++◌, length, map, decimal, if◌then◌else◌};
+ghost use Rattle.swap_choice.specs.Slots.{has, slots};
 ghost use Rattle.swap_script.specs.Lines.{led};
 ghost use Rattle.swap_record.specs.Text.{entry_words};
-ghost use Rattle.swap_script.specs.Transcript.{header, line, HasEntry, seen_words, sent_words, end_line, refusal, ok_or_bad, event_name, disk_words, event_rest, via_words, why_word, field_word};
+ghost use Rattle.swap_script.specs.Transcript.{header, lender_header, line, HasEntry, seen_words, sent_words, msg_name, msg_rest, msg_words, reply_words, evicted_words, gave_words, end_line, refusal, ok_or_bad, event_name, disk_words, event_rest, via_words, why_word, field_word};
 
 use super::{ScriptRefused, Why};
-use swap_base::{DiskWhich, EntryNo, Field, Geometry, Lender, Via};
+use swap_base::{DiskWhich, EntryNo, Field, Geometry, Lender, LenderSpec, Via};
+use swap_choice::{SLOTS, has_slot};
 use swap_io::LineBuf;
 use swap_record::Record;
-use swap_wire::{Event, Seen};
+use swap_wire::{Event, Msg, Seen};
 
 /// Appends a space and a word.
 fn word(out: &mut LineBuf, word: &[u8])
@@ -61,6 +63,18 @@ pub fn header_line(geometry: &Geometry, out: &mut LineBuf)
     number(out, u64::from(geometry.callers()));
     number(out, u64::from(geometry.window()));
     number(out, u64::from(geometry.hot()));
+    out.text(b"\n");
+}
+
+/// Writes the line of a lender into the emptied `out`.
+pub fn lender_line(spec: &LenderSpec, out: &mut LineBuf)
+    ensures { out.new ≡ lender_header spec.now }
+{
+    out.clear();
+    out.text(b"lender");
+    number(out, u64::from(spec.slots));
+    number(out, u64::from(spec.headroom));
+    number(out, u64::from(spec.extra));
     out.text(b"\n");
 }
 
@@ -258,10 +272,120 @@ fn named_number(out: &mut LineBuf, name: &[u8], n: u64)
     number(out, n);
 }
 
+fn msg_name(msg: &Msg) -> &'static [u8]
+    ensures word { result.now ≡ msg_name msg.now }
+    ensures length { length result.now ≤ 7 }
+{
+    match msg {
+        Msg::Hello { .. } => b"hello",
+        Msg::Query { .. } => b"query",
+        Msg::Borrow { .. } => b"borrow",
+        Msg::Write { .. } => b"write",
+        Msg::Read { .. } => b"read",
+        Msg::Rates { .. } => b"rates",
+        Msg::Done { .. } => b"done",
+        Msg::Room { .. } => b"room",
+        Msg::Lent { .. } => b"lent",
+        Msg::Refused { .. } => b"refused",
+        Msg::Wrote { .. } => b"wrote",
+        Msg::PageIs { .. } => b"page",
+        Msg::AskRates { .. } => b"ask",
+        Msg::Evict { .. } => b"evict",
+    }
+}
+
+/// Appends the numbers of a message.
+fn msg_rest(msg: &Msg, out: &mut LineBuf)
+    requires { length out.old ≤ 1_000 }
+    ensures text { out.new ≡ out.old ++ led (msg_rest msg.now) }
+    ensures length { length out.new ≤ length out.old + 42 }
+{
+    match *msg {
+        Msg::Hello { version, .. } => number(out, u64::from(version)),
+        Msg::Query { slab } | Msg::Borrow { slab } | Msg::Refused { slab } => {
+            number(out, u64::from(slab.0))
+        }
+        Msg::Write { lease, place }
+        | Msg::Read { lease, place }
+        | Msg::Wrote { lease, place }
+        | Msg::PageIs { lease, place } => { two_numbers(out, u64::from(lease.0), u64::from(place)) }
+        Msg::Rates { lease, value } => two_numbers(out, u64::from(lease.0), value),
+        Msg::Done { lease } | Msg::AskRates { lease } | Msg::Evict { lease } => {
+            number(out, u64::from(lease.0))
+        }
+        Msg::Room { slab, free } => two_numbers(out, u64::from(slab.0), u64::from(free)),
+        Msg::Lent { slab, lease } => two_numbers(out, u64::from(slab.0), u64::from(lease.0)),
+    }
+}
+
+fn msg_words(msg: &Msg, out: &mut LineBuf)
+    requires { length out.old ≤ 900 }
+    ensures text { out.new ≡ out.old ++ led (msg_words msg.now) }
+    ensures length { length out.new ≤ length out.old + 50 }
+{
+    word(out, msg_name(msg));
+    msg_rest(msg, out);
+}
+
+fn reply_words(reply: &Option<Msg>, out: &mut LineBuf)
+    requires { length out.old ≤ 800 }
+    ensures text { out.new ≡ out.old ++ led (reply_words reply.now) }
+    ensures length { length out.new ≤ length out.old + 52 }
+{
+    if let Some(msg) = reply {
+        word(out, b">");
+        msg_words(msg, out);
+    }
+}
+
+/// Appends a slot, if a set has it.
+fn slot_word(set: u64, slot: u32, out: &mut LineBuf)
+    requires { length out.old ≤ 9_000 }
+    ensures text { out.new ≡ out.old ++ led (if has set slot then decimal slot ∷ [] else []) }
+    ensures length { length out.new ≤ length out.old + 21 }
+{
+    if has_slot(set, slot) {
+        number(out, u64::from(slot));
+    }
+}
+
+/// Appends the slots of a set, ascending.
+fn slot_words(set: u64, out: &mut LineBuf)
+    requires { length out.old ≤ 2_000 }
+    ensures text { out.new ≡ out.old ++ led (map decimal (slots set)) }
+    ensures length { length out.new ≤ length out.old + 1_344 }
+{
+    for slot in 0..SLOTS {
+        slot_word(set, slot, out);
+    }
+}
+
+fn evicted_words(set: u64, out: &mut LineBuf)
+    requires { length out.old ≤ 1_500 }
+    ensures text { out.new ≡ out.old ++ led (evicted_words set) }
+    ensures length { length out.new ≤ length out.old + 1_350 }
+{
+    if set != 0 {
+        word(out, b"evict");
+        slot_words(set, out);
+    }
+}
+
+/// Appends what a lender did with a message: the message that it took, its reply, and the slots that were told to go.
+fn gave_words(taken: &Msg, reply: &Option<Msg>, evicted: u64, out: &mut LineBuf)
+    requires { length out.old ≤ 700 }
+    ensures text { out.new ≡ out.old ++ led (gave_words taken.now reply.now evicted) }
+    ensures length { length out.new ≤ length out.old + 1_452 }
+{
+    msg_words(taken, out);
+    reply_words(reply, out);
+    evicted_words(evicted, out);
+}
+
 /// Appends the words of what was seen. What no line gives yet has none.
 fn seen_words(seen: &Seen, history: &Record, out: &mut LineBuf)
     requires entry { HasEntry history.now.history seen.now }
-    requires room { length out.old ≤ 1_000 }
+    requires room { length out.old ≤ 500 }
     ensures text { out.new ≡ out.old ++ led (seen_words history.now.history seen.now) }
     ensures length { length out.new ≤ length out.old + 8_425 }
 {
@@ -292,6 +416,21 @@ fn seen_words(seen: &Seen, history: &Record, out: &mut LineBuf)
         Seen::WriteDropped { entry } => named_number(out, b"dropped", u64::from(entry.0)),
         Seen::ReadCame { page } => named_number(out, b"came", u64::from(page.0)),
         Seen::ReadFailed { page } => named_number(out, b"failed", u64::from(page.0)),
+        Seen::Borrowing => word(out, b"borrow"),
+        Seen::Linked { link } => named_number(out, b"link", u64::from(link.0)),
+        Seen::Gave {
+            ref msg,
+            ref reply,
+            evicted,
+        } => gave_words(msg, reply, evicted, out),
+        Seen::GaveEnd => word(out, b"end"),
+        Seen::GaveEnded { ref msg } => {
+            msg_words(msg, out);
+            word(out, b"ended");
+        }
+        Seen::Took { ref msg } => msg_words(msg, out),
+        Seen::Lost => word(out, b"lost"),
+        Seen::Lied => word(out, b"lied"),
         _ => {}
     }
 }

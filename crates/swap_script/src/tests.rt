@@ -3,10 +3,12 @@ ghost use Rattle.std.specs.Prelude.{◌≤◌, length};
 
 use super::*;
 use std::test::Fail;
-use swap_base::{CallKind, Caller, DiskWhich, EntryNo, Lender, Origin, Page, Via};
+use swap_base::{
+    CallKind, Caller, DiskWhich, EntryNo, Lease, Lender, Link, Origin, Page, Slab, Via,
+};
 use swap_io::LineBuf;
 use swap_record::Record;
-use swap_wire::{Event, Seen};
+use swap_wire::{Event, Msg, Seen};
 
 fn refused(text: &str) -> Option<ScriptRefused>
     requires { length text.now ≤ TEXT_LIMIT }
@@ -53,7 +55,50 @@ fn the_first_fault_is_named_with_its_line(rt: HostRuntime) {
         ),
         ("geometry 8 4 2 4 2 4 20\nin 0 1\r\n", 2, Why::Form),
         ("geometry 8 4 2 4 2 4 20\ndisk write 0 yes", 2, Why::Form),
-        ("geometry 8 4 2 4 2 4 20\nlender 4 1 1", 2, Why::Form),
+        ("geometry 8 4 2 4 2 4 20\nlender 4 1", 2, Why::Form),
+        (
+            "geometry 8 4 2 4 2 4 20\nlender 0 65 65",
+            2,
+            Why::Field(Field::Slots),
+        ),
+        (
+            "geometry 8 4 2 4 2 4 20\nlender 64 65 65",
+            2,
+            Why::Field(Field::Headroom),
+        ),
+        (
+            "geometry 8 4 2 4 2 4 20\nlender 64 64 65",
+            2,
+            Why::Field(Field::Extra),
+        ),
+        ("geometry 4096 65536 1 4 2 4 20\nlender 3 1 1", 2, Why::Lent),
+        (
+            "geometry 8 4 2 4 2 4 20\nlender 4 1 1\nlender 4 1 1",
+            3,
+            Why::Form,
+        ),
+        ("geometry 8 4 2 4 2 4 20\nstart\nlender 4 1 1", 3, Why::Form),
+        (
+            "geometry 8 4 2 4 2 4 20\nlender 4 1 1\nmap 2 1",
+            3,
+            Why::Slab,
+        ),
+        (
+            "geometry 8 4 2 4 2 4 20\nlender 4 1 1\ngive 1",
+            3,
+            Why::Lender,
+        ),
+        ("geometry 8 4 2 4 2 4 20\nmap 0 0", 2, Why::Lender),
+        (
+            "geometry 8 4 2 4 2 4 20\nlender 4 1 1\nconnect 0\nconnect 1",
+            4,
+            Why::Form,
+        ),
+        (
+            "geometry 8 4 2 4 2 4 20\nlender 4 1 1\ncrash 0",
+            3,
+            Why::Form,
+        ),
         ("geometry 8 4 2 4 2 4 20\nout 2 8 aabbcc", 2, Why::Caller),
         ("geometry 8 4 2 4 2 4 20\nin 0 7\nin 0 8", 3, Why::Page),
         ("geometry 8 4 2 4 2 4 20\nout 0 0 aabbcc", 2, Why::Pattern),
@@ -110,6 +155,38 @@ fn a_walk_gives_each_event_and_its_page(rt: HostRuntime) -> Result<(), Fail> {
     ] {
         assert_eq!(rt; walk.next(&mut page), want);
         assert_eq!(rt; page, [1, 2, 1, 2, 1, 2, 1, 2]);
+    }
+    Ok(())
+}
+
+#[test]
+fn a_walk_gives_the_events_of_a_lender(rt: HostRuntime) -> Result<(), Fail> {
+    let text =
+        b"geometry 8 4 2 4 2 4 20\n# one\nlender 4 1 2\nconnect 0\nmap 1 0\ngive 0\ntake 0\n";
+    let Ok(script) = read_script(text) else {
+        return Err("refused")?;
+    };
+    assert_eq!(rt;
+        (script.calls(), script.events(), script.lenders()),
+        (0, 4, 1)
+    );
+    let mut line = LineBuf::make(rt.alloc())?;
+    lender_line(&script.lender(0), &mut line);
+    assert_eq!(rt; line.bytes(), b"lender 4 1 2\n".as_slice());
+    let lender = Lender(0);
+    let slab = Slab(1);
+    let mut walk = script.walk();
+    let mut page = [9; 8];
+    assert!(rt; script.geometry().page_bytes() == 8);
+    for want in [
+        Some(Event::Connect { lender }),
+        Some(Event::Map { slab, lender }),
+        Some(Event::Give { lender }),
+        Some(Event::Take { lender }),
+        None,
+    ] {
+        assert_eq!(rt; walk.next(&mut page), want);
+        assert_eq!(rt; page, [9; 8]);
     }
     Ok(())
 }
@@ -253,5 +330,105 @@ fn lines_are_printed(rt: HostRuntime) -> Result<(), Fail> {
         line.bytes(),
         b"geometry 4096 1024 16 256 4 32 20\n".as_slice()
     );
+    Ok(())
+}
+
+#[test]
+fn messages_are_printed(rt: HostRuntime) -> Result<(), Fail> {
+    let history = Record::make(rt.alloc(), 8);
+    let mut line = LineBuf::make(rt.alloc())?;
+    let lender = Lender(7);
+    let slab = Slab(4095);
+    let lease = Lease(5);
+    let place = 65_535;
+    for (msg, want) in [
+        (
+            Msg::Hello {
+                version: 1,
+                page_bytes: 8,
+                pages_per_slab: 4,
+            },
+            "take 7 = hello 1\n",
+        ),
+        (Msg::Query { slab }, "take 7 = query 4095\n"),
+        (Msg::Borrow { slab }, "take 7 = borrow 4095\n"),
+        (Msg::Write { lease, place }, "take 7 = write 5 65535\n"),
+        (Msg::Read { lease, place }, "take 7 = read 5 65535\n"),
+        (
+            Msg::Rates {
+                lease,
+                value: u64::MAX,
+            },
+            "take 7 = rates 5 18446744073709551615\n",
+        ),
+        (Msg::Done { lease }, "take 7 = done 5\n"),
+        (Msg::Room { slab, free: 64 }, "take 7 = room 4095 64\n"),
+        (Msg::Lent { slab, lease }, "take 7 = lent 4095 5\n"),
+        (Msg::Refused { slab }, "take 7 = refused 4095\n"),
+        (Msg::Wrote { lease, place }, "take 7 = wrote 5 65535\n"),
+        (Msg::PageIs { lease, place }, "take 7 = page 5 65535\n"),
+        (Msg::AskRates { lease }, "take 7 = ask 5\n"),
+        (Msg::Evict { lease }, "take 7 = evict 5\n"),
+    ] {
+        event_line(
+            &Event::Take { lender },
+            &Seen::Took { msg },
+            &history,
+            &mut line,
+        );
+        assert_eq!(rt; line.bytes(), want.as_bytes());
+    }
+    Ok(())
+}
+
+#[test]
+fn what_a_link_shows_is_printed(rt: HostRuntime) -> Result<(), Fail> {
+    let history = Record::make(rt.alloc(), 8);
+    let mut line = LineBuf::make(rt.alloc())?;
+    let lender = Lender(0);
+    let slab = Slab(0);
+    let msg = Msg::Borrow { slab };
+    let reply = Some(Msg::Lent {
+        slab,
+        lease: Lease(2),
+    });
+    let give = Event::Give { lender };
+    for (event, seen, want) in [
+        (
+            Event::Connect { lender },
+            Seen::Linked { link: Link(3) },
+            "connect 0 = link 3\n",
+        ),
+        (
+            Event::Map { slab, lender },
+            Seen::Borrowing,
+            "map 0 0 = borrow\n",
+        ),
+        (
+            give,
+            Seen::Gave {
+                msg,
+                reply: None,
+                evicted: 0,
+            },
+            "give 0 = borrow 0\n",
+        ),
+        (
+            give,
+            Seen::Gave {
+                msg,
+                reply,
+                evicted: 1 << 63 | 5,
+            },
+            "give 0 = borrow 0 > lent 0 2 evict 0 2 63\n",
+        ),
+        (give, Seen::GaveEnd, "give 0 = end\n"),
+        (give, Seen::GaveEnded { msg }, "give 0 = borrow 0 ended\n"),
+        (Event::Take { lender }, Seen::Lost, "take 0 = lost\n"),
+        (Event::Take { lender }, Seen::Lied, "take 0 = lied\n"),
+    ] {
+        event_line(&event, &seen, &history, &mut line);
+        assert_eq!(rt; line.bytes(), want.as_bytes());
+    }
     Ok(())
 }

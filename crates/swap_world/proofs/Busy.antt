@@ -21,17 +21,17 @@ use Rattle.swap_calls.specs.declared.Arrived.{Arrived}
 use Rattle.swap_calls.specs.declared.Arrived.TheVariants as arrived
 use Rattle.swap_calls.specs.declared.CallState.{CallState}
 use Rattle.swap_calls.specs.declared.CallState.TheVariants.{Idle, Room, Reading}
-use Rattle.swap_device.specs.Ports.{Prog, answering, Leads}
+use Rattle.swap_local.specs.Ports.{Prog, answering, Leads}
 use Rattle.swap_base.specs.declared.CallKind.{CallKind}
 use Rattle.swap_base.specs.declared.Origin.{Origin}
 use Rattle.swap_base.specs.declared.Origin.TheVariants as origin
 use Rattle.swap_base.specs.declared.CallKind.TheVariants as kind
-use Rattle.swap_device.specs.Device.{Device, accept, give, fault, route, route_by, routed_again, out, finish, finish_by, disk_start, start_front, start_copy, took, took_back, wrote, origin_of}
-use Rattle.swap_device.specs.declared.OutStep.{OutStep}
-use Rattle.swap_device.specs.declared.InStep.{InStep}
-use Rattle.swap_device.specs.declared.Step.{Step}
-use Rattle.swap_device.proofs.Lists.{chosen, one_if, count_by-cons}
-use Rattle.swap_device.proofs.Programs.{Leads-answering, Leads-Along, Leads-implies}
+use Rattle.swap_local.specs.Device.{Device, accept, give, fault, route, route_by, routed_again, out, finish, finish_by, disk_start, start_front, start_copy, took, took_back, wrote, origin_of}
+use Rattle.swap_local.specs.declared.OutStep.{OutStep}
+use Rattle.swap_local.specs.declared.InStep.{InStep}
+use Rattle.swap_local.specs.declared.Step.{Step}
+use Rattle.swap_local.proofs.Lists.{chosen, one_if, count_by-cons}
+use Rattle.swap_local.proofs.Programs.{Leads-answering, Leads-Along, Leads-implies}
 use Rattle.swap_world.specs.World.{happens, taken_if, IsStep}
 use Rattle.swap_world.specs.Runs.{GrowsByCalls, busy_callers, is_busy_call}
 

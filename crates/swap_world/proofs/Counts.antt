@@ -21,14 +21,14 @@ use Rattle.swap_calls.specs.Calls.{state_of, call_of, is_idle}
 use Rattle.swap_calls.specs.declared.Arrived.TheVariants as arrived
 use Rattle.swap_calls.specs.declared.CallState.{CallState}
 use Rattle.swap_calls.specs.declared.CallState.TheVariants.{Idle, Room, Reading}
-use Rattle.swap_device.specs.Ports.{Prog, answering, Leads}
-use Rattle.swap_device.specs.Device.{Device, new, route, route_by, routed_again, out, finish, finish_by, disk_start, start_front, start_copy, disk_take, took, took_back, wrote}
-use Rattle.swap_device.specs.declared.OutStep.{OutStep}
-use Rattle.swap_device.specs.declared.InStep.{InStep}
-use Rattle.swap_device.specs.declared.Step.{Step}
-use Rattle.swap_device.specs.declared.DiskStep.{DiskStep}
-use Rattle.swap_device.proofs.Lists.{chosen, one_if, count_by-cons}
-use Rattle.swap_device.proofs.Programs.{Leads-answering, Leads-Along}
+use Rattle.swap_local.specs.Ports.{Prog, answering, Leads}
+use Rattle.swap_local.specs.Device.{Device, new, route, route_by, routed_again, out, finish, finish_by, disk_start, start_front, start_copy, disk_take, took, took_back, wrote}
+use Rattle.swap_local.specs.declared.OutStep.{OutStep}
+use Rattle.swap_local.specs.declared.InStep.{InStep}
+use Rattle.swap_local.specs.declared.Step.{Step}
+use Rattle.swap_local.specs.declared.DiskStep.{DiskStep}
+use Rattle.swap_local.proofs.Lists.{chosen, one_if, count_by-cons}
+use Rattle.swap_local.proofs.Programs.{Leads-answering, Leads-Along}
 use Rattle.swap_world.specs.World.{happens, taken_if, see_out, see_in, see_step, see_start, see_disk, IsStep}
 use Rattle.swap_world.specs.Failures.{is_write_failed, is_read_failed, failed_writes_in, failed_reads_in}
 use Rattle.swap_world.specs.Runs.{IsRun, begin, effect, without, polled, with_polled}

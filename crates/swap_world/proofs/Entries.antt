@@ -20,13 +20,13 @@ use Rattle.swap_calls.specs.Calls.{state_of, call_of, is_idle}
 use Rattle.swap_calls.specs.declared.Arrived.TheVariants as arrived
 use Rattle.swap_calls.specs.declared.CallState.{CallState}
 use Rattle.swap_calls.specs.declared.CallState.TheVariants.{Idle, Room, Reading}
-use Rattle.swap_device.specs.Ports.{Prog, answering, Leads}
-use Rattle.swap_device.specs.Device.{Device, route, route_by, routed_again, out, finish, finish_by, disk_start, start_front, start_copy, took, took_back, wrote}
-use Rattle.swap_device.specs.declared.OutStep.{OutStep}
-use Rattle.swap_device.specs.declared.Step.{Step}
-use Rattle.swap_device.specs.declared.DiskStep.{DiskStep}
-use Rattle.swap_device.proofs.Lists.{chosen}
-use Rattle.swap_device.proofs.Programs.{Leads-answering, Leads-Along}
+use Rattle.swap_local.specs.Ports.{Prog, answering, Leads}
+use Rattle.swap_local.specs.Device.{Device, route, route_by, routed_again, out, finish, finish_by, disk_start, start_front, start_copy, took, took_back, wrote}
+use Rattle.swap_local.specs.declared.OutStep.{OutStep}
+use Rattle.swap_local.specs.declared.Step.{Step}
+use Rattle.swap_local.specs.declared.DiskStep.{DiskStep}
+use Rattle.swap_local.proofs.Lists.{chosen}
+use Rattle.swap_local.proofs.Programs.{Leads-answering, Leads-Along}
 use Rattle.swap_world.specs.World.{happens, taken_if, see_out, see_in, see_step, see_start, see_disk, IsStep}
 use Rattle.swap_world.specs.Runs.{GoesOn, StandsIn, entry_seen}
 

@@ -2,7 +2,7 @@
 use Rattle.std.proofs.Common.{◌≡◌, ℕ, Bool, true, false, List, [], ◌∷◌, refl}
 use Rattle.swap_base.specs.declared.Origin.{Origin}
 use Rattle.swap_base.specs.declared.Origin.TheVariants as origin
-use Rattle.swap_wire.specs.Input.{Input, IsInRange}
+use Rattle.swap_wire.specs.Input.{Input, IsOfGeometry}
 use Rattle.swap_wire.specs.declared.Event.{Event}
 use Rattle.swap_wire.specs.declared.Event.TheVariants as event
 use Rattle.swap_wire.specs.declared.Seen.{Seen}
@@ -11,12 +11,12 @@ use Rattle.swap_record.specs.declared.Op.TheVariants.{PageOut, PageIn, Failed}
 use Rattle.swap_record.specs.History.{History, IsFaithful, GivesArray}
 use Rattle.swap_disk.specs.Port.{Port, DiskCall, DiskAnswer, LetFinish, Follows}
 use Rattle.swap_calls.specs.Calls.{state_of, is_idle}
-use Rattle.swap_device.specs.Ports.{Prog}
-use Rattle.swap_device.specs.Device.{Device, out, route, finish, disk_start, disk_take}
-use Rattle.swap_device.specs.Fits.{Fits, GivesTrusted, IsFaithfulFrom, trusted}
-use Rattle.swap_device.proofs.Lists.{chosen}
-use Rattle.swap_device.proofs.Programs.{Leads-answering, Leads-Along}
-use Rattle.swap_device.proofs.Kept.{IsKept, Keeps, out_kept, route_kept, finish_kept, disk_start_kept, disk_take_kept, lets_finish_fits, idle_waits_not}
+use Rattle.swap_local.specs.Ports.{Prog}
+use Rattle.swap_local.specs.Device.{Device, out, route, finish, disk_start, disk_take}
+use Rattle.swap_local.specs.Fits.{Fits, GivesTrusted, IsFaithfulFrom, trusted}
+use Rattle.swap_local.proofs.Lists.{chosen}
+use Rattle.swap_local.proofs.Programs.{Leads-answering, Leads-Along}
+use Rattle.swap_local.proofs.Kept.{IsKept, Keeps, out_kept, route_kept, finish_kept, disk_start_kept, disk_take_kept, lets_finish_fits, idle_waits_not}
 use Rattle.swap_world.specs.World.{happens, seen_by, taken_if, see_out, see_in, see_step, see_start, see_disk, IsStep}
 
 module _ {D : Type 0} (means : D → Port) (moves : D → (c : DiskCall) → DiskAnswer c → D → Type 0) (follows : (d : D) (c : DiskCall) (answer : DiskAnswer c) (e : D) → moves d c answer e → Follows (means d) c answer (means e)) where
@@ -28,7 +28,7 @@ module _ {D : Type 0} (means : D → Port) (moves : D → (c : DiskCall) → Dis
   taken_kept T d disk false k = (k, refl)
 
   -- one event
-  pub happens_kept : (T : Bool) (d : Device) (disk : D) (page : List ℕ) (e : Event) → Fits T d (means disk) → IsInRange d.sizes e → Keeps means moves follows T (happens d page e) d disk
+  pub happens_kept : (T : Bool) (d : Device) (disk : D) (page : List ℕ) (e : Event) → Fits T d (means disk) → IsOfGeometry d.sizes e → Keeps means moves follows T (happens d page e) d disk
   happens_kept T d disk page (event.PageOut c p) k range =
       chosen (λ (x : Prog (Device × Seen)). Keeps means moves follows T x d disk) (is_idle (state_of d.calls c)) _ _
       (λ idles. seen_kept T d see_out (out d c p page) disk (out_kept means moves follows T d disk c p page k (idle_waits_not (state_of d.calls c) idles) range.1)) (λ _. (k, refl))
@@ -51,7 +51,7 @@ module _ {D : Type 0} (means : D → Port) (moves : D → (c : DiskCall) → Dis
   happens_kept T d disk page (event.Host l u word) k range = (k, refl)
   happens_kept T d disk page (event.Round word) k range = (k, refl)
 
-  pub step_kept : (T : Bool) (d d' : Device) (disk disk' : D) (i : Input) (s : Seen) → Fits T d (means disk) → IsInRange d.sizes i.event → IsStep moves d disk i s d' disk' → Fits T d' (means disk') × (d'.sizes ≡ d.sizes)
+  pub step_kept : (T : Bool) (d d' : Device) (disk disk' : D) (i : Input) (s : Seen) → Fits T d (means disk) → IsOfGeometry d.sizes i.event → IsStep moves d disk i s d' disk' → Fits T d' (means disk') × (d'.sizes ≡ d.sizes)
   step_kept T d d' disk disk' i s k range step =
       Leads-Along moves (happens d i.page i.event) disk disk' (d', s) (λ a e. IsKept means moves follows T d.sizes a e) (happens_kept T d disk i.page i.event k range) step
 

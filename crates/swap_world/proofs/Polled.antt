@@ -12,11 +12,11 @@ use Rattle.swap_queue.specs.Queue.{Copy}
 use Rattle.swap_disk.specs.declared.DiskDone.{DiskDone}
 use Rattle.swap_disk.specs.Disk.{Taken, Flight, Write, Read, which_of, page_of}
 use Rattle.swap_disk.specs.Port.{Port, DiskCall, DiskAnswer, TakeDone, Takes, Follows}
-use Rattle.swap_device.specs.Ports.{Along}
-use Rattle.swap_device.specs.declared.DiskStep.{DiskStep}
-use Rattle.swap_device.specs.Device.{Device, Core, disk_take, took, took_back, wrote}
-use Rattle.swap_device.specs.Fits.{Fits, IsExpected, IsCopyOf}
-use Rattle.swap_device.proofs.Agree.{found}
+use Rattle.swap_local.specs.Ports.{Along}
+use Rattle.swap_local.specs.declared.DiskStep.{DiskStep}
+use Rattle.swap_local.specs.Device.{Device, Core, disk_take, took, took_back, wrote}
+use Rattle.swap_local.specs.Fits.{Fits, IsExpected, IsCopyOf}
+use Rattle.swap_local.proofs.Agree.{found}
 use Rattle.swap_world.specs.World.{see_disk}
 use Rattle.swap_world.specs.Runs.{polled, with_polled, event_of, made_with, logged_with, logged_polled, IsReached, logged_of, IsPolled}
 use Rattle.swap_world.proofs.Runs.{run_fits}

@@ -3,23 +3,23 @@ use Rattle.std.proofs.Common.{◌≡◌, ◌<◌, Bool, true, List, [], ◌∷�
 use Rattle.std.specs.List.{AllByRecursion}
 use Rattle.swap_base.specs.declared.Caller.{Caller}
 use Rattle.swap_base.specs.Sizes.{Sizes, zeros}
-use Rattle.swap_wire.specs.Input.{Input, IsInRange}
+use Rattle.swap_wire.specs.Input.{Input, IsOfGeometry}
 use Rattle.swap_wire.specs.declared.Seen.{Seen}
 use Rattle.swap_record.specs.History.{IsLegal}
 use Rattle.swap_disk.specs.Port.{Port, DiskCall, DiskAnswer, Follows}
 use Rattle.swap_disk.specs.Drive.{Drive, ask, port_of, new_drive, IsDrive, Moves}
 use Rattle.swap_disk.specs.Follows as drives
-use Rattle.swap_device.specs.Ports.{Prog, Ret, AskDisk, Along, Leads, run}
-use Rattle.swap_device.specs.declared.DiskStep.{DiskStep}
-use Rattle.swap_device.specs.Device.{Device, new, disk_take}
-use Rattle.swap_device.specs.Fits.{Fits, IsBlank}
-use Rattle.swap_device.proofs.Programs.{Leads-Along}
-use Rattle.swap_device.proofs.Held.{new_fits}
+use Rattle.swap_local.specs.Ports.{Prog, Ret, AskDisk, Along, Leads, run}
+use Rattle.swap_local.specs.declared.DiskStep.{DiskStep}
+use Rattle.swap_local.specs.Device.{Device, new, disk_take}
+use Rattle.swap_local.specs.Fits.{Fits, IsBlank}
+use Rattle.swap_local.proofs.Programs.{Leads-Along}
+use Rattle.swap_local.proofs.Held.{new_fits}
 use Rattle.swap_world.specs.Answered.{calls_of, with_call}
 use Rattle.swap_world.specs.World.{World, IsStep, happens, next, next_of, start, reach, made_by, history}
 use Rattle.swap_world.specs.Runs.{IsRun, begin, effect, without, polled, with_polled}
 use Rattle.swap_world.proofs.Legal.{step_kept, happens_kept, all_faithful}
-use Rattle.swap_device.proofs.Kept.{IsKept, disk_take_kept}
+use Rattle.swap_local.proofs.Kept.{IsKept, disk_take_kept}
 use Rattle.swap_world.proofs.Once.{OpenAt, disk_take_opens, once, starts_once}
 
 pub caller_in : (T : Bool) (s : Sizes) (c : Caller) (d : Device) (p : Port) → Fits T d p → d.sizes ≡ s → c.0 < s.callers → c.0 < length d.calls
@@ -30,10 +30,10 @@ module _ {D : Type 0} (means : D → Port) (moves : D → (c : DiskCall) → Dis
   run_fits s first made d disk blank begin = (new_fits s (means first) blank, refl)
   run_fits s first made d disk blank (effect {made = before} {d = d0} {k = k0} i seen_ d' k' run range step has) =
       let was = run_fits s first before d0 k0 blank run in
-      let now = step_kept means moves follows (is_some (means first).blocks) d0 d' k0 k' i seen_ was.0 (subst (λ z. IsInRange z i.event) (sym was.1) range) step in (now.0, now.1 ∙ was.1)
+      let now = step_kept means moves follows (is_some (means first).blocks) d0 d' k0 k' i seen_ was.0 (subst (λ z. IsOfGeometry z i.event) (sym was.1) range) step in (now.0, now.1 ∙ was.1)
   run_fits s first made d disk blank (without {made = before} {d = d0} {k = k0} i seen_ k' run range step has) =
       let was = run_fits s first before d0 k0 blank run in
-      let now = step_kept means moves follows (is_some (means first).blocks) d0 d0 k0 k' i seen_ was.0 (subst (λ z. IsInRange z i.event) (sym was.1) range) step in (now.0, was.1)
+      let now = step_kept means moves follows (is_some (means first).blocks) d0 d0 k0 k' i seen_ was.0 (subst (λ z. IsOfGeometry z i.event) (sym was.1) range) step in (now.0, was.1)
   run_fits s first made d disk blank (polled {made = before} {d = d0} {k = k0} step d' k' run along) =
       let was = run_fits s first before d0 k0 blank run in
       let now = Leads-Along moves (disk_take d0) k0 k' (d', step) (λ a e. IsKept means moves follows (is_some (means first).blocks) d0.sizes a e) (disk_take_kept means moves follows (is_some (means first).blocks) d0 k0 was.0) along in (now.0, now.1 ∙ was.1)
@@ -82,20 +82,20 @@ new_blank s = record { sizes = refl; flights = refl; finished = refl; blocks = r
 pub starts_sound : (s : Sizes) → IsSound s (start s)
 starts_sound s = record { fits = new_fits s (port_of (new_drive s)) (new_blank s); sizes = refl; drive = record { in_flight = tt; range = lit< tt } }
 
-pub next_sound : (s : Sizes) (w : World) (i : Input) → IsInRange s i.event → IsSound s w → IsSound s (next w i).world
+pub next_sound : (s : Sizes) (w : World) (i : Input) → IsOfGeometry s i.event → IsSound s w → IsSound s (next w i).world
 next_sound s w i range k =
-    let kept = happens_kept port_of Moves drives.follows true w.device w.drive i.page i.event k.fits (subst (λ z. IsInRange z i.event) (sym k.sizes) range) in
+    let kept = happens_kept port_of Moves drives.follows true w.device w.drive i.page i.event k.fits (subst (λ z. IsOfGeometry z i.event) (sym k.sizes) range) in
     let r = run_leads (happens w.device i.page i.event) w.drive (λ a e. IsKept port_of Moves drives.follows true w.device.sizes a e) k.drive kept in
     record { fits = r.0.0; sizes = r.0.1 ∙ k.sizes; drive = r.1 }
 
-pub reach_sound : (s : Sizes) (w : World) (is : List Input) → AllByRecursion (λ (i : Input). IsInRange s i.event) is → IsSound s w → IsSound s (reach w is)
+pub reach_sound : (s : Sizes) (w : World) (is : List Input) → AllByRecursion (λ (i : Input). IsOfGeometry s i.event) is → IsSound s w → IsSound s (reach w is)
 reach_sound s w [] range k = k
 reach_sound s w (i ∷ is) range k = reach_sound s (next w i).world is range.1 (next_sound s w i range.0 k)
 
 pub sound_legal : (s : Sizes) (w : World) → IsSound s w → IsLegal (zeros s) (history w)
 sound_legal s w k = let P : Sizes → Type 0 = λ z. IsLegal (zeros z) (history w) in subst P k.sizes (k.fits.in_order.ordered, all_faithful (zeros w.device.sizes) (history w) k.fits.agrees.faithful)
 
-pub reach_once : (s : Sizes) (c : Caller) (w : World) (is : List Input) (made : List (Input × Seen)) → c.0 < s.callers → AllByRecursion (λ (i : Input). IsInRange s i.event) is → IsSound s w → OpenAt c w.device (calls_of c made)
+pub reach_once : (s : Sizes) (c : Caller) (w : World) (is : List Input) (made : List (Input × Seen)) → c.0 < s.callers → AllByRecursion (λ (i : Input). IsOfGeometry s i.event) is → IsSound s w → OpenAt c w.device (calls_of c made)
     → OpenAt c (reach w is).device (calls_of c (made_by made w is))
 reach_once s c w [] made within range k h = h
 reach_once s c w (i ∷ is) made within range k h =

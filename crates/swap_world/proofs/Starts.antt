@@ -23,15 +23,15 @@ use Rattle.swap_calls.specs.declared.Arrived.{Arrived}
 use Rattle.swap_calls.specs.declared.Arrived.TheVariants as arrived
 use Rattle.swap_calls.specs.declared.CallState.{CallState}
 use Rattle.swap_calls.specs.declared.CallState.TheVariants.{Idle, Room, Reading}
-use Rattle.swap_device.specs.Ports.{Prog, answering, Leads}
-use Rattle.swap_device.specs.Device.{Device, new, route, route_by, routed_again, out, finish, finish_by, disk_start, start_front, start_copy, took, took_back, wrote}
-use Rattle.swap_device.specs.declared.OutStep.{OutStep}
-use Rattle.swap_device.specs.declared.InStep.{InStep}
-use Rattle.swap_device.specs.declared.InStep.TheVariants as ins
-use Rattle.swap_device.specs.declared.Step.{Step}
-use Rattle.swap_device.proofs.Lists.{chosen, by_caller, not_eqb}
-use Rattle.swap_device.proofs.Agree.{get_or-map_idle}
-use Rattle.swap_device.proofs.Programs.{Leads-answering, Leads-implies}
+use Rattle.swap_local.specs.Ports.{Prog, answering, Leads}
+use Rattle.swap_local.specs.Device.{Device, new, route, route_by, routed_again, out, finish, finish_by, disk_start, start_front, start_copy, took, took_back, wrote}
+use Rattle.swap_local.specs.declared.OutStep.{OutStep}
+use Rattle.swap_local.specs.declared.InStep.{InStep}
+use Rattle.swap_local.specs.declared.InStep.TheVariants as ins
+use Rattle.swap_local.specs.declared.Step.{Step}
+use Rattle.swap_local.proofs.Lists.{chosen, by_caller, not_eqb}
+use Rattle.swap_local.proofs.Agree.{get_or-map_idle}
+use Rattle.swap_local.proofs.Programs.{Leads-answering, Leads-implies}
 use Rattle.swap_world.specs.Failures.{is_of, is_start, is_start_of, before_start, failed_writes_in, failed_reads_in}
 use Rattle.swap_world.specs.World.{happens, seen_by, taken_if, see_out, see_in, see_step, see_start}
 use Rattle.swap_world.proofs.Counts.{AreCounted}

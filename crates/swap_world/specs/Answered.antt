@@ -8,12 +8,12 @@ use Rattle.swap_wire.specs.declared.Event.{Event}
 use Rattle.swap_wire.specs.declared.Event.TheVariants as event
 use Rattle.swap_wire.specs.declared.Seen.{Seen}
 use Rattle.swap_wire.specs.declared.Seen.TheVariants as seen
-use Rattle.swap_wire.specs.Input.{Input, IsInRange}
+use Rattle.swap_wire.specs.Input.{Input, IsOfGeometry}
 use Rattle.swap_calls.specs.Calls.{state_of, is_idle}
 use Rattle.swap_record.specs.declared.Op.{Op}
 use Rattle.swap_record.specs.declared.Op.TheVariants as op
 use Rattle.swap_record.specs.History.{Row, entries_of}
-use Rattle.swap_device.specs.Device.{Device}
+use Rattle.swap_local.specs.Device.{Device}
 use Rattle.swap_world.specs.World.{start, reach, made_by}
 
 abbrev pub is_call_of : Caller → Event → Bool
@@ -68,4 +68,4 @@ abbrev pub AreAnsweredOnce : Caller → List (Input × Seen) → Device → Type
 AreAnsweredOnce c made d = AnswersAll (is_idle (state_of d.calls c)) (calls_of c made) (entries_of c d.history)
 
 abbrev pub EachCallOnce : Type 0
-EachCallOnce = (s : Sizes) (is : List Input) (c : Caller) → c.0 < s.callers → AllByRecursion (λ (i : Input). IsInRange s i.event) is → AreAnsweredOnce c (made_by [] (start s) is) (reach (start s) is).device
+EachCallOnce = (s : Sizes) (is : List Input) (c : Caller) → c.0 < s.callers → AllByRecursion (λ (i : Input). IsOfGeometry s i.event) is → AreAnsweredOnce c (made_by [] (start s) is) (reach (start s) is).device

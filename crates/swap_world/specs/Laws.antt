@@ -4,12 +4,12 @@ use Rattle.std.specs.List.{AllByRecursion}
 use Rattle.swap_base.specs.declared.Caller.{Caller}
 use Rattle.swap_base.specs.Sizes.{Sizes, zeros}
 use Rattle.swap_wire.specs.declared.Seen.{Seen}
-use Rattle.swap_wire.specs.Input.{Input, IsInRange}
+use Rattle.swap_wire.specs.Input.{Input, IsOfGeometry}
 use Rattle.swap_record.specs.History.{IsOrdered, IsLegal}
 use Rattle.swap_disk.specs.Port.{Port, DiskCall, DiskAnswer}
 use Rattle.swap_disk.specs.Drive.{Drive, Moves}
-use Rattle.swap_device.specs.Device.{Device, new}
-use Rattle.swap_device.specs.Fits.{IsFaithfulFrom, IsBlank, trusted}
+use Rattle.swap_local.specs.Device.{Device, new}
+use Rattle.swap_local.specs.Fits.{IsFaithfulFrom, IsBlank, trusted}
 use Rattle.swap_world.specs.Answered.{AreAnsweredOnce}
 use Rattle.swap_world.specs.Failures.{HoldsEntriesSeen}
 use Rattle.swap_world.specs.Runs.{IsRun, GoesOn}
@@ -17,11 +17,11 @@ use Rattle.swap_world.specs.World.{World, IsStep, start, next, reach, history, m
 
 -- over the disk in memory the history is one of an array of pages that starts as zeros
 abbrev pub AlwaysLegal : Type 0
-AlwaysLegal = (s : Sizes) (is : List Input) → AllByRecursion (λ (i : Input). IsInRange s i.event) is → IsLegal (zeros s) (history (reach (start s) is))
+AlwaysLegal = (s : Sizes) (is : List Input) → AllByRecursion (λ (i : Input). IsOfGeometry s i.event) is → IsLegal (zeros s) (history (reach (start s) is))
 
 -- After these events the history is ordered, each page-in that the disk didn't give is faithful, and each that it gave
 -- too where the disk tells its blocks; each caller's calls were answered once, in its order; and the history holds
--- exactly the entries that were seen, where each failure has the counts of its own call.
+-- exactly the entries that were seen, where each failure has its cause.
 pub record Holds (told : Bool) (s : Sizes) (made : List (Input × Seen)) (d : Device) : Type 0 where
   pub ordered : IsOrdered d.history
   pub faithful : IsFaithfulFrom (trusted told) (zeros s) d.history
@@ -42,6 +42,6 @@ StepsAreNext =
 abbrev pub HistoriesGoOn : Type 0
 HistoriesGoOn = (w : World) (is : List Input) → GoesOn (history w) (history (reach w is))
 
--- over the disk in memory the history holds exactly the entries that were seen, and each failure has its counts
+-- over the disk in memory the history holds exactly the entries that were seen, and each failure has its cause
 abbrev pub EntriesAreSeen : Type 0
-EntriesAreSeen = (s : Sizes) (is : List Input) → AllByRecursion (λ (i : Input). IsInRange s i.event) is → HoldsEntriesSeen (made_by [] (start s) is) (history (reach (start s) is))
+EntriesAreSeen = (s : Sizes) (is : List Input) → AllByRecursion (λ (i : Input). IsOfGeometry s i.event) is → HoldsEntriesSeen (made_by [] (start s) is) (history (reach (start s) is))

@@ -1,5 +1,5 @@
 -- Rows of events by hand.
-use Rattle.std.specs.Prelude.{◌≡◌, ℕ, Bool, true, false, List, [], ◌∷◌, replicate, None}
+use Rattle.std.specs.Prelude.{◌≡◌, ℕ, Bool, true, false, List, [], ◌∷◌, ◌++◌, map, take, replicate, None}
 use Rattle.swap_base.specs.declared.Page.{Page}
 use Rattle.swap_base.specs.declared.Caller.{Caller}
 use Rattle.swap_base.specs.declared.EntryNo.{EntryNo}
@@ -11,7 +11,9 @@ use Rattle.swap_wire.specs.declared.Event.TheVariants as event
 use Rattle.swap_wire.specs.declared.Seen.{Seen}
 use Rattle.swap_wire.specs.declared.Seen.TheVariants as seen
 use Rattle.swap_wire.specs.Input.{Input}
-use Rattle.swap_world.specs.World.{start, seens}
+use Rattle.swap_record.specs.History.{is_out_of}
+use Rattle.swap_world.specs.World.{start, reach, history, seens, made_by}
+use Rattle.swap_world.specs.Failures.{since_start, read_ends, entries_in}
 
 abbrev sizes : ℕ → Sizes
 sizes queue = record { page_bytes = 8; pages_per_slab = 4; slabs = 2; queue = queue; callers = 2; window = 4; hot = 20 }
@@ -60,3 +62,37 @@ ReadOvertakenByAPageOutAlreadyOnTheDisk =
     ∷ seen.ReadCame (page 3)
     ∷ seen.Done (entry 2) None
     ∷ []
+
+-- the ends of a caller's own reads since its last start, and of each entry since whether it is a page-out of this page
+abbrev own_ends : ℕ → List Input → List (Event × Seen)
+own_ends c is = read_ends (caller c) (since_start (caller c) (made_by [] (start (sizes 4)) is))
+
+abbrev outs_since : ℕ → ℕ → List Input → List Bool
+outs_since c p is = map (is_out_of (page p)) (take (entries_in (since_start (caller c) (made_by [] (start (sizes 4)) is))) (history (reach (start (sizes 4)) is)))
+
+abbrev seen_in_the_end : List Input → List Input → List Seen
+seen_in_the_end is more = seen_of (seens (reach (start (sizes 4)) is) more)
+
+abbrev failed_read : List Input
+failed_read = out 0 3 170 ∷ by event.Start ∷ disk_write 3 true ∷ by (event.PageIn (caller 0) (page 3)) ∷ disk_read 0 false ∷ []
+
+abbrev pub FailedDiskReadFailsThePageIn : Type 0
+FailedDiskReadFailsThePageIn =
+    (own_ends 0 failed_read ≡ (event.Disk (which.Read (caller 0)) false, seen.ReadFailed (page 3)) ∷ [])
+    × (outs_since 0 3 failed_read ≡ [])
+    × (seen_in_the_end failed_read (by (event.Finish (caller 0)) ∷ []) ≡ seen.Fault (entry 1) ∷ [])
+
+abbrev pub FailedDiskReadWithANewerPageOut : Type 0
+FailedDiskReadWithANewerPageOut =
+    (outs_since 0 3 (failed_read ++ out 1 3 187 ∷ []) ≡ true ∷ [])
+    × (seen_in_the_end (failed_read ++ out 1 3 187 ∷ []) (by (event.Finish (caller 0)) ∷ []) ≡ seen.Done (entry 2) None ∷ [])
+
+abbrev two_reads : List Input
+two_reads =
+    out 0 3 170 ∷ by event.Start ∷ disk_write 3 true ∷ by (event.PageIn (caller 0) (page 3)) ∷ by (event.PageIn (caller 1) (page 3)) ∷ disk_read 1 false ∷ disk_read 0 true ∷ []
+
+abbrev pub AnotherCallersReadFails : Type 0
+AnotherCallersReadFails =
+    (own_ends 0 two_reads ≡ (event.Disk (which.Read (caller 0)) true, seen.ReadCame (page 3)) ∷ [])
+    × (own_ends 1 two_reads ≡ (event.Disk (which.Read (caller 1)) false, seen.ReadFailed (page 3)) ∷ [])
+    × (seen_in_the_end two_reads (by (event.Finish (caller 0)) ∷ by (event.Finish (caller 1)) ∷ []) ≡ seen.Done (entry 1) None ∷ seen.Fault (entry 2) ∷ [])

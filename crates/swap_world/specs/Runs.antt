@@ -2,7 +2,7 @@
 use Rattle.std.specs.Prelude.{◌≡◌, ◌+◌, ◌-◌, ◌<◌, ◌≤◌, ◌↔◌, Bool, true, false, not, ℕ, List, [], ◌∷◌, ◌++◌, length, count_by, MatchOption, Option, None, Some}
 use Rattle.swap_base.specs.declared.EntryNo.{EntryNo}
 use Rattle.swap_base.specs.Sizes.{Sizes}
-use Rattle.swap_wire.specs.Input.{Input, IsInRange}
+use Rattle.swap_wire.specs.Input.{Input, IsOfGeometry}
 use Rattle.swap_wire.specs.declared.Event.{Event}
 use Rattle.swap_wire.specs.declared.Event.TheVariants as event
 use Rattle.swap_wire.specs.declared.Seen.{Seen}
@@ -12,12 +12,12 @@ use Rattle.swap_base.specs.declared.DiskWhich.TheVariants as which
 use Rattle.swap_disk.specs.Disk.{Taken}
 use Rattle.swap_disk.specs.Port.{Port, DiskCall, DiskAnswer, TakeDone}
 use Rattle.swap_calls.specs.Calls.{Call, is_idle, state_of}
-use Rattle.swap_device.specs.Ports.{Along}
-use Rattle.swap_device.specs.declared.DiskStep.{DiskStep}
-use Rattle.swap_device.specs.declared.DiskStep.TheVariants as ends
-use Rattle.swap_device.specs.Device.{Device, Core, new, disk_take, took_back}
-use Rattle.swap_device.specs.Fits.{IsBlank}
-use Rattle.swap_device.specs.State.{GivesLast}
+use Rattle.swap_local.specs.Ports.{Along}
+use Rattle.swap_local.specs.declared.DiskStep.{DiskStep}
+use Rattle.swap_local.specs.declared.DiskStep.TheVariants as ends
+use Rattle.swap_local.specs.Device.{Device, Core, new, disk_take, took_back}
+use Rattle.swap_local.specs.Fits.{IsBlank}
+use Rattle.swap_local.specs.State.{GivesLast}
 use Rattle.swap_world.specs.World.{IsStep, see_disk}
 
 -- an event has an effect unless nothing is seen of it, or a caller is told to wait on
@@ -52,9 +52,9 @@ with_polled step made = made_with (event_of step) (see_disk step) made
 pub data IsRun {D : Type 0} (moves : D → (c : DiskCall) → DiskAnswer c → D → Type 0) (first : Device) (disk : D) : List (Input × Seen) → Device → D → Type 0 where
   begin : IsRun moves first disk [] first disk
   effect : {made : List (Input × Seen)} {d : Device} {k : D} (i : Input) (s : Seen) (d' : Device) (k' : D)
-      → IsRun moves first disk made d k → IsInRange first.sizes i.event → IsStep moves d k i s d' k' → has_effect i.event s ≡ true → IsRun moves first disk ((i, s) ∷ made) d' k'
+      → IsRun moves first disk made d k → IsOfGeometry first.sizes i.event → IsStep moves d k i s d' k' → has_effect i.event s ≡ true → IsRun moves first disk ((i, s) ∷ made) d' k'
   without : {made : List (Input × Seen)} {d : Device} {k : D} (i : Input) (s : Seen) (k' : D)
-      → IsRun moves first disk made d k → IsInRange first.sizes i.event → IsStep moves d k i s d k' → has_effect i.event s ≡ false → IsRun moves first disk made d k'
+      → IsRun moves first disk made d k → IsOfGeometry first.sizes i.event → IsStep moves d k i s d k' → has_effect i.event s ≡ false → IsRun moves first disk made d k'
   polled : {made : List (Input × Seen)} {d : Device} {k : D} (step : DiskStep) (d' : Device) (k' : D)
       → IsRun moves first disk made d k → Along moves (disk_take d) k k' (d', step) → IsRun moves first disk (with_polled step made) d' k'
 

@@ -12,17 +12,17 @@ use Rattle.swap_record.specs.History.{History}
 use Rattle.swap_disk.specs.Port.{DiskCall, DiskAnswer, LetFinish}
 use Rattle.swap_disk.specs.Drive.{Drive, ask, new_drive}
 use Rattle.swap_calls.specs.Calls.{state_of, is_idle}
-use Rattle.swap_device.specs.Device as device
-use Rattle.swap_device.specs.Device.{Device}
-use Rattle.swap_device.specs.Ports.{Prog, Ret, AskDisk, answering, Along, run}
-use Rattle.swap_device.specs.declared.OutStep.{OutStep}
-use Rattle.swap_device.specs.declared.OutStep.TheVariants as outs
-use Rattle.swap_device.specs.declared.InStep.{InStep}
-use Rattle.swap_device.specs.declared.InStep.TheVariants as ins
-use Rattle.swap_device.specs.declared.Step.{Step}
-use Rattle.swap_device.specs.declared.Step.TheVariants as steps
-use Rattle.swap_device.specs.declared.DiskStep.{DiskStep}
-use Rattle.swap_device.specs.declared.DiskStep.TheVariants as ends
+use Rattle.swap_local.specs.Device as device
+use Rattle.swap_local.specs.Device.{Device}
+use Rattle.swap_local.specs.Ports.{Prog, Ret, AskDisk, answering, Along, run}
+use Rattle.swap_local.specs.declared.OutStep.{OutStep}
+use Rattle.swap_local.specs.declared.OutStep.TheVariants as outs
+use Rattle.swap_local.specs.declared.InStep.{InStep}
+use Rattle.swap_local.specs.declared.InStep.TheVariants as ins
+use Rattle.swap_local.specs.declared.Step.{Step}
+use Rattle.swap_local.specs.declared.Step.TheVariants as steps
+use Rattle.swap_local.specs.declared.DiskStep.{DiskStep}
+use Rattle.swap_local.specs.declared.DiskStep.TheVariants as ends
 
 -- what is seen of an answer
 abbrev pub see_out : OutStep → Seen

@@ -1,17 +1,17 @@
 ghost use Rattle.std.specs.Prelude.{◌≡◌, ◌+◌, ◌<◌, ◌^◌, length, true, false};
 ghost use Rattle.swap_base.specs.Sizes.{pages_of};
 ghost use Rattle.swap_calls.specs.Calls.{is_idle, state_of};
-ghost use Rattle.swap_device.specs.Ports.{Along};
-ghost use Rattle.swap_device.specs.State.{KeepsRoom};
-ghost use Rattle.swap_wire.specs.Input.{IsInRange};
+ghost use Rattle.swap_local.specs.Ports.{Along};
+ghost use Rattle.swap_local.specs.State.{KeepsRoom};
+ghost use Rattle.swap_wire.specs.Input.{IsOfGeometry};
 ghost use Rattle.swap_world.specs.World.{IsStep, happens};
 ghost use Rattle.swap_world.specs.Runs.{HasSpare, GivesPage};
 
 use crate::world::{see_disk, see_in, see_out, see_start, see_step};
 use swap_base::{Caller, DiskWhich, Page};
 use swap_calls::CallState;
-use swap_device::DeviceCore;
 use swap_disk::DiskPort;
+use swap_local::DeviceCore;
 use swap_wire::{Event, Seen};
 
 fn is_idle(state: CallState) -> bool
@@ -95,7 +95,7 @@ fn disk_event<D: DiskPort>(
 
 /// What an event does to a device over its disk.
 pub fn happen<D: DiskPort>(device: &mut DeviceCore<D>, event: &Event, page: &mut [u8]) -> Seen
-    requires range { IsInRange device.old.device.sizes event.now }
+    requires range { IsOfGeometry device.old.device.sizes event.now }
     requires page { length page.old ≡ device.old.device.sizes.page_bytes }
     requires spare { HasSpare device.old.device event.now device.old.spare }
     requires writes { device.old.device.failed_writes + 1 < 2 ^ 64 }

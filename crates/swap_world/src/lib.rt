@@ -3,7 +3,7 @@
 
 ghost use Rattle.swap_world.specs.Answered.{EachCallOnce};
 ghost use Rattle.swap_world.specs.Laws.{AlwaysLegal, EntriesAreSeen, HistoriesGoOn, HoldsAfterEach, StepsAreNext};
-ghost use Rattle.swap_world.specs.Rows.{PageOutWithoutRoomFailsWhereAWriteFailed, ReadOvertakenByAPageOutAlreadyOnTheDisk};
+ghost use Rattle.swap_world.specs.Rows.{PageOutWithoutRoomFailsWhereAWriteFailed, ReadOvertakenByAPageOutAlreadyOnTheDisk, FailedDiskReadFailsThePageIn, FailedDiskReadWithANewerPageOut, AnotherCallersReadFails};
 
 mod events;
 mod world;
@@ -24,14 +24,15 @@ pub fn each_call_once()
 
 /// Over any disk that was blank, after every list of events: the history is ordered, each page-in that the disk
 /// didn't give is faithful, each that it gave too where it tells its blocks, each caller's calls were answered once,
-/// in its order, and the history holds exactly the entries that were seen. The two counts of a failure are those of
-/// its own call: the failed writes, or reads, before its last start and before the step that ended it.
+/// in its order, and the history holds exactly the entries that were seen. Each failure has its cause: its two counts
+/// are the failed writes, or reads, before its last start and before the step that ended it, the first below the
+/// second; and a page-in fails by its own read alone, with no page-out of its page accepted since that read began.
 pub fn over_any_disk<D: DiskPort>()
     ensures { HoldsAfterEach D.means D.moves }
 {}
 
-/// Over the disk in memory the history holds exactly the entries that were seen, in order, and the two counts of a
-/// failure are those of its own call.
+/// Over the disk in memory the history holds exactly the entries that were seen, in order, and each failure has its
+/// cause: its two counts, and for a page-in its own failed read.
 pub fn entries_are_seen()
     ensures { EntriesAreSeen }
 {}
@@ -50,4 +51,7 @@ pub fn histories_go_on()
 pub fn rows()
     ensures without_room { PageOutWithoutRoomFailsWhereAWriteFailed }
     ensures overtaken { ReadOvertakenByAPageOutAlreadyOnTheDisk }
+    ensures read_fails { FailedDiskReadFailsThePageIn }
+    ensures newer { FailedDiskReadWithANewerPageOut }
+    ensures anothers { AnotherCallersReadFails }
 {}

@@ -1,8 +1,8 @@
 ghost use Rattle.std.specs.Prelude.{◌≡◌, ◌+◌, ◌<◌, ◌≤◌, ◌^◌, ◌↔◌, length, max, IfOk, OnOk, OnErr, false, true, [], slice_get, Some, Err, vec_len, vec_capacity};
-ghost use Rattle.swap_wire.specs.Input.{IsInRange};
-ghost use Rattle.swap_device.specs.Device.{new};
-ghost use Rattle.swap_device.specs.Fits.{IsBlank};
-ghost use Rattle.swap_device.specs.State.{KeepsRoom};
+ghost use Rattle.swap_wire.specs.Input.{IsOfGeometry};
+ghost use Rattle.swap_local.specs.Device.{new};
+ghost use Rattle.swap_local.specs.Fits.{IsBlank};
+ghost use Rattle.swap_local.specs.State.{KeepsRoom};
 ghost use Rattle.swap_world.specs.World.{IsStep, see_out, see_in, see_step, see_start, see_disk};
 ghost use Rattle.swap_world.specs.Runs.{has_effect, event_of, logged_if, logged_polled, IsPolled, one_less_if, HasSpare, GivesPage, GoesOn, StandsIn, GrowsByCalls};
 
@@ -10,8 +10,8 @@ use crate::events::happen;
 use std::alloc::Global;
 use std::marker::Model;
 use swap_base::{DiskWhich, EntryNo, Geometry, NoMemory, Page};
-use swap_device::{DeviceCore, DiskStep, InStep, OutStep, Step};
 use swap_disk::DiskPort;
+use swap_local::{DeviceCore, DiskStep, InStep, OutStep, Step};
 use swap_record::ReserveRefused;
 use swap_wire::{Event, Seen};
 
@@ -54,7 +54,7 @@ impl<D: DiskPort> World<D> {
     /// Makes one event. A page-out's page is handed in; after a page-in's `Done` the buffer holds the page. An event
     /// with an effect is logged; one without leaves the device as it was.
     pub fn step(&mut self, event: &Event, page: &mut [u8]) -> Seen
-        requires range { IsInRange self.old.core.device.sizes event.now }
+        requires range { IsOfGeometry self.old.core.device.sizes event.now }
         requires page { length page.old ≡ self.old.core.device.sizes.page_bytes }
         requires spare { HasSpare self.old.core.device event.now self.old.core.spare }
         requires log_spare { 0 < self.old.log_spare }

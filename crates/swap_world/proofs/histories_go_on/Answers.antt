@@ -2,7 +2,7 @@
 use Rattle.std.proofs.Common.{List, [], ◌∷◌, ◌++◌, ◌≡◌, ◌∙◌, ap, refl, sym, append_assoc}
 use Rattle.swap_wire.specs.Input.{Input}
 use Rattle.swap_disk.specs.Drive.{ask}
-use Rattle.swap_device.proofs.Programs.{Along-from_run}
+use Rattle.swap_local.proofs.Programs.{Along-from_run}
 use Rattle.swap_world.specs.World.{World, happens, next, reach, history}
 use Rattle.swap_world.specs.Runs.{GoesOn}
 use Rattle.swap_world.proofs.Entries.{step_adds}

@@ -1,5 +1,5 @@
 use Rattle.std.proofs.Common.{arith, ap, sym, ◌∙◌}
-use Rattle.swap_script.specs.Transcript.{line}
+use Rattle.swap_plain.specs.Transcript.{line}
 use Rattle.swap_run.proofs.Printed.{printed_more, printed_broke, any_err}
 use Rattle.swap_run.proofs.print.print_events.Goals as goal
 

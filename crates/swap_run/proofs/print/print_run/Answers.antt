@@ -1,6 +1,6 @@
 use Rattle.std.proofs.Common.{ap, ◌∙◌, sym, length}
 use Rattle.swap_world.specs.World.{reach, history}
-use Rattle.swap_script.specs.Transcript.{header, end_line}
+use Rattle.swap_plain.specs.Transcript.{header, end_line}
 use Rattle.swap_run.specs.Printing.{world_in, lines_from}
 use Rattle.swap_run.proofs.Printed.{first_broke, second_broke, third_broke, all_taken, any_err, err_by, ok_by}
 use Rattle.swap_run.proofs.print.print_run.Goals as goal

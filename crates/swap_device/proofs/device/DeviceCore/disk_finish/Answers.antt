@@ -1,5 +1,6 @@
-use Rattle.swap_device.proofs.Held.{finish_held}
+use Rattle.std.proofs.Common.{refl}
+use Rattle.swap_device.proofs.Held.{held_from}
 use Rattle.swap_device.proofs.device.DeviceCore.disk_finish.Goals as goal
 
 pub invariant_of-self : goal.invariant_of-self
-invariant_of-self g c = finish_held _ _ _ _ _ _ _ c.self.invariant (g.met.D.DiskPort.follows _ _ _ _ c.finish.ensures)
+invariant_of-self g c = held_from g.D.DiskPort.means g.D.DiskPort.moves g.F.Fabric.of g.F.Fabric.moves g.F.Fabric.keeps g.F.Fabric.owes g.F.Fabric.answers _ _ _ _ _ _ _ _ _ c.self.invariant (c.calls_keep.ensures.each.disk_finish _ _ _ _ _ c.args.which c.args.ok (c.self.invariant.fits, refl) c.finish.result c.finish.new.self c.finish.ensures) refl

@@ -1,26 +1,9 @@
-use Rattle.std.proofs.Common.{ap, sym, ◌∙◌, length, refl}
-use Rattle.swap_disk.specs.Disk.{bytes_given}
-use Rattle.swap_device.specs.Device.{took}
-use Rattle.swap_device.proofs.Held.{writes_back, reads_back, take_held, length-lent, lent}
+use Rattle.std.proofs.Common.{refl, sym, ap, ◌∙◌, length}
+use Rattle.swap_table.specs.Device.{disk_take}
+use Rattle.swap_device.proofs.Held.{held_along, length-lent}
 use Rattle.swap_device.proofs.device.DeviceCore.disk_take.Goals as goal
 
-pub take_back-requires-clause-write : goal.take_back-requires-clause-write
-take_back-requires-clause-write g c = writes_back _ _ _ _ _ c.self.invariant (g.met.D.DiskPort.follows _ _ _ _ c.in-Some.ensures).1
-
-pub take_back-requires-clause-read : goal.take_back-requires-clause-read
-take_back-requires-clause-read g c = reads_back _ _ _ _ _ c.self.invariant (g.met.D.DiskPort.follows _ _ _ _ c.in-Some.ensures).1
-
-pub invariant_of-self-in-Some : goal.invariant_of-self-in-Some
-invariant_of-self-in-Some g c =
+pub invariant_of-self : goal.invariant_of-self
+invariant_of-self g c =
     let v = c.deref_mut.ensures in
-    let len = length-lent _ _ _ (c.take.auto.buf ∙ v.len) (ap length (sym v.value) ∙ v.len) in
-    let whole = c.deref.ensures.value ∙ lent _ _ _ (c.take.auto.buf ∙ v.len) (ap length (sym v.value) ∙ v.len) in
-    let came = c.take_back.ensures.took ∙ ap (λ b. took c.self.inside.state.device c.in-Some.done.which c.in-Some.done.page c.in-Some.done.ok (bytes_given c.in-Some.done.which c.in-Some.done.ok b)) whole in
-    rw (ap (λ x. x.0) came) (take_held _ _ _ _ _ _ c.self.invariant (g.met.D.DiskPort.follows _ _ _ _ c.in-Some.ensures) len)
-
-pub returns-in-Some-clause-moved : goal.returns-in-Some-clause-moved
-returns-in-Some-clause-moved g c =
-    let v = c.deref_mut.ensures in
-    let whole = c.deref.ensures.value ∙ lent _ _ _ (c.take.auto.buf ∙ v.len) (ap length (sym v.value) ∙ v.len) in
-    let came = c.take_back.ensures.took ∙ ap (λ b. took c.self.inside.state.device c.in-Some.done.which c.in-Some.done.page c.in-Some.done.ok (bytes_given c.in-Some.done.which c.in-Some.done.ok b)) whole in
-    rw (← c.self.view_is) (_, _, c.in-Some.ensures, (refl, came))
+    held_along g.D.DiskPort.means g.D.DiskPort.moves g.F.Fabric.of g.F.Fabric.moves g.F.Fabric.keeps g.F.Fabric.owes g.F.Fabric.answers _ (disk_take c.self.inside.state.device) _ _ _ _ _ _ _ _ c.self.invariant (c.calls_keep.ensures.each.disk_take _ _ _ _ _ (c.self.invariant.fits, refl)) c.disk_take.ensures.moved (length-lent _ _ _ (c.disk_take.auto.page ∙ v.len) (ap length (sym v.value) ∙ v.len))

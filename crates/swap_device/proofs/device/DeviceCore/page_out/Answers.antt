@@ -1,11 +1,6 @@
-use Rattle.std.proofs.Common.{ap}
-use Rattle.swap_device.proofs.Held.{accept_held, room_wait_held}
+use Rattle.std.proofs.Common.{refl}
+use Rattle.swap_device.proofs.Held.{held_along}
 use Rattle.swap_device.proofs.device.DeviceCore.page_out.Goals as goal
 
 pub invariant_of-self : goal.invariant_of-self
-invariant_of-self g c =
-    rw c.accept-entry.ensures.state (accept_held _ _ _ _ _ _ _ (ap (λ k. k.device) c.self.view_is) c.self.invariant c.requires.idle c.requires.page)
-
-pub invariant_of-self-else-has_room : goal.invariant_of-self-else-has_room
-invariant_of-self-else-has_room g c =
-    rw c.wait_for_room.ensures (room_wait_held _ _ _ _ _ _ _ (ap (λ k. k.device) c.self.view_is) c.self.invariant c.requires.idle c.requires.page)
+invariant_of-self g c = held_along g.D.DiskPort.means g.D.DiskPort.moves g.F.Fabric.of g.F.Fabric.moves g.F.Fabric.keeps g.F.Fabric.owes g.F.Fabric.answers _ _ _ _ _ _ _ _ _ _ c.self.invariant (c.calls_keep.ensures.each.out _ _ _ _ _ _ _ _ (c.self.invariant.fits, refl) (rw (← c.self.view_is) at c.requires.idle) (rw (← c.self.view_is) at c.requires.page)) c.out.ensures.moved refl

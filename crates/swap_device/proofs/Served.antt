@@ -1,0 +1,89 @@
+-- The oldest request of a link has what waits for its answer.
+use Rattle.std.proofs.Common.{◌≡◌, ℕ, ◌+◌, ◌<◌, true, List, ◌∷◌, refl, sym, ap, ◌∙◌, subst, arith, Option, None, Some}
+use Rattle.std.proofs.lemmas.Bool.{eq-eqb}
+use Rattle.std.specs.List.{AllByRecursion}
+use Rattle.swap_base.specs.declared.Page.{Page}
+use Rattle.swap_base.specs.declared.Lender.{Lender}
+use Rattle.swap_base.specs.declared.Via.TheVariants as via
+use Rattle.swap_base.specs.Sizes.{Sizes, pages_of, slab_of}
+use Rattle.swap_wire.specs.declared.Msg.{Msg}
+use Rattle.swap_wire.specs.declared.Msg.TheVariants as msg
+use Rattle.swap_wire.specs.Fabric.{parcel_of}
+use Rattle.swap_calls.specs.Calls.{state_of, is_waiting}
+use Rattle.swap_calls.specs.declared.Arrived.TheVariants as arrived
+use Rattle.swap_calls.specs.declared.CallState.{CallState}
+use Rattle.swap_calls.specs.declared.CallState.TheVariants.{Idle, Room, Reading}
+use Rattle.swap_slabs.specs.Slabs.{flying_of}
+use Rattle.swap_slabs.specs.declared.SlabState.{SlabState}
+use Rattle.swap_slabs.specs.declared.SlabState.TheVariants.{Mapped}
+use Rattle.swap_rings.specs.Rings.{ring_of, oldest}
+use Rattle.swap_rings.specs.declared.Request.{Request}
+use Rattle.swap_rings.specs.declared.Request.TheVariants as request
+use Rattle.swap_remote.specs.Remote.{slab_for, state_for}
+use Rattle.swap_table.specs.Device.{Device, heard}
+use Rattle.swap_table.specs.Serves.{Keeping, Owing, is_for_slab, flying_for, IsMappedTo, WaitsFrom, IsAwaited, SlabFits, Serves}
+use Rattle.swap_table.proofs.Lists.{one_if}
+use Rattle.swap_table.proofs.Links.{flying-cons}
+use Rattle.swap_table.proofs.Sends.{slab_within}
+use Rattle.swap_table.proofs.Returns.{Mapping, mapping_of}
+use Rattle.swap_table.proofs.Calls.{Front, front_of}
+use Rattle.swap_device.specs.State.{IsServed, heard_of}
+
+waits_is : (l : Lender) (p : Page) (state : CallState) → WaitsFrom l p state → is_waiting state ≡ true
+waits_is l p Idle w = absurd w
+waits_is l p (Room q since) w = absurd w
+waits_is l p (Reading q n via.Disk how newer since) w = absurd w
+waits_is l p (Reading q n (via.Lender m) arrived.Waiting newer since) w = refl
+waits_is l p (Reading q n (via.Lender m) arrived.Came newer since) w = absurd w
+waits_is l p (Reading q n (via.Lender m) arrived.Failed newer since) w = absurd w
+waits_is l p (Reading q n (via.Lender m) arrived.Lost newer since) w = absurd w
+
+-- at least the oldest request flies for its page's slab
+flies_one : (keeps : Keeping) (owes : Owing) (n : ℕ) (d : Device) (l : Lender) (p : Page) (x : Request) (rest : List Request) → Serves keeps owes d.sizes n d.history d.calls d.remote → p.0 < pages_of d.sizes → IsMappedTo l (state_for d.sizes d.remote.slabs p) → ring_of d.remote.links l ≡ x ∷ rest
+    → is_for_slab d.sizes (slab_for d.sizes p) x ≡ true → 0 < flying_of (state_for d.sizes d.remote.slabs p)
+flies_one keeps owes n d l p x rest k within mapped ring here =
+    let s : Sizes = d.sizes in
+    let m : Mapping l (state_for s d.remote.slabs p) = mapping_of l (state_for s d.remote.slabs p) mapped in
+    let fits : SlabFits s d.remote.links (slab_for s p) (Mapped l m.lease m.flying) = let P : SlabState → Type 0 = λ y. SlabFits s d.remote.links (slab_for s p) y in subst P m.is (k.slab (slab_for s p) (slab_within s p.0 within)) in
+    let all : m.flying ≡ one_if true + flying_for s (slab_for s p) rest = fits.1 ∙ ap (flying_for s (slab_for s p)) ring ∙ flying-cons s (slab_for s p) x rest ∙ ap (λ b. one_if b + flying_for s (slab_for s p) rest) here in
+    let some : 0 < m.flying = omega (arith, all) in subst (λ y. 0 < flying_of y) (sym m.is) some
+
+pub served : (keeps : Keeping) (owes : Owing) (n : ℕ) (d : Device) (l : Lender) → Serves keeps owes d.sizes n d.history d.calls d.remote → IsServed d l (oldest (ring_of d.remote.links l))
+served keeps owes n d l k = go (oldest (ring_of d.remote.links l)) refl
+  where
+    awaited : (x : Request) (f : Front (ring_of d.remote.links l) x) → IsAwaited d.sizes d.history d.calls d.remote.slabs l x
+    awaited x f = let all : AllByRecursion (IsAwaited d.sizes d.history d.calls d.remote.slabs l) (x ∷ f.rest) = subst (λ ys. AllByRecursion (IsAwaited d.sizes d.history d.calls d.remote.slabs l) ys) f.is (k.link l).awaited in all.0
+
+    go : (o : Option Request) → oldest (ring_of d.remote.links l) ≡ o → IsServed d l o
+    go None is = tt
+    go (Some (request.Query slab)) is = tt
+    go (Some (request.Borrow slab)) is = awaited (request.Borrow slab) (front_of _ _ is)
+    go (Some (request.Write p e)) is =
+        let f = front_of (ring_of d.remote.links l) (request.Write p e) is in
+        let a = awaited (request.Write p e) f in
+        (a.0, flies_one keeps owes n d l p (request.Write p e) f.rest k a.0 a.1 f.is (eq-eqb (slab_of d.sizes p.0) (slab_of d.sizes p.0) refl))
+    go (Some (request.Read c p)) is =
+        let f = front_of (ring_of d.remote.links l) (request.Read c p) is in
+        let a = awaited (request.Read c p) f in
+        (a.0, a.1, flies_one keeps owes n d l p (request.Read c p) f.rest k a.1 a.2 f.is (eq-eqb (slab_of d.sizes p.0) (slab_of d.sizes p.0) refl), waits_is l p (state_of d.calls c) a.3)
+
+-- a message is heard with its own page
+pub heard_is : (d : Device) (l : Lender) (m : Msg) (bytes : List ℕ) (o : Option Request) → heard d l (parcel_of m bytes) o ≡ heard_of d l m bytes o
+heard_is d l m bytes None = refl
+heard_is d l m bytes (Some (request.Query slab)) = refl
+heard_is d l m bytes (Some (request.Borrow slab)) = refl
+heard_is d l m bytes (Some (request.Write p e)) = refl
+heard_is d l (msg.Hello v b n) bytes (Some (request.Read c p)) = refl
+heard_is d l (msg.Query t) bytes (Some (request.Read c p)) = refl
+heard_is d l (msg.Borrow t) bytes (Some (request.Read c p)) = refl
+heard_is d l (msg.Write k i) bytes (Some (request.Read c p)) = refl
+heard_is d l (msg.Read k i) bytes (Some (request.Read c p)) = refl
+heard_is d l (msg.Rates k v) bytes (Some (request.Read c p)) = refl
+heard_is d l (msg.Done k) bytes (Some (request.Read c p)) = refl
+heard_is d l (msg.Room t f) bytes (Some (request.Read c p)) = refl
+heard_is d l (msg.Lent t k) bytes (Some (request.Read c p)) = refl
+heard_is d l (msg.Refused t) bytes (Some (request.Read c p)) = refl
+heard_is d l (msg.Wrote k i) bytes (Some (request.Read c p)) = refl
+heard_is d l (msg.PageIs k i) bytes (Some (request.Read c p)) = refl
+heard_is d l (msg.AskRates k) bytes (Some (request.Read c p)) = refl
+heard_is d l (msg.Evict k) bytes (Some (request.Read c p)) = refl

@@ -1,0 +1,6 @@
+use Rattle.std.proofs.Common.{refl}
+use Rattle.swap_device.proofs.Held.{held_from}
+use Rattle.swap_device.proofs.device.DeviceCore.host.Goals as goal
+
+pub invariant_of-self : goal.invariant_of-self
+invariant_of-self g c = held_from g.D.DiskPort.means g.D.DiskPort.moves g.F.Fabric.of g.F.Fabric.moves g.F.Fabric.keeps g.F.Fabric.owes g.F.Fabric.answers _ _ _ _ _ _ _ _ _ c.self.invariant (c.calls_keep.ensures.each.host _ _ _ _ _ c.args.lender c.args.used c.args.word (c.self.invariant.fits, refl) c.host.result c.host.new.self c.host.ensures) refl

@@ -1,0 +1,302 @@
+-- Each call of the device keeps what device and disk agree on, whatever the disk answers.
+use Rattle.std.proofs.Common.{◌≡◌, ℕ, ◌<◌, Bool, true, false, cond, nat_lt, List, [], ◌∷◌, ◌++◌, find, refl, sym, ap, ◌∙◌, subst, is_some, is_none, MatchOption, Option, None, Some}
+use Rattle.std.proofs.lemmas.Bool.{ltb-true}
+use Rattle.swap_base.specs.declared.Page.{Page}
+use Rattle.swap_base.specs.declared.Caller.{Caller}
+use Rattle.swap_base.specs.declared.EntryNo.{EntryNo}
+use Rattle.swap_base.specs.declared.Origin.{Origin}
+use Rattle.swap_base.specs.declared.Origin.TheVariants as origin
+use Rattle.swap_base.specs.declared.Via.{Via}
+use Rattle.swap_base.specs.declared.Via.TheVariants as via
+use Rattle.swap_base.specs.declared.CallKind.{CallKind}
+use Rattle.swap_base.specs.declared.CallKind.TheVariants as kind
+use Rattle.swap_base.specs.declared.DiskWhich.{DiskWhich}
+use Rattle.swap_base.specs.declared.DiskWhich.TheVariants as which
+use Rattle.swap_base.specs.Sizes.{Sizes, pages_of, zeros}
+use Rattle.swap_record.specs.History.{History, array, last, is_out_of, is_zero, next_name}
+use Rattle.swap_queue.specs.Queue as queue
+use Rattle.swap_queue.specs.Queue.{Queue, Places, Copy, places_of, newest, next, flying, first_of}
+use Rattle.swap_disk.specs.declared.DiskDone.{DiskDone}
+use Rattle.swap_disk.specs.Disk.{Flight, Write, Read, Finished, Taken, which_of, page_of, is_flight_of, without}
+use Rattle.swap_disk.specs.Port.{Port, DiskCall, DiskAnswer, StartWrite, StartRead, TakeDone, LetFinish, Follows, Takes, TakesTold, LetsFinish, started, kept_by}
+use Rattle.swap_calls.specs.Calls as calls
+use Rattle.swap_calls.specs.Calls.{Call, Calls, state_of, call_of, idle, is_idle}
+use Rattle.swap_calls.specs.declared.Arrived.{Arrived}
+use Rattle.swap_calls.specs.declared.Arrived.TheVariants as arrived
+use Rattle.swap_calls.specs.declared.CallState.{CallState}
+use Rattle.swap_calls.specs.declared.CallState.TheVariants.{Idle, Room, Reading}
+use Rattle.swap_local.specs.declared.OutStep.{OutStep}
+use Rattle.swap_local.specs.declared.InStep.{InStep}
+use Rattle.swap_local.specs.declared.Step.{Step}
+use Rattle.swap_local.specs.Ports.{Prog, answering, Leads}
+use Rattle.swap_local.specs.Device.{Device, accept, give, fault, wait_for_room, wait_for_disk, route_by, route, out, routed_again, origin_of, finish_by, finish, start_copy, start_front, disk_start, wrote, took, took_back, disk_take, disk_finish}
+use Rattle.swap_local.specs.Fits.{trusted, KeepsNewest, block_in, IsBlock, HoldsPage, IsCopyOf, WaitsFor, IsExpected, IsSettled, IsUnderWay, IsFair, Agrees, AgreesAt, Fits}
+use Rattle.swap_local.proofs.Lists.{chosen, All-get_or}
+use Rattle.swap_local.proofs.Order.{accept_keeps, give_keeps, fault_keeps, room_wait_keeps, disk_wait_keeps, call_keeps, took_back_keeps, from_via}
+use Rattle.swap_local.proofs.Agree.{IdleFor, accept_agrees, call_agrees, row_agrees, read_agrees, start_agrees, wrote_agrees, read_back_agrees, finish_agrees, found, some_first, copy_flies, IsBrought}
+use Rattle.swap_local.proofs.Programs.{Leads-answering, Leads-implies}
+
+-- a page that was never paged out is zeros
+pub array-none : (z : List ℕ) (H : History) (p : Page) → last H p ≡ None → array z H p ≡ z
+array-none z [] p e = refl
+array-none z (row ∷ H) p e = go (is_out_of p row) e (array-none z H p)
+  where
+    go : (b : Bool) → cond b (Some (next_name H)) (last H p) ≡ None → (last H p ≡ None → array z H p ≡ z) → cond b row.bytes (array z H p) ≡ z
+    go true e rest = cc
+    go false e rest = rest e
+
+-- a call that doesn't wait for the disk
+pub idle_waits_not : (state : CallState) → is_idle state ≡ true → (r : Page) → WaitsFor r state → ⊥
+idle_waits_not Idle e r w = w
+idle_waits_not (Room p since) e r w = w
+idle_waits_not (Reading p newest_ v how newer since) e r w = cc
+
+abbrev pub is_waiting : Arrived → Bool
+is_waiting arrived.Waiting = true
+is_waiting _ = false
+
+not_waiting : (p : Page) (n : EntryNo) (v : Via) (how : Arrived) (newer : Bool) (since : ℕ) (r : Page) → is_waiting how ≡ false → WaitsFor r (Reading p n v how newer since) → ⊥
+not_waiting p n via.Disk arrived.Waiting newer since r e w = cc
+not_waiting p n via.Disk arrived.Came newer since r e w = w
+not_waiting p n via.Disk arrived.Failed newer since r e w = w
+not_waiting p n via.Disk arrived.Lost newer since r e w = w
+not_waiting p n (via.Lender l) how newer since r e w = w
+
+-- the moves
+pub accept_fits : (T : Bool) (d : Device) (p : Port) (c : Caller) (page : Page) (bytes : List ℕ) → Fits T d p → IdleFor d.calls c → page.0 < pages_of d.sizes → Fits T (accept d c page bytes) p
+accept_fits T d p c page bytes k idles within = record {
+  sizes = k.sizes;
+  in_order = accept_keeps d c page bytes k.in_order;
+  agrees = accept_agrees T _ _ (zeros d.sizes) d.history d.queue p.blocks p.flights p.finished d.calls c page bytes k.agrees within idles;
+}
+
+pub give_fits : (T : Bool) (d : Device) (p : Port) (c : Caller) (page : Page) (named : Option EntryNo) (from : Origin) (bytes : List ℕ)
+    → Fits T d p → IdleFor d.calls c → named ≡ last d.history page → is_zero from ≡ is_none named → (trusted T from ≡ true → bytes ≡ array (zeros d.sizes) d.history page)
+    → Fits T (give d c page named from bytes) p
+give_fits T d p c page named from bytes k idles is_last is_from gives = record {
+  sizes = k.sizes;
+  in_order = give_keeps d c page named from bytes k.in_order is_last is_from;
+  agrees = row_agrees T _ _ (zeros d.sizes) d.history _ d.queue p.blocks p.flights p.finished (calls.ended d.calls c) (call_agrees T _ _ (zeros d.sizes) d.history d.queue p.blocks p.flights p.finished d.calls c idle k.agrees idles tt) (λ r. refl) gives;
+}
+
+pub fault_fits : (T : Bool) (d : Device) (p : Port) (c : Caller) (page : Page) (kind : CallKind) (since at : ℕ) (bytes : List ℕ)
+    → Fits T d p → IdleFor d.calls c → since < at → Fits T (fault d c page kind since at bytes) p
+fault_fits T d p c page kind since at bytes k idles later = record {
+  sizes = k.sizes;
+  in_order = fault_keeps d c page kind since at bytes k.in_order later;
+  agrees = row_agrees T _ _ (zeros d.sizes) d.history _ d.queue p.blocks p.flights p.finished (calls.ended d.calls c) (call_agrees T _ _ (zeros d.sizes) d.history d.queue p.blocks p.flights p.finished d.calls c idle k.agrees idles tt) (λ r. refl) tt;
+}
+
+pub room_wait_fits : (T : Bool) (d : Device) (p : Port) (c : Caller) (page : Page) (bytes : List ℕ) → Fits T d p → IdleFor d.calls c → page.0 < pages_of d.sizes → Fits T (wait_for_room d c page bytes) p
+room_wait_fits T d p c page bytes k idles within = record {
+  sizes = k.sizes;
+  in_order = room_wait_keeps d c page bytes k.in_order;
+  agrees = call_agrees T _ _ (zeros d.sizes) d.history d.queue p.blocks p.flights p.finished d.calls c _ k.agrees idles within;
+}
+
+pub disk_wait_fits : (T : Bool) (d : Device) (p : Port) (c : Caller) (page : Page) (n : EntryNo)
+    → Fits T d p → IdleFor d.calls c → c.0 < d.sizes.callers → page.0 < pages_of d.sizes → last d.history page ≡ Some n → newest d.queue page ≡ None
+    → Fits T (wait_for_disk d c page n) (started p (Read c page))
+disk_wait_fits T d p c page n k idles caller_in within is_last none = record {
+  sizes = k.sizes;
+  in_order = disk_wait_keeps d c page n k.in_order is_last;
+  agrees = read_agrees T _ _ (zeros d.sizes) d.history d.queue p.blocks p.flights p.finished d.calls c page n d.failed_reads k.agrees idles caller_in within none;
+}
+
+pub start_fits : (T : Bool) (d : Device) (p : Port) (page : Page) (line : List Page) (copy : Copy) → Fits T d p → d.queue.line ≡ page ∷ line → next d.queue page ≡ Some copy
+    → Fits T (record d { queue = queue.start d.queue }) (started p (Write page (kept_by p.blocks copy.bytes)))
+start_fits T d p page line copy k is_line is_next =
+    let P : Queue → Type 0 = λ q. Agrees T (pages_of d.sizes) d.sizes.callers (zeros d.sizes) d.history q p.blocks (p.flights ++ Write page (kept_by p.blocks copy.bytes) ∷ []) p.finished d.calls in
+    record {
+      sizes = k.sizes;
+      in_order = record { ordered = k.in_order.ordered; calls = k.in_order.calls };
+      agrees = subst P (sym (ap (queue.start_of d.queue) is_line)) (start_agrees T _ _ (zeros d.sizes) d.history d.queue p.blocks p.flights p.finished d.calls page line copy k.agrees is_line is_next);
+    }
+
+-- what the disk gave back
+after_ok : (T : Bool) (bl : Option (List (List ℕ))) (page : Page) (a f : Option Copy) (copy : Copy) (bytes content : List ℕ) → is_some bl ≡ T → f ≡ Some copy → (T ≡ true → copy.bytes ≡ bytes) → IsBlock (block_in bl page) bytes
+    → MatchOption (first_of a f) (IsBlock (block_in bl page) content) (λ (x : Copy). x.bytes ≡ content) → HoldsPage (record { flying = None; next = a }) (block_in bl page) content
+after_ok T bl page (Some x) f copy bytes content tells e same settled h = h
+after_ok T bl page None None copy bytes content tells e same settled h = cc
+after_ok T None page None (Some x) copy bytes content tells e same settled h = tt
+after_ok T (Some blocks) page None (Some x) copy bytes content tells e same settled h =
+    let is : x ≡ copy = cc in settled ∙ sym (same (sym tells)) ∙ sym (ap (λ (y : Copy). y.bytes) is) ∙ h
+
+after_bad : (bl : Option (List ℕ)) (a f : Option Copy) (copy : Copy) (content : List ℕ) → f ≡ Some copy → MatchOption (first_of a f) (IsBlock bl content) (λ (x : Copy). x.bytes ≡ content) → HoldsPage (record { flying = None; next = first_of a f }) bl content
+after_bad bl (Some x) f copy content e h = h
+after_bad bl None None copy content e h = cc
+after_bad bl None (Some x) copy content e h = h
+
+wrote_back : (T : Bool) (d : Device) (p now : Port) (page : Page) (bytes : List ℕ) (ok : Bool) (copy : Option Copy) → AgreesAt T d p → now.blocks ≡ p.blocks → now.flights ≡ without (which.Write page) p.flights → now.finished ≡ None
+    → find (is_flight_of (which.Write page)) p.flights ≡ Some (Write page bytes) → (ok ≡ true → IsBlock (block_in p.blocks page) bytes) → flying d.queue page ≡ copy
+    → AgreesAt T (wrote d page copy ok).0 now
+wrote_back T d p now page bytes ok None h eb ef en there settled e =
+    let w : IsExpected T (pages_of d.sizes) d.sizes.callers d.queue d.calls (Write page bytes) = found (IsExpected T (pages_of d.sizes) d.sizes.callers d.queue d.calls) (which.Write page) p.flights (Write page bytes) there h.expected in
+    absurd (let P : Option Copy → Type 0 = λ o. IsCopyOf T bytes o in subst P e w.1)
+wrote_back T d p now page bytes true (Some copy) h eb ef en there settled e =
+    let w : IsExpected T (pages_of d.sizes) d.sizes.callers d.queue d.calls (Write page bytes) = found (IsExpected T (pages_of d.sizes) d.sizes.callers d.queue d.calls) (which.Write page) p.flights (Write page bytes) there h.expected in
+    let of_copy : IsCopyOf T bytes (Some copy) = let P : Option Copy → Type 0 = λ o. IsCopyOf T bytes o in subst P e w.1 in
+    rw (eb, ef, en) (wrote_agrees T _ _ (zeros d.sizes) d.history d.queue p.blocks p.flights p.finished d.calls page bytes (next d.queue page) (is_some (next d.queue page)) h there (λ x. x)
+    (after_ok T p.blocks page (next d.queue page) (flying d.queue page) copy bytes _ h.tells e of_copy (settled refl) (h.held page w.0)))
+wrote_back T d p now page bytes false (Some copy) h eb ef en there settled e =
+    let w : IsExpected T (pages_of d.sizes) d.sizes.callers d.queue d.calls (Write page bytes) = found (IsExpected T (pages_of d.sizes) d.sizes.callers d.queue d.calls) (which.Write page) p.flights (Write page bytes) there h.expected in
+    rw (eb, ef, en) (wrote_agrees T _ _ (zeros d.sizes) d.history d.queue p.blocks p.flights p.finished d.calls page bytes (newest d.queue page) true h there (λ _. some_first (next d.queue page) (flying d.queue page) (copy_flies T bytes (flying d.queue page) w.1))
+    (after_bad (block_in p.blocks page) (next d.queue page) (flying d.queue page) copy _ e (h.held page w.0)))
+
+not_finished : (f : Finished) (o : Option Finished) → o ≡ None → o ≡ Some f → ⊥
+not_finished f None e h = cc
+not_finished f (Some g) e h = cc
+
+-- where blocks are told, the block of a write that came back ok holds its bytes
+is_settled : (bl : Option (List (List ℕ))) (fs : List Flight) (fin : Option Finished) (page : Page) (bytes given : List ℕ) (ok : Bool) → IsUnderWay bl fs fin → TakesTold bl fin (Write page bytes) ok given → ok ≡ true → IsBlock (block_in bl page) bytes
+is_settled None fs fin page bytes given ok u told is_ok = tt
+is_settled (Some blocks) fs None page bytes given ok u told is_ok = absurd (not_finished _ None refl told.0)
+is_settled (Some blocks) fs (Some f) page bytes given ok u told is_ok =
+    let e : Some f ≡ Some (record { flight = Write page bytes; ok = ok }) = told.0 in
+    let same : f ≡ record { flight = Write page bytes; ok = ok } = cc in
+    let P : Finished → Type 0 = λ g. IsSettled (Some blocks) g.flight g.ok in
+    let settled : IsSettled (Some blocks) (Write page bytes) ok = subst P same u.1 in settled is_ok
+
+-- a read that came back ok gives its page's block, where blocks are told
+is_brought : (bl : Option (List (List ℕ))) (fin : Option Finished) (c : Caller) (page : Page) (bytes : List ℕ) → TakesTold bl fin (Read c page) true bytes → IsBrought bl page bytes arrived.Came
+is_brought None fin c page bytes told = tt
+is_brought (Some blocks) fin c page bytes told = sym told.1
+
+took_agrees : (T : Bool) (d : Device) (p now : Port) (flight : Flight) (ok : Bool) (bytes : List ℕ) → AgreesAt T d p → now.blocks ≡ p.blocks → now.flights ≡ without (which_of flight) p.flights → now.finished ≡ None
+    → find (is_flight_of (which_of flight)) p.flights ≡ Some flight → TakesTold p.blocks p.finished flight ok bytes → AgreesAt T (took d (which_of flight) (page_of flight) ok bytes).0 now
+took_agrees T d p now (Write page written) ok bytes h eb ef en there told =
+    wrote_back T d p now page written ok (flying d.queue page) h eb ef en there (is_settled p.blocks p.flights p.finished page written bytes ok h.under_way told) refl
+took_agrees T d p now (Read c page) true bytes h eb ef en there told =
+    rw (eb, ef, en) (read_back_agrees T _ _ (zeros d.sizes) d.history d.queue p.blocks p.flights p.finished d.calls c page bytes arrived.Came h (found (IsExpected T (pages_of d.sizes) d.sizes.callers d.queue d.calls) (which.Read c) p.flights (Read c page) there h.expected) (is_brought p.blocks p.finished c page bytes told))
+took_agrees T d p now (Read c page) false bytes h eb ef en there told =
+    rw (eb, ef, en) (read_back_agrees T _ _ (zeros d.sizes) d.history d.queue p.blocks p.flights p.finished d.calls c page [] arrived.Failed h (found (IsExpected T (pages_of d.sizes) d.sizes.callers d.queue d.calls) (which.Read c) p.flights (Read c page) there h.expected) tt)
+
+wrote_sizes : (d : Device) (page : Page) (copy : Option Copy) (ok : Bool) → (wrote d page copy ok).0.sizes ≡ d.sizes
+wrote_sizes d page None ok = refl
+wrote_sizes d page (Some copy) true = refl
+wrote_sizes d page (Some copy) false = refl
+
+took_sizes : (d : Device) (w : DiskWhich) (page : Page) (ok : Bool) (bytes : List ℕ) → (took d w page ok bytes).0.sizes ≡ d.sizes
+took_sizes d (which.Write r) page ok bytes = wrote_sizes d page (flying d.queue page) ok
+took_sizes d (which.Read c) page true bytes = refl
+took_sizes d (which.Read c) page false bytes = refl
+
+pub took_back_sizes : (d : Device) (taken : Option Taken) → (took_back d taken).0.sizes ≡ d.sizes
+took_back_sizes d None = refl
+took_back_sizes d (Some t) = took_sizes d t.done.which t.done.page t.done.ok t.bytes
+
+pub took_back_fits : (T : Bool) (d : Device) (p now : Port) (taken : Option Taken) → Fits T d p → now.sizes ≡ p.sizes → Takes p taken now → Fits T (took_back d taken).0 now
+took_back_fits T d p now None k es takes = record {
+  sizes = es ∙ k.sizes;
+  in_order = k.in_order;
+  agrees = rw (takes.flights, takes.blocks, takes.finished) k.agrees;
+}
+took_back_fits T d p now (Some t) k es takes =
+    let f : Flight = takes.flight in
+    let is_which : t.done.which ≡ which_of f = ap (λ (x : DiskDone). x.which) takes.is in
+    let is_page : t.done.page ≡ page_of f = ap (λ (x : DiskDone). x.page) takes.is in
+    let there : find (is_flight_of (which_of f)) p.flights ≡ Some f = subst (λ w. find (is_flight_of w) p.flights ≡ Some f) is_which takes.was in
+    let left : now.flights ≡ without (which_of f) p.flights = takes.flights ∙ ap (λ w. without w p.flights) is_which in
+    let agrees : AgreesAt T (took d (which_of f) (page_of f) t.done.ok t.bytes).0 now = took_agrees T d p now f t.done.ok t.bytes k.agrees takes.blocks left takes.finished there takes.told in
+    let P : DiskWhich → Type 0 = λ w. AgreesAt T (took d w t.done.page t.done.ok t.bytes).0 now in
+    let Q : Page → Type 0 = λ r. AgreesAt T (took d (which_of f) r t.done.ok t.bytes).0 now in
+    record {
+      sizes = es ∙ k.sizes ∙ sym (took_sizes d t.done.which t.done.page t.done.ok t.bytes);
+      in_order = took_back_keeps d (Some t) k.in_order;
+      agrees = subst P (sym is_which) (subst Q (sym is_page) agrees);
+    }
+
+-- an operation of a disk in memory finishes, or nothing does
+lets_finish_by : (T : Bool) (d : Device) (p now : Port) (w : DiskWhich) (ok answer : Bool) (bl : Option (List (List ℕ))) (fin : Option Finished) (flight : Option Flight)
+    → Fits T d p → p.blocks ≡ bl → p.finished ≡ fin → find (is_flight_of w) p.flights ≡ flight → LetsFinish p bl fin flight ok answer now → Fits T d now
+lets_finish_by T d p now w ok answer None fin flight k eb ef el h = subst (λ x. Fits T d x) (sym h.1) k
+lets_finish_by T d p now w ok answer (Some blocks) (Some f) flight k eb ef el h = subst (λ x. Fits T d x) (sym h.1) k
+lets_finish_by T d p now w ok answer (Some blocks) None None k eb ef el h = subst (λ x. Fits T d x) (sym h.1) k
+lets_finish_by T d p now w ok answer (Some blocks) None (Some f) k eb ef el h =
+    let before : Agrees T (pages_of d.sizes) d.sizes.callers (zeros d.sizes) d.history d.queue (Some blocks) p.flights None d.calls =
+    let P : Option (List (List ℕ)) → Type 0 = λ b. Agrees T (pages_of d.sizes) d.sizes.callers (zeros d.sizes) d.history d.queue b p.flights p.finished d.calls in
+    let Q : Option Finished → Type 0 = λ g. Agrees T (pages_of d.sizes) d.sizes.callers (zeros d.sizes) d.history d.queue (Some blocks) p.flights g d.calls in subst Q ef (subst P eb k.agrees) in
+    subst (λ x. Fits T d x) (sym h.1.is)
+    (record { sizes = k.sizes; in_order = k.in_order; agrees = finish_agrees T _ _ (zeros d.sizes) d.history d.queue blocks p.flights d.calls w f ok h.1.left before el })
+
+pub lets_finish_fits : (T : Bool) (d : Device) (p now : Port) (w : DiskWhich) (ok answer : Bool) → Fits T d p → LetsFinish p p.blocks p.finished (find (is_flight_of w) p.flights) ok answer now → Fits T d now
+lets_finish_fits T d p now w ok answer k h = lets_finish_by T d p now w ok answer p.blocks p.finished (find (is_flight_of w) p.flights) k refl refl refl h
+
+-- the calls, whatever the disk does
+module _ {D : Type 0} (means : D → Port) (moves : D → (c : DiskCall) → DiskAnswer c → D → Type 0) (follows : (d : D) (c : DiskCall) (answer : DiskAnswer c) (e : D) → moves d c answer e → Follows (means d) c answer (means e)) where
+  -- what a call leaves fits, and has these sizes
+  abbrev pub IsKept : {R : Type 0} → Bool → Sizes → Device × R → D → Type 0
+  IsKept T s a e = Fits T a.0 (means e) × (a.0.sizes ≡ s)
+
+  abbrev pub Keeps : {R : Type 0} → Bool → Prog (Device × R) → Device → D → Type 0
+  Keeps T p d disk = Leads moves p disk (λ a e. IsKept T d.sizes a e)
+
+  route_by_kept : (T : Bool) (d : Device) (disk : D) (c : Caller) (page : Page) (named : Option EntryNo) (copy : Option Copy) → Fits T d (means disk) → IdleFor d.calls c → c.0 < d.sizes.callers → page.0 < pages_of d.sizes
+      → last d.history page ≡ named → newest d.queue page ≡ copy → Keeps T (route_by d c page named copy) d disk
+  route_by_kept T d disk c page None copy k idles ci pi el ec = (give_fits T d (means disk) c page None origin.Zero _ k idles (sym el) refl (λ _. sym (array-none (zeros d.sizes) d.history page el)), refl)
+  route_by_kept T d disk c page (Some n) (Some copy) k idles ci pi el ec = (
+    give_fits T d (means disk) c page (Some n) origin.Queue copy.bytes k idles (sym el) refl
+        (λ _. subst (λ o. MatchOption o (IsBlock (block_in (means disk).blocks page) (array (zeros d.sizes) d.history page)) (λ (x : Copy). x.bytes ≡ array (zeros d.sizes) d.history page)) ec (k.agrees.held page pi)),
+    refl,
+  )
+  route_by_kept T d disk c page (Some n) None k idles ci pi el ec = λ r mid moved.
+      (subst (λ q. Fits T (wait_for_disk d c page n) q) (sym (follows disk (StartRead c page) r mid moved)) (disk_wait_fits T d (means disk) c page n k idles ci pi el ec), refl)
+
+  pub route_kept : (T : Bool) (d : Device) (disk : D) (c : Caller) (page : Page) → Fits T d (means disk) → IdleFor d.calls c → c.0 < d.sizes.callers → page.0 < pages_of d.sizes → Keeps T (route d c page) d disk
+  route_kept T d disk c page k idles ci pi = route_by_kept T d disk c page (last d.history page) (newest d.queue page) k idles ci pi refl refl
+
+  pub out_kept : (T : Bool) (d : Device) (disk : D) (c : Caller) (page : Page) (bytes : List ℕ) → Fits T d (means disk) → IdleFor d.calls c → page.0 < pages_of d.sizes → Keeps T (out d c page bytes) d disk
+  out_kept T d disk c page bytes k idles pi =
+      chosen (λ (p : Prog (Device × OutStep)). Keeps T p d disk) (queue.has_room d.queue page) _ _ (λ _. (accept_fits T d (means disk) c page bytes k idles pi, refl)) (λ _. (room_wait_fits T d (means disk) c page bytes k idles pi, refl))
+
+  again_kept : (T : Bool) (s : Sizes) (a : Device × InStep) (e : D) → IsKept T s a e → IsKept T s (routed_again a) e
+  again_kept T s (d, InStep.Done entry) e k = k
+  again_kept T s (d, InStep.Wait v) e k = k
+
+  route_again_kept : (T : Bool) (d : Device) (disk : D) (c : Caller) (page : Page) → Fits T d (means disk) → IdleFor d.calls c → c.0 < d.sizes.callers → page.0 < pages_of d.sizes → Keeps T (answering routed_again (route d c page)) d disk
+  route_again_kept T d disk c page k idles ci pi =
+      Leads-answering moves routed_again (route d c page) disk _ (Leads-implies moves (route d c page) disk _ _ (again_kept T d.sizes) (route_kept T d disk c page k idles ci pi))
+
+  finish_by_kept : (T : Bool) (d : Device) (disk : D) (c : Caller) (bytes : List ℕ) (state : CallState) → Fits T d (means disk) → c.0 < d.sizes.callers → state_of d.calls c ≡ state
+      → IsFair T (pages_of d.sizes) (zeros d.sizes) d.history d.queue bytes state → KeepsNewest d.history d.failed_reads state → Keeps T (finish_by d c bytes state) d disk
+  finish_by_kept T d disk c bytes Idle k ci e fair kept = (k, refl)
+  finish_by_kept T d disk c bytes (Room page since) k ci e fair kept =
+      let idles : IdleFor d.calls c = λ r w. subst (λ s. WaitsFor r s) e w in
+      chosen (λ (p : Prog (Device × Step)). Keeps T p d disk) (queue.has_room d.queue page) _ _ (λ _. (accept_fits T d (means disk) c page bytes k idles fair, refl)) (λ _.
+      chosen (λ (p : Prog (Device × Step)). Keeps T p d disk) (nat_lt since d.failed_writes) _ _ (λ later. (fault_fits T d (means disk) c page kind.PageOut since d.failed_writes bytes k idles (ltb-true since d.failed_writes later), refl)) (λ _. (k, refl)))
+  finish_by_kept T d disk c bytes (Reading page n v arrived.Waiting newer since) k ci e fair kept = (k, refl)
+  finish_by_kept T d disk c bytes (Reading page n v arrived.Came false since) k ci e fair kept = (
+    give_fits T d (means disk) c page (Some n) (origin_of v) bytes k (λ r w. not_waiting page n v arrived.Came false since r refl (subst (λ s. WaitsFor r s) e w)) (sym (kept.0 refl)) (from_via v) (fair.1 refl),
+    refl,
+  )
+  finish_by_kept T d disk c bytes (Reading page n v arrived.Came true since) k ci e fair kept =
+      route_again_kept T d disk c page k (λ r w. not_waiting page n v arrived.Came true since r refl (subst (λ s. WaitsFor r s) e w)) ci fair.0
+  finish_by_kept T d disk c bytes (Reading page n v arrived.Failed false since) k ci e fair kept =
+      (fault_fits T d (means disk) c page kind.PageIn since d.failed_reads _ k (λ r w. not_waiting page n v arrived.Failed false since r refl (subst (λ s. WaitsFor r s) e w)) kept.2, refl)
+  finish_by_kept T d disk c bytes (Reading page n v arrived.Failed true since) k ci e fair kept =
+      route_again_kept T d disk c page k (λ r w. not_waiting page n v arrived.Failed true since r refl (subst (λ s. WaitsFor r s) e w)) ci fair.0
+  finish_by_kept T d disk c bytes (Reading page n v arrived.Lost newer since) k ci e fair kept =
+      route_again_kept T d disk c page k (λ r w. not_waiting page n v arrived.Lost newer since r refl (subst (λ s. WaitsFor r s) e w)) ci fair.0
+
+  pub finish_kept : (T : Bool) (d : Device) (disk : D) (c : Caller) → Fits T d (means disk) → c.0 < d.sizes.callers → Keeps T (finish d c) d disk
+  finish_kept T d disk c k ci =
+      finish_by_kept T d disk c (call_of d.calls c).bytes (state_of d.calls c) k ci refl (All-get_or (λ (call : Call). IsFair T (pages_of d.sizes) (zeros d.sizes) d.history d.queue call.bytes call.state) d.calls c.0 idle k.agrees.fair tt) (call_keeps d c k.in_order)
+
+  start_copy_kept : (T : Bool) (d : Device) (disk : D) (page : Page) (line : List Page) (copy : Option Copy) → Fits T d (means disk) → d.queue.line ≡ page ∷ line → next d.queue page ≡ copy → Keeps T (start_copy d page copy) d disk
+  start_copy_kept T d disk page line None k el ec = (k, refl)
+  start_copy_kept T d disk page line (Some copy) k el ec = λ r mid moved.
+      (subst (λ q. Fits T (record d { queue = queue.start d.queue }) q) (sym (follows disk (StartWrite page copy.bytes) r mid moved)) (start_fits T d (means disk) page line copy k el ec), refl)
+
+  start_front_kept : (T : Bool) (d : Device) (disk : D) (line : List Page) → Fits T d (means disk) → d.queue.line ≡ line → Keeps T (start_front d line) d disk
+  start_front_kept T d disk [] k el = (k, refl)
+  start_front_kept T d disk (page ∷ line) k el = start_copy_kept T d disk page line (next d.queue page) k el refl
+
+  pub disk_start_kept : (T : Bool) (d : Device) (disk : D) → Fits T d (means disk) → Keeps T (disk_start d) d disk
+  disk_start_kept T d disk k = start_front_kept T d disk d.queue.line k refl
+
+  pub disk_take_kept : (T : Bool) (d : Device) (disk : D) → Fits T d (means disk) → Keeps T (disk_take d) d disk
+  disk_take_kept T d disk k = λ taken mid moved.
+      let f = follows disk TakeDone taken mid moved in (took_back_fits T d (means disk) (means mid) taken k f.0 f.1, took_back_sizes d taken)
+
+  pub disk_finish_kept : (T : Bool) (d : Device) (disk : D) (w : DiskWhich) (ok : Bool) → Fits T d (means disk) → Keeps T (disk_finish d w ok) d disk
+  disk_finish_kept T d disk w ok k = λ answer mid moved. (lets_finish_fits T d (means disk) (means mid) w ok answer k (follows disk (LetFinish w ok) answer mid moved), refl)

@@ -1,0 +1,4 @@
+pub mod Ports
+pub mod Device
+pub mod Fits
+pub mod State

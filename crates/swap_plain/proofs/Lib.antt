@@ -1,0 +1,5 @@
+pub mod Patterns
+pub mod Pieces
+pub mod Read
+pub mod Sized
+pub mod Spaced

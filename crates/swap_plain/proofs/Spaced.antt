@@ -1,0 +1,28 @@
+-- Words on a line, one after another.
+use Rattle.std.proofs.Common.{◌≡◌, ℕ, ◌<◌, List, [], ◌∷◌, ◌++◌, length, eqb, cond, Bool, true, false, refl, sym, ap, ◌∙◌, arith, append_assoc, append-nil, Some}
+use Rattle.std.proofs.lemmas.Bool.Decides.{nat_tests}
+use Rattle.swap_base.specs.declared.EntryNo.{EntryNo}
+use Rattle.swap_record.specs.History.{History, Row, named}
+use Rattle.swap_record.specs.Text.{entry_words, entry_text, row_words}
+use Rattle.swap_plain.specs.Lines.{spaced, led}
+
+spaced-led : (word : List ℕ) (words : List (List ℕ)) → spaced (word ∷ words) ≡ word ++ led words
+spaced-led word [] = sym (append-nil word)
+spaced-led word (next ∷ words) = refl
+
+pub led-append : (xs ys : List (List ℕ)) → led (xs ++ ys) ≡ led xs ++ led ys
+led-append [] ys = refl
+led-append (x ∷ xs) ys =
+    ap (λ l. 32 ∷ l) (spaced-led x (xs ++ ys)) ∙ ap (λ l. 32 ∷ (x ++ l)) (led-append xs ys) ∙ ap (λ l. 32 ∷ l) (sym (append_assoc x (led xs) (led ys))) ∙ ap (λ l. (32 ∷ l) ++ led ys) (sym (spaced-led x xs))
+
+-- a name below the length is an entry's
+named-at : (row : Row) (H : History) (n : ℕ) (b : Bool) → eqb (length H) n ≡ b → (b ≡ false → (r : Row) × (named H n ≡ Some r)) → (r : Row) × (named (row ∷ H) n ≡ Some r)
+named-at row H n true e later = (row, ap (λ t. cond t (Some row) (named H n)) e)
+named-at row H n false e later = let found = later refl in (found.0, ap (λ t. cond t (Some row) (named H n)) e ∙ found.1)
+
+named-some : (H : History) (n : ℕ) → n < length H → (r : Row) × (named H n ≡ Some r)
+named-some [] n l = absurd (omega arith)
+named-some (row ∷ H) n l = named-at row H n (eqb (length H) n) refl (λ other. named-some H n (grind (arith, nat_tests)))
+
+pub led-entry : (H : History) (e : EntryNo) → e.0 < length H → led (entry_words H e) ≡ 32 ∷ entry_text H e
+led-entry H e l = let some = named-some H e.0 l in ap (λ r. led (row_words e.0 r)) some.1 ∙ sym (ap (λ r. 32 ∷ spaced (row_words e.0 r)) some.1)

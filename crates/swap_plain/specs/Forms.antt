@@ -1,0 +1,137 @@
+-- The forms of the lines that are built: their words, and what they give. A line of no form gives nothing.
+use Rattle.std.specs.Prelude.{ℕ, ◌^◌, Bool, true, false, nat_lt, if◌then◌else◌, List, [], ◌∷◌, Option, None, Some, option_and_then, is_some, codes}
+use Rattle.swap_base.specs.declared.Page.{Page}
+use Rattle.swap_base.specs.declared.Caller.{Caller}
+use Rattle.swap_base.specs.declared.DiskWhich.{DiskWhich}
+use Rattle.swap_base.specs.declared.DiskWhich.TheVariants as which
+use Rattle.swap_base.specs.Sizes.{Sizes}
+use Rattle.swap_io.specs.Words.{number, piece_of}
+use Rattle.swap_wire.specs.declared.Event.{Event}
+use Rattle.swap_wire.specs.declared.Event.TheVariants as event
+use Rattle.swap_plain.specs.Lines.{is_word}
+
+infixl 10 ◌>>=◌
+abbrev pub ◌>>=◌ : {A B : Type 0} → Option A → (A → Option B) → Option B
+o >>= f = option_and_then f o
+
+-- an event line as it is spelled: the event, and the last word of an `out` line
+pub record Line : Type 0 where
+  pub event : Event
+  pub hex : List ℕ
+
+-- an event that is spelled without a page
+abbrev pub plain : Event → Option Line
+plain e = Some (record { event = e; hex = [] })
+
+-- the words, if there are just so many
+abbrev pub no_word : List (List ℕ) → Option (Unit {0})
+no_word [] = Some tt
+no_word _ = None
+
+abbrev pub one_word : List (List ℕ) → Option (List ℕ)
+one_word (a ∷ []) = Some a
+one_word _ = None
+
+abbrev pub two_words : List (List ℕ) → Option (List ℕ × List ℕ)
+two_words (a ∷ b ∷ []) = Some (a, b)
+two_words _ = None
+
+abbrev pub three_words : List (List ℕ) → Option (List ℕ × List ℕ × List ℕ)
+three_words (a ∷ b ∷ c ∷ []) = Some (a, b, c)
+three_words _ = None
+
+abbrev pub seven_words : List (List ℕ) → Option (List ℕ × List ℕ × List ℕ × List ℕ × List ℕ × List ℕ × List ℕ)
+seven_words (a ∷ b ∷ c ∷ d ∷ e ∷ f ∷ g ∷ []) = Some (a, b, c, d, e, f, g)
+seven_words _ = None
+
+-- a number below 2 ^ 32
+abbrev pub below : ℕ → ℕ → Option ℕ
+below limit n = if nat_lt n limit then Some n else None
+
+abbrev pub small : List ℕ → Option ℕ
+small word = number word >>= below (2 ^ 32)
+
+-- the words of a caller and of a page
+abbrev pub caller_word : List ℕ → Option Caller
+caller_word word = small word >>= λ n. Some (record { 0 = n })
+
+abbrev pub page_word : List ℕ → Option Page
+page_word word = small word >>= λ n. Some (record { 0 = n })
+
+-- a word that is hex of whole bytes
+abbrev pub hex_word : List ℕ → Option (List ℕ)
+hex_word word = if is_some (piece_of word) then Some word else None
+
+-- how a disk's operation ends
+abbrev pub ok_word : List ℕ → Option Bool
+ok_word how = if is_word (codes "ok") how then Some true else (if is_word (codes "bad") how then Some false else None)
+
+-- an operation of the disk
+abbrev pub which_words : List ℕ → List ℕ → Option DiskWhich
+which_words what n =
+    if is_word (codes "write") what then (page_word n >>= λ page. Some (which.Write page)) else (if is_word (codes "read") what then (caller_word n >>= λ caller. Some (which.Read caller)) else None)
+
+-- the forms of an event line, by its first word
+abbrev pub out_line : List (List ℕ) → Option Line
+out_line words = do
+  (c, p, h) ← three_words words
+  caller ← caller_word c
+  page ← page_word p
+  hex ← hex_word h
+  Some (record { event = event.PageOut caller page; hex = hex })
+
+abbrev pub in_line : List (List ℕ) → Option Line
+in_line words = do
+  (c, p) ← two_words words
+  caller ← caller_word c
+  page ← page_word p
+  plain (event.PageIn caller page)
+
+abbrev pub finish_line : List (List ℕ) → Option Line
+finish_line words = do
+  c ← one_word words
+  caller ← caller_word c
+  plain (event.Finish caller)
+
+abbrev pub start_line : List (List ℕ) → Option Line
+start_line words = no_word words >>= λ _. plain event.Start
+
+abbrev pub disk_line : List (List ℕ) → Option Line
+disk_line words = do
+  (what, n, how) ← three_words words
+  which ← which_words what n
+  ok ← ok_word how
+  plain (event.Disk which ok)
+
+-- a form by its first word, and what its other words give
+pub record Row : Type 0 where
+  pub word : List ℕ
+  pub reads : List (List ℕ) → Option Line
+
+abbrev pub row : List ℕ → (List (List ℕ) → Option Line) → Row
+row word reads = record { word = word; reads = reads }
+
+abbrev pub event_rows : List Row
+event_rows = row (codes "out") out_line ∷ row (codes "in") in_line ∷ row (codes "finish") finish_line ∷ row (codes "start") start_line ∷ row (codes "disk") disk_line ∷ []
+
+abbrev pub by_row : List Row → List ℕ → List (List ℕ) → Option Line
+by_row [] word words = None
+by_row (r ∷ rows) word words = if is_word r.word word then r.reads words else by_row rows word words
+
+-- the event of a line, by its words
+abbrev pub event_line : List (List ℕ) → Option Line
+event_line [] = None
+event_line (word ∷ words) = by_row event_rows word words
+
+-- the seven numbers of a geometry line
+abbrev pub sizes_words : List (List ℕ) → Option Sizes
+sizes_words words = do
+  (a, b, c, d, e, f, g) ← seven_words words
+  page_bytes ← small a
+  pages_per_slab ← small b
+  slabs ← small c
+  queue ← small d
+  callers ← small e
+  window ← small f
+  hot ← small g
+  Some (record { page_bytes = page_bytes; pages_per_slab = pages_per_slab; slabs = slabs; queue = queue; callers = callers; window = window; hot = hot })

@@ -1,0 +1,145 @@
+//! What a line owes besides its form.
+ghost use Rattle.std.specs.Prelude.{◌≡◌, ℕ, ◌+◌, ◌<◌, ◌≤◌, ◌==◌, nat_lt, nat_le, is_some, true, if◌then◌else◌};
+ghost use Rattle.std.specs.List.{list_any};
+ghost use Rattle.swap_base.specs.Sizes.{first_beyond};
+ghost use Rattle.swap_io.specs.Words.{pattern, piece_of, lengths};
+ghost use Rattle.swap_plain.specs.Reading.{caller_of, page_of, is_out, calls_in, has_caller, has_page, has_pattern, tests, counted};
+ghost use Rattle.swap_plain.specs.Spelled.{spelled, above_of};
+
+use super::Why;
+use super::forms::Line;
+use swap_base::{Caller, DiskWhich, Geometry, Page};
+use swap_wire::Event;
+
+/// How many bytes all calls of a script may page, at most.
+const CALL_BYTES: u64 = 1_073_741_824;
+
+/// How many events a script may have, at most.
+pub const EVENT_LIMIT: u32 = 4_194_304;
+
+/// How many events stand above a line, and how many of them are calls.
+#[derive(Clone, Copy)]
+pub struct Counts {
+    pub events: u32,
+    pub calls: u32,
+}
+
+fn caller_of(event: Event) -> Option<Caller>
+    ensures { result ≡ caller_of event }
+{
+    match event {
+        Event::PageOut { caller, .. } | Event::PageIn { caller, .. } | Event::Finish { caller } =>
+            Some(caller),
+        Event::Disk {
+            which: DiskWhich::Read(caller),
+            ..
+        } => Some(caller),
+        _ => None,
+    }
+}
+
+fn page_of(event: Event) -> Option<Page>
+    ensures { result ≡ page_of event }
+{
+    match event {
+        Event::PageOut { page, .. } | Event::PageIn { page, .. } => Some(page),
+        Event::Disk {
+            which: DiskWhich::Write(page),
+            ..
+        } => Some(page),
+        _ => None,
+    }
+}
+
+pub fn is_out(event: Event) -> bool
+    ensures { result ≡ is_out event }
+{
+    matches!(event, Event::PageOut { .. })
+}
+
+fn calls_in(event: Event) -> u32
+    ensures { result ≡ calls_in event }
+{
+    match event {
+        Event::PageOut { .. } | Event::PageIn { .. } => 1,
+        _ => 0,
+    }
+}
+
+fn has_caller(geometry: &Geometry, event: Event) -> bool
+    ensures { result ≡ has_caller geometry.now event }
+{
+    match caller_of(event) {
+        None => true,
+        Some(caller) => caller.0 < geometry.callers(),
+    }
+}
+
+fn has_page(geometry: &Geometry, event: Event) -> bool
+    ensures { result ≡ has_page geometry.now event }
+{
+    match page_of(event) {
+        None => true,
+        Some(page) => page.0 < geometry.pages(),
+    }
+}
+
+fn is_piece_length(bytes: usize) -> bool
+    ensures { result ≡ list_any (λ n. bytes == n) lengths }
+{
+    matches!(
+        bytes,
+        1 | 2 | 4 | 8 | 16 | 32 | 64 | 128 | 256 | 512 | 1024 | 2048 | 4096
+    )
+}
+
+/// Whether hex of whole bytes is a pattern of pages of this size.
+#[tactic(auto, using(crate::proofs::Patterns::is_some_pattern))]
+fn is_pattern(hex: &[u8], page_bytes: u32) -> bool
+    requires { is_some (piece_of hex.now) ≡ true }
+    ensures { result ≡ is_some (pattern page_bytes hex.now) }
+{
+    let bytes = hex.len() / 2;
+    is_piece_length(bytes) && bytes <= page_bytes as usize
+}
+
+/// The first fault of a line that has a form.
+pub fn fault_of(geometry: &Geometry, above: Counts, line: Line<'_>) -> Option<Why>
+    requires counts { above.calls ≤ above.events }
+    requires within { above.events ≤ EVENT_LIMIT }
+    requires hex { is_out line.event ≡ true → is_some (piece_of line.hex.now) ≡ true }
+    ensures { result ≡ first_beyond (tests geometry.now (above_of above) (spelled line.entry)) }
+{
+    if !has_caller(geometry, line.event) {
+        return Some(Why::Caller);
+    }
+    if !has_page(geometry, line.event) {
+        return Some(Why::Page);
+    }
+    if is_out(line.event) && !is_pattern(line.hex, geometry.page_bytes()) {
+        return Some(Why::Pattern);
+    }
+    let calls = above.calls + calls_in(line.event);
+    if u64::from(calls) * u64::from(geometry.page_bytes()) > CALL_BYTES {
+        return Some(Why::Calls);
+    }
+    if above.events >= EVENT_LIMIT {
+        return Some(Why::Events);
+    }
+    None
+}
+
+impl Counts {
+    /// This line counts too.
+    pub fn with(self, event: Event) -> Counts
+        requires counts { self.calls ≤ self.events }
+        requires within { self.events < EVENT_LIMIT }
+        ensures events { result.events ≡ self.events + 1 }
+        ensures calls { result.calls ≡ self.calls + calls_in event }
+    {
+        Counts {
+            events: self.events + 1,
+            calls: self.calls + calls_in(event),
+        }
+    }
+}
