@@ -1,19 +1,25 @@
 -- How a script's run ends.
-use Rattle.std.proofs.Common.{◌≡◌, ℕ, ◌≤◌, true, false, List, ◌++◌, length, refl, sym, ap, ◌∙◌, subst, is_err, OnErr, OnOk, inl, inr, Option, None, Some, Result, Ok, Err}
+use Rattle.std.proofs.Common.{◌≡◌, ℕ, ◌≤◌, true, false, List, ◌++◌, length, [], ◌∷◌, refl, sym, ap, ◌∙◌, subst, is_err, OnErr, OnOk, inl, inr, Option, None, Some, Result, Ok, Err}
 use Rattle.std.specs.Io.KnownBytes.{Appends, Keeps}
 use Rattle.swap_io.specs.Causes.{AppendsFront, HasCause, WasReadWhole}
-use Rattle.swap_world.specs.Answered.{EachCallOnce}
-use Rattle.swap_world.specs.Laws.{AlwaysLegal, EntriesAreSeen}
+use Rattle.std.specs.List.{AllByRecursion}
+use Rattle.swap_base.specs.Sizes.{Sizes}
+use Rattle.swap_slabs.specs.declared.TheConstants.{MOST_LENDERS}
+use Rattle.swap_wire.specs.Input.{Input, IsInRange}
+use Rattle.swap_wire.specs.declared.Event.{Event}
+use Rattle.swap_wire.specs.declared.Event.TheVariants as event
+use Rattle.swap_world.specs.Runs.{IsPaged, IsInput}
+use Rattle.swap_world.specs.Laws.{AreInputs, AlwaysLegal, EachCallOnce, EntriesAreSeen}
 use Rattle.swap_world.specs.World.{World, start, reach, history}
-use Rattle.swap_plain.specs.declared.TheConstants.{TEXT_LIMIT}
-use Rattle.swap_plain.specs.declared.ScriptRefused.{ScriptRefused}
-use Rattle.swap_plain.specs.Laws.{EventsInRange}
-use Rattle.swap_plain.specs.Reading as reading
-use Rattle.swap_plain.specs.Transcript.{header, end_line}
+use Rattle.swap_script.specs.declared.TheConstants.{TEXT_LIMIT}
+use Rattle.swap_script.specs.declared.ScriptRefused.{ScriptRefused}
+use Rattle.swap_script.specs.Laws.{EventsInRange, LendersMayLend, HandsInAPage, PagesAreWhole}
+use Rattle.swap_script.specs.Reading as reading
+use Rattle.swap_script.specs.Transcript.{end_line}
 use Rattle.swap_run.specs.declared.Ending.{Ending}
 use Rattle.swap_run.specs.declared.Ending.TheVariants as ending
 use Rattle.swap_run.specs.Clause.{Command, Ends, Stream, Told, TextEnds, ScriptEnds}
-use Rattle.swap_run.specs.Printing.{lines_from}
+use Rattle.swap_run.specs.Printing.{headers, lines_from}
 use Rattle.swap_run.specs.Run.{transcript_of, history_of, ScriptsKeepTheHeadline}
 
 pub err_of : {T E : Type 0} (r : Result T E) (P : Type 0) → is_err r ≡ true → OnErr r P → P
@@ -26,34 +32,70 @@ ok_of (Err x) P e h = cc
 
 -- the pieces of a run are its transcript
 abbrev pub pieces : World → reading.Script → List ℕ
-pieces w s = header s.sizes ++ lines_from w s.inputs ++ end_line (length (history (reach w s.inputs)))
+pieces w s = headers s.sizes s.lenders ++ lines_from w s.inputs ++ end_line (length (history (reach w s.inputs)))
 
-pub pieces_are : (s left : reading.Script) (w : World) → left ≡ s → w ≡ start s.sizes → pieces w left ≡ transcript_of s
+pub pieces_are : (s left : reading.Script) (w : World) → left ≡ s → w ≡ start s.sizes s.lenders → pieces w left ≡ transcript_of s
 pieces_are s left w el ew = ap (λ l. pieces w l) el ∙ ap (λ x. pieces x s) ew
 
-pub wrote : (s left : reading.Script) (w : World) (a b : Option (List ℕ)) → left ≡ s → w ≡ start s.sizes → Appends a b (pieces w left) → Appends a b (transcript_of s)
+pub wrote : (s left : reading.Script) (w : World) (a b : Option (List ℕ)) → left ≡ s → w ≡ start s.sizes s.lenders → Appends a b (pieces w left) → Appends a b (transcript_of s)
 wrote s left w a b el ew h = let P : List ℕ → Type 0 = λ r. Appends a b r in subst P (pieces_are s left w el ew) h
 
-pub broke : (s left : reading.Script) (w : World) (a b : Option (List ℕ)) → left ≡ s → w ≡ start s.sizes → AppendsFront a b (pieces w left) → AppendsFront a b (transcript_of s)
+pub broke : (s left : reading.Script) (w : World) (a b : Option (List ℕ)) → left ≡ s → w ≡ start s.sizes s.lenders → AppendsFront a b (pieces w left) → AppendsFront a b (transcript_of s)
 broke s left w a b el ew h = let P : List ℕ → Type 0 = λ r. AppendsFront a b r in subst P (pieces_are s left w el ew) h
 
-pub history_is : (s left : reading.Script) (w after : World) → left ≡ s → w ≡ start s.sizes → after ≡ reach w left.inputs → history after ≡ history_of s
+pub history_is : (s left : reading.Script) (w after : World) → left ≡ s → w ≡ start s.sizes s.lenders → after ≡ reach w left.inputs → history after ≡ history_of s
 history_is s left w after el ew ea = ap history ea ∙ ap (λ (l : reading.Script). history (reach w l.inputs)) el ∙ ap (λ x. history (reach x s.inputs)) ew
 
 pub keeps_same : (known : Option (List ℕ)) → Keeps known known
 keeps_same None = tt
 keeps_same (Some bytes) = refl
 
+-- a script's events are inputs of its world: in range, with whole pages
+is_paged : (s : Sizes) (e : Event) (page : List ℕ) → HandsInAPage s e page → IsPaged s e page
+is_paged s (event.PageOut c p) page h = h
+is_paged s (event.PageIn c p) page h = tt
+is_paged s (event.Finish c) page h = tt
+is_paged s event.Start page h = tt
+is_paged s (event.Disk w ok) page h = tt
+is_paged s (event.Tick w) page h = tt
+is_paged s (event.Map t l) page h = tt
+is_paged s (event.Connect l) page h = tt
+is_paged s (event.Give l) page h = tt
+is_paged s (event.Take l) page h = tt
+is_paged s (event.Cut l a b) page h = tt
+is_paged s (event.Crash l) page h = tt
+is_paged s (event.Host l u w) page h = tt
+is_paged s (event.Round w) page h = tt
+
+are_inputs : (s : Sizes) (n : ℕ) (is : List Input) → AllByRecursion (λ (i : Input). IsInRange s n i.event) is → AllByRecursion (λ (i : Input). HandsInAPage s i.event i.page) is → AllByRecursion (IsInput s n) is
+are_inputs s n [] range pages = tt
+are_inputs s n (i ∷ is) range pages = ((range.0, is_paged s i.event i.page pages.0), are_inputs s n is range.1 pages.1)
+
+-- what holds of every script
+pub record ScriptLaws : Type 0 where
+  pub range : EventsInRange
+  pub lenders : LendersMayLend
+  pub pages : PagesAreWhole
+
+pub inputs_of : ScriptLaws → (text : List ℕ) (s : reading.Script) → reading.script text ≡ Ok s → AreInputs s.sizes s.lenders s.inputs
+inputs_of laws text s e = are_inputs s.sizes (length s.lenders) s.inputs (laws.range text s e) (laws.pages text s e)
+
+pub few_lenders : ScriptLaws → (text : List ℕ) (s : reading.Script) → reading.script text ≡ Ok s → length s.lenders ≤ MOST_LENDERS
+few_lenders laws text s e = (laws.lenders text s e).count
+
 -- the headline of each script
-pub headline : AlwaysLegal → EachCallOnce → EntriesAreSeen → EventsInRange → ScriptsKeepTheHeadline
-headline legal once seen range text s e = record {
-  legal = legal s.sizes s.inputs (range text s e);
-  once = λ c within. once s.sizes s.inputs c within (range text s e);
-  entries = seen s.sizes s.inputs (range text s e);
-}
+pub headline : AlwaysLegal → EachCallOnce → EntriesAreSeen → ScriptLaws → ScriptsKeepTheHeadline
+headline legal once seen laws text s e =
+    let few = few_lenders laws text s e in
+    let inputs = inputs_of laws text s e in
+    record {
+      legal = legal s.sizes s.lenders s.inputs few inputs;
+      once = λ c within. once s.sizes s.lenders s.inputs c within few inputs;
+      entries = seen s.sizes s.lenders s.inputs few inputs;
+    }
 
 -- a text that was read whole, and how its run ended
-pub script_ends : AlwaysLegal → EachCallOnce → EntriesAreSeen → EventsInRange → (source out : Stream) (text : List ℕ) (end : Ending) → WasReadWhole source.before source.now text → length text ≤ TEXT_LIMIT → TextEnds (reading.script text) out end → ScriptEnds source out end
+pub script_ends : AlwaysLegal → EachCallOnce → EntriesAreSeen → ScriptLaws → (source out : Stream) (text : List ℕ) (end : Ending) → WasReadWhole source.before source.now text → length text ≤ TEXT_LIMIT → TextEnds (reading.script text) out end → ScriptEnds source out end
 script_ends legal once seen range source out text end read within h = go (reading.script text) end refl h
   where
     go : (r : Result reading.Script ScriptRefused) (end : Ending) → reading.script text ≡ r → TextEnds r out end → ScriptEnds source out end

@@ -1,3 +1,4 @@
+pub mod Taken
 pub mod Printed
 pub mod Failed
 pub mod Ends

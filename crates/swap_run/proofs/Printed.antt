@@ -9,21 +9,25 @@ use Rattle.std.specs.List.{AllByRecursion}
 use Rattle.std.specs.Io.KnownBytes.{Appends}
 use Rattle.swap_io.specs.Causes.{AppendsFront}
 use Rattle.swap_wire.specs.Input.{Input}
+use Rattle.swap_wire.specs.Fabric.{FabricOf}
 use Rattle.swap_wire.specs.declared.Event.{Event}
 use Rattle.swap_wire.specs.declared.Event.TheVariants as event
 use Rattle.swap_wire.specs.declared.Seen.{Seen}
 use Rattle.swap_wire.specs.declared.Seen.TheVariants as seen
 use Rattle.swap_record.specs.History.{History}
-use Rattle.swap_disk.specs.Drive.{Drive, Moves, ask}
-use Rattle.swap_local.specs.Ports.{run}
-use Rattle.swap_local.specs.Device.{Device}
-use Rattle.swap_local.specs.State.{KeepsRoom}
+use Rattle.swap_disk.specs.Drive as drive
+use Rattle.swap_disk.specs.Drive.{Drive}
+use Rattle.swap_link.specs.Harbor as harbor
+use Rattle.swap_link.specs.Harbor.{Harbor, of_harbor}
+use Rattle.swap_table.specs.Ports.{run}
+use Rattle.swap_table.specs.Device.{Device}
+use Rattle.swap_device.specs.State.{KeepsRoom}
 use Rattle.swap_world.specs.Laws.{StepsAreNext, HistoriesGoOn}
 use Rattle.swap_world.specs.World.{World, Next, IsStep, happens, next, next_of, reach, seens, history}
 use Rattle.swap_world.specs.Runs.{WorldOf, GoesOn, StandsIn, GrowsByCalls, is_new_call, has_effect, one_less_if}
-use Rattle.swap_plain.specs.Reading.{Script, calls_of, calls_in, page_after, first_event, later, is_out}
-use Rattle.swap_plain.specs.Laws.{LinesStay}
-use Rattle.swap_plain.specs.Transcript.{HasEntry, line}
+use Rattle.swap_script.specs.Reading.{Script, calls_of, calls_in, page_after, first_event, later, is_out}
+use Rattle.swap_script.specs.Laws.{LinesStay}
+use Rattle.swap_script.specs.Transcript.{HasEntry, line}
 use Rattle.swap_run.specs.Run.{lines_of}
 use Rattle.swap_run.specs.Printing.{world_in, lines_from, HasRoomFor, Printing}
 
@@ -65,12 +69,12 @@ happens-page d i is buf = go i.event refl
     go (event.Round w) e = refl
 
 -- an event as the function makes it
-steps_to : StepsAreNext → (now after : WorldOf Drive) (i : Input) (is : List Input) (buf : List ℕ) (s : Seen)
-    → IsStep Moves now.core.device now.core.disk (record { event = i.event; page = page_after (i ∷ is) buf }) s after.core.device after.core.disk
+steps_to : StepsAreNext → (now after : WorldOf Drive Harbor) (i : Input) (is : List Input) (buf : List ℕ) (s : Seen)
+    → IsStep drive.Moves harbor.Moves now.core.device now.core.disk now.core.fabric (record { event = i.event; page = page_after (i ∷ is) buf }) s after.core.device after.core.disk after.core.fabric
     → next (world_in now) i ≡ record { world = world_in after; seen = s }
 steps_to steps now after i is buf s step =
-    ap (λ p. next_of (run ask p now.core.disk)) (sym (happens-page now.core.device i is buf))
-    ∙ steps now.core.device after.core.device now.core.disk after.core.disk (record { event = i.event; page = page_after (i ∷ is) buf }) s step
+    ap (λ p. next_of (run drive.ask harbor.ask p now.core.disk now.core.fabric)) (sym (happens-page now.core.device i is buf))
+    ∙ steps now.core.device after.core.device now.core.disk after.core.disk now.core.fabric after.core.fabric (record { event = i.event; page = page_after (i ∷ is) buf }) s step
 
 -- an entry that stands in a history stands in each that goes on from it
 has_entry : (H : History) (s : Seen) → StandsIn H s → HasEntry H s
@@ -174,10 +178,10 @@ one_less : (b : Bool) (n m : ℕ) → n + 1 ≤ m → n ≤ one_less_if b m
 one_less true n m h = omega arith
 one_less false n m h = omega arith
 
-room_left : (now after : WorldOf Drive) (left left' : Script) (i : Input) (is : List Input) (s : Seen) → left.inputs ≡ i ∷ is → left'.inputs ≡ is → left'.sizes ≡ left.sizes
-    → after.core.device.sizes ≡ now.core.device.sizes → KeepsRoom now.core after.core → GrowsByCalls i.event now.core.device after.core.device → after.log_spare ≡ one_less_if (has_effect i.event s) now.log_spare
+room_left : (now after : WorldOf Drive Harbor) (left left' : Script) (i : Input) (is : List Input) (s : Seen) → left.inputs ≡ i ∷ is → left'.inputs ≡ is → left'.sizes ≡ left.sizes → left'.lenders ≡ left.lenders
+    → after.core.device.sizes ≡ now.core.device.sizes → of_harbor after.core.fabric ≡ of_harbor now.core.fabric → KeepsRoom now.core after.core → GrowsByCalls i.event now.core.device after.core.device → after.log_spare ≡ one_less_if (has_effect i.event s) now.log_spare
     → HasRoomFor now left → HasRoomFor after left'
-room_left now after left left' i is s el el' es sizes keeps grows log h =
+room_left now after left left' i is s el el' es eb sizes of keeps grows log h =
     let calls : calls_of (i ∷ is) ≡ calls_in i.event + calls_of is = sum_by-append (λ (x : Input). calls_in x.event) (i ∷ []) is ∙ ap (λ n. n + calls_of is) (zero-add (calls_in i.event)) in
     let all : calls_of left.inputs ≡ calls_in i.event + calls_of is = ap calls_of el ∙ calls in
     let few : calls_of left'.inputs ≡ calls_of is = ap calls_of el' in
@@ -187,18 +191,19 @@ room_left now after left left' i is s el el' es sizes keeps grows log h =
     let room = one_less (has_effect i.event s) (length is) now.log_spare (omega (arith, len, h.log)) in
     record {
       sizes = es ∙ h.sizes ∙ sym sizes;
+      lenders = ap (λ (o : FabricOf). o.lenders) of ∙ h.lenders ∙ ap length (sym eb);
       entries = omega (arith, all, few, new, keeps, grows, h.entries);
       log = omega (arith, len', room, log);
     }
 
 -- one more line was taken
-pub print_more : StepsAreNext → LinesStay → (first : WorldOf Drive) (all : List Input) (now after : WorldOf Drive) (left left' : Script) (i : Input) (is : List Input) (buf : List ℕ) (s : Seen) (bytes : List ℕ) (tb tm tn : Option (List ℕ))
-    → Printing first all now left tb tm → left.inputs ≡ i ∷ is → left'.inputs ≡ is → left'.sizes ≡ left.sizes
-    → IsStep Moves now.core.device now.core.disk (record { event = i.event; page = page_after (i ∷ is) buf }) s after.core.device after.core.disk
-    → after.core.device.sizes ≡ now.core.device.sizes → KeepsRoom now.core after.core → GrowsByCalls i.event now.core.device after.core.device → after.log_spare ≡ one_less_if (has_effect i.event s) now.log_spare
+pub print_more : StepsAreNext → LinesStay → (first : WorldOf Drive Harbor) (all : List Input) (now after : WorldOf Drive Harbor) (left left' : Script) (i : Input) (is : List Input) (buf : List ℕ) (s : Seen) (bytes : List ℕ) (tb tm tn : Option (List ℕ))
+    → Printing first all now left tb tm → left.inputs ≡ i ∷ is → left'.inputs ≡ is → left'.sizes ≡ left.sizes → left'.lenders ≡ left.lenders
+    → IsStep drive.Moves harbor.Moves now.core.device now.core.disk now.core.fabric (record { event = i.event; page = page_after (i ∷ is) buf }) s after.core.device after.core.disk after.core.fabric
+    → after.core.device.sizes ≡ now.core.device.sizes → of_harbor after.core.fabric ≡ of_harbor now.core.fabric → KeepsRoom now.core after.core → GrowsByCalls i.event now.core.device after.core.device → after.log_spare ≡ one_less_if (has_effect i.event s) now.log_spare
     → GoesOn now.core.device.history after.core.device.history → StandsIn after.core.device.history s
     → bytes ≡ line after.core.device.history (i.event, s) → Appends tm tn bytes → Printing first all after left' tb tn
-print_more steps stay first all now after left left' i is buf s bytes tb tm tn k el el' es step sizes keeps grows log goes stands is_line took =
+print_more steps stay first all now after left left' i is buf s bytes tb tm tn k el el' es eb step sizes of keeps grows log goes stands is_line took =
     let nx = steps_to steps now after i is buf s step in
     let H : History = now.core.device.history in
     let H' : History = after.core.device.history in
@@ -215,13 +220,13 @@ print_more steps stay first all now after left left' i is buf s bytes tb tm tn k
       taken =
           let P : List ℕ → Type 0 = λ r. Appends tb tn r in
           subst P (ap (λ l. l ++ bytes) (sym same) ∙ ap (λ b. lines_of H' k.so_far ++ b) is_line ∙ sym (lines_more H' k.so_far (i.event, s))) (appends_after tb tm tn (lines_of H k.so_far) bytes k.taken took);
-      room = room_left now after left left' i is s el el' es sizes keeps grows log k.room;
+      room = room_left now after left left' i is s el el' es eb sizes of keeps grows log k.room;
     }
 
 -- a line was broken off
-pub print_broke : StepsAreNext → LinesStay → HistoriesGoOn → (first : WorldOf Drive) (all : List Input) (now after : WorldOf Drive) (left : Script) (i : Input) (is : List Input) (buf : List ℕ) (s : Seen) (bytes : List ℕ) (tb tm tn : Option (List ℕ))
+pub print_broke : StepsAreNext → LinesStay → HistoriesGoOn → (first : WorldOf Drive Harbor) (all : List Input) (now after : WorldOf Drive Harbor) (left : Script) (i : Input) (is : List Input) (buf : List ℕ) (s : Seen) (bytes : List ℕ) (tb tm tn : Option (List ℕ))
     → Printing first all now left tb tm → left.inputs ≡ i ∷ is
-    → IsStep Moves now.core.device now.core.disk (record { event = i.event; page = page_after (i ∷ is) buf }) s after.core.device after.core.disk
+    → IsStep drive.Moves harbor.Moves now.core.device now.core.disk now.core.fabric (record { event = i.event; page = page_after (i ∷ is) buf }) s after.core.device after.core.disk after.core.fabric
     → GoesOn now.core.device.history after.core.device.history → StandsIn after.core.device.history s
     → bytes ≡ line after.core.device.history (i.event, s) → AppendsFront tm tn bytes → AppendsFront tb tn (lines_from (world_in first) all)
 print_broke steps stay on first all now after left i is buf s bytes tb tm tn k el step goes stands is_line took =
@@ -274,9 +279,10 @@ ok_by (Ok x) P Q f h = f h
 ok_by (Err e) P Q f h = tt
 
 -- an event was made, and its line is this
-pub record IsMade (now after : WorldOf Drive) (e : Event) (page : List ℕ) (s : Seen) (bytes : List ℕ) : Type 0 where
-  pub step : IsStep Moves now.core.device now.core.disk (record { event = e; page = page }) s after.core.device after.core.disk
+pub record IsMade (now after : WorldOf Drive Harbor) (e : Event) (page : List ℕ) (s : Seen) (bytes : List ℕ) : Type 0 where
+  pub step : IsStep drive.Moves harbor.Moves now.core.device now.core.disk now.core.fabric (record { event = e; page = page }) s after.core.device after.core.disk after.core.fabric
   pub sizes : after.core.device.sizes ≡ now.core.device.sizes
+  pub of : of_harbor after.core.fabric ≡ of_harbor now.core.fabric
   pub keeps : KeepsRoom now.core after.core
   pub grows : GrowsByCalls e now.core.device after.core.device
   pub log : after.log_spare ≡ one_less_if (has_effect e s) now.log_spare
@@ -287,12 +293,12 @@ pub record IsMade (now after : WorldOf Drive) (e : Event) (page : List ℕ) (s :
 some_is : {X : Type 0} {x y : X} → Some x ≡ Some y → x ≡ y
 some_is e = cc
 
-made_at : (now after : WorldOf Drive) (e e' : Event) (page page' : List ℕ) (s : Seen) (bytes : List ℕ) → e ≡ e' → page ≡ page' → IsMade now after e page s bytes → IsMade now after e' page' s bytes
+made_at : (now after : WorldOf Drive Harbor) (e e' : Event) (page page' : List ℕ) (s : Seen) (bytes : List ℕ) → e ≡ e' → page ≡ page' → IsMade now after e page s bytes → IsMade now after e' page' s bytes
 made_at now after e e' page page' s bytes ee ep m =
     let P : Event → Type 0 = λ x. IsMade now after x page s bytes in
     let Q : List ℕ → Type 0 = λ x. IsMade now after e' x s bytes in subst Q ep (subst P ee m)
 
-pub printed_more : StepsAreNext → LinesStay → (first : WorldOf Drive) (all : List Input) (now after : WorldOf Drive) (left left' : Script) (e : Event) (page buf : List ℕ) (s : Seen) (bytes : List ℕ) (tb tm tn : Option (List ℕ))
+pub printed_more : StepsAreNext → LinesStay → (first : WorldOf Drive Harbor) (all : List Input) (now after : WorldOf Drive Harbor) (left left' : Script) (e : Event) (page buf : List ℕ) (s : Seen) (bytes : List ℕ) (tb tm tn : Option (List ℕ))
     → Printing first all now left tb tm → Some e ≡ first_event left.inputs → left' ≡ later left → page ≡ page_after left.inputs buf → IsMade now after e page s bytes → Appends tm tn bytes → Printing first all after left' tb tn
 printed_more steps stay first all now after left left' e page buf s bytes tb tm tn k ee el ep m took = go left.inputs refl ee ep
   where
@@ -300,10 +306,10 @@ printed_more steps stay first all now after left left' e page buf s bytes tb tm 
     go [] is ee ep = cc
     go (i ∷ is) is_inputs ee ep =
         let made = made_at now after e i.event page (page_after (i ∷ is) buf) s bytes (some_is ee) ep m in
-        print_more steps stay first all now after left left' i is buf s bytes tb tm tn k is_inputs (ap (λ (x : Script). x.inputs) el ∙ ap (λ l. drop 1 l) is_inputs) (ap (λ (x : Script). x.sizes) el)
-        made.step made.sizes made.keeps made.grows made.log made.goes made.stands made.is_line took
+        print_more steps stay first all now after left left' i is buf s bytes tb tm tn k is_inputs (ap (λ (x : Script). x.inputs) el ∙ ap (λ l. drop 1 l) is_inputs) (ap (λ (x : Script). x.sizes) el) (ap (λ (x : Script). x.lenders) el)
+        made.step made.sizes made.of made.keeps made.grows made.log made.goes made.stands made.is_line took
 
-pub printed_broke : StepsAreNext → LinesStay → HistoriesGoOn → (first : WorldOf Drive) (all : List Input) (now after : WorldOf Drive) (left : Script) (e : Event) (page buf : List ℕ) (s : Seen) (bytes : List ℕ) (tb tm tn : Option (List ℕ))
+pub printed_broke : StepsAreNext → LinesStay → HistoriesGoOn → (first : WorldOf Drive Harbor) (all : List Input) (now after : WorldOf Drive Harbor) (left : Script) (e : Event) (page buf : List ℕ) (s : Seen) (bytes : List ℕ) (tb tm tn : Option (List ℕ))
     → Printing first all now left tb tm → Some e ≡ first_event left.inputs → page ≡ page_after left.inputs buf → IsMade now after e page s bytes → AppendsFront tm tn bytes → AppendsFront tb tn (lines_from (world_in first) all)
 printed_broke steps stay on first all now after left e page buf s bytes tb tm tn k ee ep m took = go left.inputs refl ee ep
   where
@@ -312,3 +318,10 @@ printed_broke steps stay on first all now after left e page buf s bytes tb tm tn
     go (i ∷ is) is_inputs ee ep =
         let made = made_at now after e i.event page (page_after (i ∷ is) buf) s bytes (some_is ee) ep m in
         print_broke steps stay on first all now after left i is buf s bytes tb tm tn k is_inputs made.step made.goes made.stands made.is_line took
+
+-- the same bytes
+pub taken_as : (a b : Option (List ℕ)) (xs ys : List ℕ) → xs ≡ ys → Appends a b xs → Appends a b ys
+taken_as a b xs ys e h = let P : List ℕ → Type 0 = λ r. Appends a b r in subst P e h
+
+pub front_as : (a b : Option (List ℕ)) (xs ys : List ℕ) → xs ≡ ys → AppendsFront a b xs → AppendsFront a b ys
+front_as a b xs ys e h = let P : List ℕ → Type 0 = λ r. AppendsFront a b r in subst P e h

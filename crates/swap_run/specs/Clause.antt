@@ -2,11 +2,11 @@
 use Rattle.std.specs.Prelude.{◌≡◌, ℕ, ◌<◌, ◌≤◌, ◌⊎◌, Bool, true, false, if◌then◌else◌, List, [], ◌∷◌, length, Option, None, Some, Result, Ok, Err, codes}
 use Rattle.std.specs.Io.KnownBytes.{Appends, Keeps}
 use Rattle.swap_io.specs.Causes.{Rose, WasRead, WasReadWhole, AppendsFront}
-use Rattle.swap_plain.specs.declared.ScriptRefused.{ScriptRefused}
-use Rattle.swap_plain.specs.Lines.{is_word, ended}
-use Rattle.swap_plain.specs.Reading as reading
-use Rattle.swap_plain.specs.Transcript.{refusal}
-use Rattle.swap_plain.specs.declared.TheConstants.{TEXT_LIMIT}
+use Rattle.swap_script.specs.declared.ScriptRefused.{ScriptRefused}
+use Rattle.swap_script.specs.Lines.{is_word, ended}
+use Rattle.swap_script.specs.Reading as reading
+use Rattle.swap_script.specs.Transcript.{refusal}
+use Rattle.swap_script.specs.declared.TheConstants.{TEXT_LIMIT}
 use Rattle.swap_run.specs.declared.Ending.{Ending}
 use Rattle.swap_run.specs.declared.Ending.TheVariants as ending
 use Rattle.swap_run.specs.Run.{history_of, transcript_of, has_failed, IsHeadline}

@@ -1,9 +1,9 @@
 -- Rows by hand: a script's text and its transcript, and texts that are no scripts.
 use Rattle.std.specs.Prelude.{◌≡◌, ℕ, List, [], ◌∷◌, flat_map, codes, Ok, Err}
 use Rattle.swap_base.specs.declared.Field.TheVariants.{PageBytes}
-use Rattle.swap_plain.specs.declared.Why.{Why}
-use Rattle.swap_plain.specs.declared.Why.TheVariants as why
-use Rattle.swap_plain.specs.Lines.{ended}
+use Rattle.swap_script.specs.declared.Why.{Why}
+use Rattle.swap_script.specs.declared.Why.TheVariants as why
+use Rattle.swap_script.specs.Lines.{ended}
 use Rattle.swap_run.specs.Run.{output_of}
 
 abbrev text : List (List ℕ) → List ℕ
@@ -88,6 +88,24 @@ ReadOvertakenByAPageOutAlreadyOnTheDisk =
     (codes "geometry 8 4 2 4 2 4 20" ∷ codes "out 0 3 aa" ∷ codes "start" ∷ codes "disk write 3 ok" ∷ codes "in 0 3" ∷ codes "out 1 3 bb" ∷ codes "start" ∷ codes "disk read 0 ok" ∷ codes "disk write 3 ok" ∷ codes "finish 0" ∷ codes "disk read 0 ok" ∷ codes "finish 0" ∷ [])
     (codes "geometry 8 4 2 4 2 4 20" ∷ codes "out 0 3 = entry 0 out 3 aa" ∷ codes "start = write 3 0" ∷ codes "disk write 3 ok = written 0" ∷ codes "in 0 3 = wait disk" ∷ codes "out 1 3 = entry 1 out 3 bb" ∷ codes "start = write 3 1" ∷ codes "disk read 0 ok = came 3" ∷ codes "disk write 3 ok = written 1" ∷ codes "finish 0 = again disk" ∷ codes "disk read 0 ok = came 3" ∷ codes "finish 0 = entry 2 in 3 of 1 disk bb" ∷ codes "end 3" ∷ [])
 
+abbrev pub PageInFromALender : Type 0
+PageInFromALender =
+    Gives
+    (codes "geometry 8 4 2 4 2 4 20" ∷ codes "lender 4 1 1" ∷ codes "connect 0" ∷ codes "map 0 0" ∷ codes "give 0" ∷ codes "give 0" ∷ codes "take 0" ∷ codes "out 0 3 aa" ∷ codes "give 0" ∷ codes "take 0" ∷ codes "start" ∷ codes "disk write 3 ok" ∷ codes "in 0 3" ∷ codes "give 0" ∷ codes "take 0" ∷ codes "finish 0" ∷ [])
+    (codes "geometry 8 4 2 4 2 4 20" ∷ codes "lender 4 1 1" ∷ codes "connect 0 = link 0" ∷ codes "map 0 0 = borrow" ∷ codes "give 0 = hello 1" ∷ codes "give 0 = borrow 0 > lent 0 0" ∷ codes "take 0 = lent 0 0" ∷ codes "out 0 3 = entry 0 out 3 aa to 0" ∷ codes "give 0 = write 0 3 > wrote 0 3" ∷ codes "take 0 = wrote 0 3" ∷ codes "start = write 3 0" ∷ codes "disk write 3 ok = written 0" ∷ codes "in 0 3 = wait lender 0" ∷ codes "give 0 = read 0 3 > page 0 3" ∷ codes "take 0 = page 0 3" ∷ codes "finish 0 = entry 1 in 3 of 0 lender 0 aa" ∷ codes "end 2" ∷ [])
+
+abbrev pub PageOutBetweenRequestAndReplyOfARead : Type 0
+PageOutBetweenRequestAndReplyOfARead =
+    Gives
+    (codes "geometry 8 4 2 4 2 4 20" ∷ codes "lender 4 1 1" ∷ codes "connect 0" ∷ codes "map 0 0" ∷ codes "give 0" ∷ codes "give 0" ∷ codes "take 0" ∷ codes "out 0 3 aa" ∷ codes "give 0" ∷ codes "take 0" ∷ codes "start" ∷ codes "disk write 3 ok" ∷ codes "in 0 3" ∷ codes "out 1 3 bb" ∷ codes "give 0" ∷ codes "take 0" ∷ codes "finish 0" ∷ [])
+    (codes "geometry 8 4 2 4 2 4 20" ∷ codes "lender 4 1 1" ∷ codes "connect 0 = link 0" ∷ codes "map 0 0 = borrow" ∷ codes "give 0 = hello 1" ∷ codes "give 0 = borrow 0 > lent 0 0" ∷ codes "take 0 = lent 0 0" ∷ codes "out 0 3 = entry 0 out 3 aa to 0" ∷ codes "give 0 = write 0 3 > wrote 0 3" ∷ codes "take 0 = wrote 0 3" ∷ codes "start = write 3 0" ∷ codes "disk write 3 ok = written 0" ∷ codes "in 0 3 = wait lender 0" ∷ codes "out 1 3 = entry 1 out 3 bb to 0" ∷ codes "give 0 = read 0 3 > page 0 3" ∷ codes "take 0 = page 0 3" ∷ codes "finish 0 = entry 2 in 3 of 1 queue bb" ∷ codes "end 3" ∷ [])
+
+abbrev pub PageOutIntoAFullWindowLeavesTheBitClear : Type 0
+PageOutIntoAFullWindowLeavesTheBitClear =
+    Gives
+    (codes "geometry 8 4 2 4 2 1 20" ∷ codes "lender 4 1 1" ∷ codes "connect 0" ∷ codes "map 0 0" ∷ codes "give 0" ∷ codes "give 0" ∷ codes "take 0" ∷ codes "out 0 3 aa" ∷ codes "out 0 3 bb" ∷ codes "give 0" ∷ codes "take 0" ∷ codes "start" ∷ codes "disk write 3 ok" ∷ codes "in 0 3" ∷ codes "disk read 0 ok" ∷ codes "finish 0" ∷ [])
+    (codes "geometry 8 4 2 4 2 1 20" ∷ codes "lender 4 1 1" ∷ codes "connect 0 = link 0" ∷ codes "map 0 0 = borrow" ∷ codes "give 0 = hello 1" ∷ codes "give 0 = borrow 0 > lent 0 0" ∷ codes "take 0 = lent 0 0" ∷ codes "out 0 3 = entry 0 out 3 aa to 0" ∷ codes "out 0 3 = entry 1 out 3 bb" ∷ codes "give 0 = write 0 3 > wrote 0 3" ∷ codes "take 0 = wrote 0 3" ∷ codes "start = write 3 1" ∷ codes "disk write 3 ok = written 1" ∷ codes "in 0 3 = wait disk" ∷ codes "disk read 0 ok = came 3" ∷ codes "finish 0 = entry 2 in 3 of 1 disk bb" ∷ codes "end 3" ∷ [])
+
 abbrev pub PatternIsPrintedShortest : Type 0
 PatternIsPrintedShortest =
     Gives
@@ -121,6 +139,10 @@ QueueRows =
 abbrev pub DiskRows : Type 0
 DiskRows =
     PageInFromTheDisk × SecondPageOutReplacesTheCopyInAQueueOfOne × PageOutWhileTheOlderCopyIsBeingWritten × PageOutWithoutRoomFailsWhereAWriteFailed × CallerWaitsForRoom × FailedDiskReadFailsThePageIn × FailedDiskReadWithANewerPageOut × ReadOvertakenByAPageOutAlreadyOnTheDisk
+
+-- the rows of a lender
+abbrev pub LenderRows : Type 0
+LenderRows = PageInFromALender × PageOutBetweenRequestAndReplyOfARead × PageOutIntoAFullWindowLeavesTheBitClear
 
 -- the rows of texts that are no scripts
 abbrev pub RefusedRows : Type 0

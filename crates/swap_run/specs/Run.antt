@@ -12,19 +12,19 @@ use Rattle.swap_world.specs.World.{World, start, reach, seens, history, made_by}
 use Rattle.swap_world.specs.Answered.{AreAnsweredOnce}
 use Rattle.swap_world.specs.Failures.{HoldsEntriesSeen, failed_writes_in, failed_reads_in}
 use Rattle.swap_wire.specs.Input.{Input}
-use Rattle.swap_plain.specs.declared.ScriptRefused.{ScriptRefused}
-use Rattle.swap_plain.specs.Reading.{Script, script, ◌>>=◌}
-use Rattle.swap_plain.specs.Transcript.{transcript, line}
+use Rattle.swap_script.specs.declared.ScriptRefused.{ScriptRefused}
+use Rattle.swap_script.specs.Reading.{Script, script, ◌>>=◌}
+use Rattle.swap_script.specs.Transcript.{transcript, line}
 
 -- the world after a script's events, their history, and their transcript
 abbrev pub world_of : Script → World
-world_of s = reach (start s.sizes) s.inputs
+world_of s = reach (start s.sizes s.lenders) s.inputs
 
 abbrev pub history_of : Script → History
 history_of s = history (world_of s)
 
 abbrev pub transcript_of : Script → List ℕ
-transcript_of s = transcript s.sizes (seens (start s.sizes) s.inputs) (history_of s)
+transcript_of s = transcript s.sizes s.lenders (seens (start s.sizes s.lenders) s.inputs) (history_of s)
 
 abbrev pub output_of : List ℕ → Result (List ℕ) ScriptRefused
 output_of text = script text >>= λ s. Ok (transcript_of s)
@@ -47,7 +47,7 @@ has_failed H = list_any is_failed_row H
 
 -- what was seen of each event of a script, the newest first
 abbrev pub made_of : Script → List (Input × Seen)
-made_of s = made_by [] (start s.sizes) s.inputs
+made_of s = made_by [] (start s.sizes s.lenders) s.inputs
 
 -- The history that a script prints is one of an array of pages that starts as zeros, and holds each caller's answered
 -- calls once, in its order. It is exactly the entries that were seen, and a failure has its cause: the counts of its

@@ -2,14 +2,14 @@
 #![tactic(auto)]
 
 ghost use Rattle.swap_run.specs.Clause.{Completes};
-ghost use Rattle.swap_run.specs.Rows.{QueueRows, DiskRows, RefusedRows};
+ghost use Rattle.swap_run.specs.Rows.{QueueRows, DiskRows, LenderRows, RefusedRows};
 ghost use Rattle.swap_run.specs.Run.{FailsWithTheDisk, ScriptsKeepTheHeadline};
 
 mod print;
 mod run;
 
 pub use run::run_lab;
-use swap_plain::{ScriptRefused, events_in_range};
+use swap_script::{ScriptRefused, events_in_range, lenders_may_lend, pages_are_whole};
 use swap_world::{always_legal, each_call_once, entries_are_seen};
 
 /// How a call of the program ends.
@@ -37,6 +37,8 @@ pub fn scripts_keep_the_headline()
     each_call_once();
     entries_are_seen();
     events_in_range();
+    lenders_may_lend();
+    pages_are_whole();
 }
 
 /// A script's call fails only where the local disk failed: where no disk operation was seen to fail, no call failed.
@@ -45,6 +47,8 @@ pub fn fails_with_the_disk()
 {
     entries_are_seen();
     events_in_range();
+    lenders_may_lend();
+    pages_are_whole();
 }
 
 /// A call for a script that is told and within the limit, of which neither `source` nor `out` fails, ends by the script's
@@ -57,6 +61,7 @@ pub fn completes()
 pub fn rows()
     ensures queue { QueueRows }
     ensures disk { DiskRows }
+    ensures lender { LenderRows }
     ensures refused { RefusedRows }
 {}
 

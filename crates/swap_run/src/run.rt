@@ -1,6 +1,6 @@
-ghost use Rattle.std.specs.Prelude.{◌≡◌, ◌≤◌, length, map, true, false, Some, None, IfOk, OnErr, Err};
+ghost use Rattle.std.specs.Prelude.{◌≡◌, ◌≤◌, length, map, All, true, false, Some, None, IfOk, OnErr, Err};
 ghost use Rattle.swap_record.specs.History.{History};
-ghost use Rattle.swap_plain.specs.Reading.{script as script_of};
+ghost use Rattle.swap_script.specs.Reading.{script as script_of, IsWithinLimits};
 ghost use Rattle.swap_world.specs.World.{start};
 ghost use Rattle.swap_run.specs.Clause.{EndsWith, RunScript, stream, command_of, TextEnds, LabEnds, ScriptEnds, IsNoRefusal, status_of, err_text};
 ghost use Rattle.swap_run.specs.Run.{has_failed, is_failed};
@@ -9,11 +9,15 @@ ghost use Rattle.swap_run.specs.Printing.{world_in, HasRoomFor};
 use crate::Ending;
 use crate::print::print_run;
 use std::alloc::Global;
-use swap_base::{EntryNo, NoMemory};
+use swap_base::{EntryNo, LenderSpec, NoMemory};
 use swap_disk::MemDisk;
 use swap_io::{LineBuf, Sink, Source, WholeRefused, read_whole, write_line};
-use swap_plain::{Script, TEXT_LIMIT, events_in_range, read_script, refusal_line};
+use swap_link::Harbor;
 use swap_record::{Op, Record};
+use swap_script::{
+    Script, TEXT_LIMIT, events_in_range, lenders_may_lend, pages_are_whole, read_script,
+    refusal_line,
+};
 use swap_world::{World, always_legal, each_call_once, entries_are_seen};
 
 // Whether an entry is of a call that failed.
@@ -39,14 +43,35 @@ fn has_failed(history: &Record) -> bool
     false
 }
 
+/// The lenders of a script.
+fn lenders_of(alloc: Global, script: &Script<'_>) -> Result<Vec<LenderSpec>, NoMemory>
+    ensures lenders { IfOk result (λ lenders. lenders.items ≡ script.now.lenders) }
+    ensures limits { IfOk result (λ lenders. All IsWithinLimits lenders.items) }
+{
+    let mut lenders = Vec::new(alloc);
+    'lenders: for i in 0..script.lenders() {
+        if lenders.push(script.lender(i)).is_err() {
+            return Err(NoMemory);
+        }
+    }
+    Ok(lenders)
+}
+
 /// A world for a script's events, with room for all that they need.
-fn world_for(alloc: Global, script: &Script<'_>) -> Result<World<MemDisk>, NoMemory>
-    ensures world { IfOk result (λ w. world_in w ≡ start script.now.sizes) }
+fn world_for(
+    alloc: Global,
+    script: &Script<'_>,
+    lenders: &[LenderSpec],
+) -> Result<World<MemDisk, Harbor>, NoMemory>
+    requires lenders { lenders.now ≡ script.now.lenders }
+    requires limits { All IsWithinLimits lenders.now }
+    ensures world { IfOk result (λ w. world_in w ≡ start script.now.sizes script.now.lenders) }
     ensures room { IfOk result (λ w. HasRoomFor w script.now) }
 {
     let geometry = script.geometry();
     let disk = MemDisk::make(alloc, &geometry)?;
-    let mut world = World::make(alloc, geometry, disk)?;
+    let harbor = Harbor::make(alloc, &geometry, lenders)?;
+    let mut world = World::make(alloc, geometry, script.lenders(), disk, harbor)?;
     if world
         .reserve(script.calls(), script.events() as usize)
         .is_err()
@@ -69,11 +94,14 @@ fn run_events<K: Sink>(
     let Ok(mut page) = vec![in alloc; 0u8; page_bytes] else {
         return Ending::NoMemory;
     };
-    let Ok(mut world) = world_for(alloc, script) else {
+    let Ok(lenders) = lenders_of(alloc, script) else {
+        return Ending::NoMemory;
+    };
+    let Ok(mut world) = world_for(alloc, script, &lenders) else {
         return Ending::NoMemory;
     };
     let mut walk = script.walk();
-    if print_run(&mut world, &mut walk, &mut page, line, out).is_err() {
+    if print_run(&mut world, &lenders, &mut walk, &mut page, line, out).is_err() {
         return Ending::WriteFailed;
     }
     if has_failed(world.device().history()) {
@@ -107,6 +135,8 @@ fn run_script<S: Source, K: Sink>(
     each_call_once();
     entries_are_seen();
     events_in_range();
+    lenders_may_lend();
+    pages_are_whole();
     match read_whole(alloc, source, TEXT_LIMIT) {
         Ok(text) => run_text(alloc, &text, line, out),
         Err(WholeRefused::ReadFailed) => Ending::ReadFailed,

@@ -222,6 +222,77 @@ const DISK: [(&str, &str, &str, u8); 8] = [
     ),
 ];
 
+/// Scripts with a lender.
+const LENDER: [(&str, &str, &str, u8); 3] = [
+    (
+        "page_in_from_a_lender",
+        "geometry 8 4 2 4 2 4 20\nlender 4 1 1\nconnect 0\nmap 0 0\ngive 0\ngive 0\ntake 0\nout 0 3 aa\ngive 0\ntake 0\nstart\ndisk write 3 ok\nin 0 3\ngive 0\ntake 0\nfinish 0\n",
+        "geometry 8 4 2 4 2 4 20\n\
+         lender 4 1 1\n\
+         connect 0 = link 0\n\
+         map 0 0 = borrow\n\
+         give 0 = hello 1\n\
+         give 0 = borrow 0 > lent 0 0\n\
+         take 0 = lent 0 0\n\
+         out 0 3 = entry 0 out 3 aa to 0\n\
+         give 0 = write 0 3 > wrote 0 3\n\
+         take 0 = wrote 0 3\n\
+         start = write 3 0\n\
+         disk write 3 ok = written 0\n\
+         in 0 3 = wait lender 0\n\
+         give 0 = read 0 3 > page 0 3\n\
+         take 0 = page 0 3\n\
+         finish 0 = entry 1 in 3 of 0 lender 0 aa\n\
+         end 2\n",
+        0,
+    ),
+    (
+        "page_out_between_request_and_reply_of_a_read",
+        "geometry 8 4 2 4 2 4 20\nlender 4 1 1\nconnect 0\nmap 0 0\ngive 0\ngive 0\ntake 0\nout 0 3 aa\ngive 0\ntake 0\nstart\ndisk write 3 ok\nin 0 3\nout 1 3 bb\ngive 0\ntake 0\nfinish 0\n",
+        "geometry 8 4 2 4 2 4 20\n\
+         lender 4 1 1\n\
+         connect 0 = link 0\n\
+         map 0 0 = borrow\n\
+         give 0 = hello 1\n\
+         give 0 = borrow 0 > lent 0 0\n\
+         take 0 = lent 0 0\n\
+         out 0 3 = entry 0 out 3 aa to 0\n\
+         give 0 = write 0 3 > wrote 0 3\n\
+         take 0 = wrote 0 3\n\
+         start = write 3 0\n\
+         disk write 3 ok = written 0\n\
+         in 0 3 = wait lender 0\n\
+         out 1 3 = entry 1 out 3 bb to 0\n\
+         give 0 = read 0 3 > page 0 3\n\
+         take 0 = page 0 3\n\
+         finish 0 = entry 2 in 3 of 1 queue bb\n\
+         end 3\n",
+        0,
+    ),
+    (
+        "page_out_into_a_full_window_leaves_the_bit_clear",
+        "geometry 8 4 2 4 2 1 20\nlender 4 1 1\nconnect 0\nmap 0 0\ngive 0\ngive 0\ntake 0\nout 0 3 aa\nout 0 3 bb\ngive 0\ntake 0\nstart\ndisk write 3 ok\nin 0 3\ndisk read 0 ok\nfinish 0\n",
+        "geometry 8 4 2 4 2 1 20\n\
+         lender 4 1 1\n\
+         connect 0 = link 0\n\
+         map 0 0 = borrow\n\
+         give 0 = hello 1\n\
+         give 0 = borrow 0 > lent 0 0\n\
+         take 0 = lent 0 0\n\
+         out 0 3 = entry 0 out 3 aa to 0\n\
+         out 0 3 = entry 1 out 3 bb\n\
+         give 0 = write 0 3 > wrote 0 3\n\
+         take 0 = wrote 0 3\n\
+         start = write 3 1\n\
+         disk write 3 ok = written 1\n\
+         in 0 3 = wait disk\n\
+         disk read 0 ok = came 3\n\
+         finish 0 = entry 2 in 3 of 1 disk bb\n\
+         end 3\n",
+        0,
+    ),
+];
+
 /// Texts by name that are no scripts, and what is on `err`.
 const REFUSED: [(&str, &str, &str); 4] = [
     ("empty_text", "", "line 1: geometry\n"),
@@ -254,6 +325,15 @@ fn queue_rows(rt: HostRuntime) -> Result<(), Fail> {
 #[test]
 fn disk_rows(rt: HostRuntime) -> Result<(), Fail> {
     for (name, text, out, status) in DISK {
+        let ran = run_script(rt.alloc(), text, NONE)?;
+        judge(&rt, name, &ran, (out, "", status))?;
+    }
+    Ok(())
+}
+
+#[test]
+fn lender_rows(rt: HostRuntime) -> Result<(), Fail> {
+    for (name, text, out, status) in LENDER {
         let ran = run_script(rt.alloc(), text, NONE)?;
         judge(&rt, name, &ran, (out, "", status))?;
     }

@@ -12,11 +12,14 @@ use Rattle.swap_queue.specs.Queue.{Copy}
 use Rattle.swap_disk.specs.declared.DiskDone.{DiskDone}
 use Rattle.swap_disk.specs.Disk.{Taken, Flight, Write, Read, which_of, page_of}
 use Rattle.swap_disk.specs.Port.{Port, DiskCall, DiskAnswer, TakeDone, Takes, Follows}
-use Rattle.swap_local.specs.Ports.{Along}
-use Rattle.swap_local.specs.declared.DiskStep.{DiskStep}
-use Rattle.swap_local.specs.Device.{Device, Core, disk_take, took, took_back, wrote}
-use Rattle.swap_local.specs.Fits.{Fits, IsExpected, IsCopyOf}
-use Rattle.swap_local.proofs.Agree.{found}
+use Rattle.swap_wire.specs.Fabric.{FabricCall, FabricAnswer, FabricOf}
+use Rattle.swap_table.specs.Ports.{Along}
+use Rattle.swap_table.specs.declared.DiskStep.{DiskStep}
+use Rattle.swap_table.specs.Device.{Device, Core, disk_take, took, took_back, wrote}
+use Rattle.swap_table.specs.Fits.{FitsDisk, IsExpected, IsCopyOf}
+use Rattle.swap_table.specs.Serves.{Keeping, Owing}
+use Rattle.swap_table.specs.Fabrics.{Promises}
+use Rattle.swap_table.proofs.Agree.{found}
 use Rattle.swap_world.specs.World.{see_disk}
 use Rattle.swap_world.specs.Runs.{polled, with_polled, event_of, made_with, logged_with, logged_polled, IsReached, logged_of, IsPolled}
 use Rattle.swap_world.proofs.Runs.{run_fits}
@@ -36,9 +39,9 @@ flight_is_seen T d (Write page kept) ok bytes is e = wrote_is_seen T kept d page
 flight_is_seen T d (Read caller page) true bytes is e = cc
 flight_is_seen T d (Read caller page) false bytes is e = cc
 
-nothing_is_none : (T : Bool) (d : Device) (p now : Port) (taken : Option Taken) → Fits T d p → Takes p taken now → see_disk (took_back d taken).1 ≡ seen.Nothing → taken ≡ None
-nothing_is_none T d p now None k takes e = refl
-nothing_is_none T d p now (Some t) k takes e =
+nothing_is_none : (T : Bool) (answers : List ℕ → List ℕ → Type 0) (d : Device) (p now : Port) (taken : Option Taken) → FitsDisk T answers d p → Takes p taken now → see_disk (took_back d taken).1 ≡ seen.Nothing → taken ≡ None
+nothing_is_none T answers d p now None k takes e = refl
+nothing_is_none T answers d p now (Some t) k takes e =
     let f : Flight = takes.flight in
     let is_which : t.done.which ≡ which_of f = ap (λ (x : DiskDone). x.which) takes.is in
     let is_page : t.done.page ≡ page_of f = ap (λ (x : DiskDone). x.page) takes.is in
@@ -54,31 +57,37 @@ logged_made : (made : List (Input × Seen)) (e : Option Event) (s : Seen) → lo
 logged_made made None s = refl
 logged_made made (Some e) s = refl
 
-module _ {D : Type 0} (means : D → Port) (moves : D → (c : DiskCall) → DiskAnswer c → D → Type 0) (follows : (d : D) (c : DiskCall) (answer : DiskAnswer c) (e : D) → moves d c answer e → Follows (means d) c answer (means e)) where
-  pub reached_polled : (core : Core D) (log : List (Event × Seen)) (step : DiskStep) (d' : Device) (k' : D) (spare : ℕ) → IsReached means moves core log → Along moves (disk_take core.device) core.disk k' (d', step)
-      → IsReached means moves (record { device = d'; disk = k'; spare = spare }) (logged_polled step log)
-  reached_polled core log step d' k' spare r along = record {
+module _ {D F : Type 0} (means : D → Port) (disk_moves : D → (c : DiskCall) → DiskAnswer c → D → Type 0) (follows : (d : D) (c : DiskCall) (answer : DiskAnswer c) (e : D) → disk_moves d c answer e → Follows (means d) c answer (means e))
+    (of : F → FabricOf) (moves : F → (c : FabricCall) → FabricAnswer c → F → Type 0) (keeps : F → Keeping) (owes : F → Owing) (answers : List ℕ → List ℕ → Type 0) (laws : Promises of moves keeps owes answers) where
+  pub reached_polled : (core : Core D F) (log : List (Event × Seen)) (step : DiskStep) (d' : Device) (k' : D) (f' : F) (spare : ℕ) → IsReached means disk_moves of moves core log → Along disk_moves moves (disk_take core.device) core.disk core.fabric k' f' (d', step)
+      → IsReached means disk_moves of moves (record { device = d'; disk = k'; fabric = f'; spare = spare }) (logged_polled step log)
+  reached_polled core log step d' k' f' spare r along = record {
     sizes = r.sizes;
+    lenders = r.lenders;
+    few = r.few;
     first = r.first;
+    first_fabric = r.first_fabric;
     made = with_polled step r.made;
     blank = r.blank;
-    run = polled step d' k' r.run along;
+    is_of = r.is_of;
+    run = polled step d' k' f' r.run along;
     logged = ap (λ l. logged_polled step l) r.logged ∙ logged_made r.made (event_of step) (see_disk step);
   }
 
-  pub is_polled : (core : Core D) (log log' : List (Event × Seen)) (step : DiskStep) (d' : Device) (k' : D) → IsReached means moves core log → Along moves (disk_take core.device) core.disk k' (d', step) → log' ≡ logged_polled step log → IsPolled moves core.device core.disk log (see_disk step) d' k' log'
-  is_polled core log log' step d' k' r along logged =
+  pub is_polled : (core : Core D F) (log log' : List (Event × Seen)) (step : DiskStep) (d' : Device) (k' : D) (f' : F) → IsReached means disk_moves of moves core log → Along disk_moves moves (disk_take core.device) core.disk core.fabric k' f' (d', step) → log' ≡ logged_polled step log
+      → IsPolled disk_moves core.device core.disk log (see_disk step) d' k' log'
+  is_polled core log log' step d' k' f' r along logged =
       let taken = along.0 in
-      let moved : moves core.disk TakeDone taken k' = subst (λ k. moves core.disk TakeDone taken k) (sym along.3.0) along.2 in
-      let fits = run_fits means moves follows r.sizes r.first r.made core.device core.disk r.blank r.run in
+      let moved : disk_moves core.disk TakeDone taken k' = subst (λ k. disk_moves core.disk TakeDone taken k) (sym along.3.0) along.2 in
+      let fits = run_fits means disk_moves follows of moves keeps owes answers laws r.sizes r.lenders r.first r.first_fabric r.made core.device core.disk core.fabric r.blank r.is_of r.few r.run in
       let f = follows core.disk TakeDone taken k' moved in
-      let is_step : step ≡ (took_back core.device taken).1 = ap (λ (a : Device × DiskStep). a.1) along.3.1 in
+      let is_step : step ≡ (took_back core.device taken).1 = ap (λ (a : Device × DiskStep). a.1) along.3.2 in
       let is_seen : see_disk step ≡ see_disk (took_back core.device taken).1 = ap see_disk is_step in
       record {
         taken = taken;
         moved = moved;
-        device = ap (λ (a : Device × DiskStep). a.0) along.3.1;
+        device = ap (λ (a : Device × DiskStep). a.0) along.3.2;
         answer = is_seen;
         logged = logged ∙ ap (λ x. logged_polled x log) is_step;
-        nothing = (λ e. nothing_is_none _ core.device (means core.disk) (means k') taken fits.0 f.1 (sym is_seen ∙ e), λ e. is_seen ∙ none_is_nothing core.device taken e);
+        nothing = (λ e. nothing_is_none _ answers core.device (means core.disk) (means k') taken fits.0.disk f.1 (sym is_seen ∙ e), λ e. is_seen ∙ none_is_nothing core.device taken e);
       }

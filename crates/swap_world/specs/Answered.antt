@@ -1,20 +1,17 @@
 -- Each caller's answered calls stand in the history once, in the caller's order.
-use Rattle.std.specs.Prelude.{◌≡◌, ℕ, ◌<◌, Bool, true, false, ◌&&◌, ◌==◌, not, if◌then◌else◌, List, [], ◌∷◌}
-use Rattle.std.specs.List.{AllByRecursion}
+use Rattle.std.specs.Prelude.{◌≡◌, ℕ, Bool, true, false, ◌&&◌, ◌==◌, not, if◌then◌else◌, List, [], ◌∷◌}
 use Rattle.swap_base.specs.declared.Caller.{Caller}
 use Rattle.swap_base.specs.declared.CallKind.TheVariants as kind
-use Rattle.swap_base.specs.Sizes.{Sizes}
 use Rattle.swap_wire.specs.declared.Event.{Event}
 use Rattle.swap_wire.specs.declared.Event.TheVariants as event
 use Rattle.swap_wire.specs.declared.Seen.{Seen}
 use Rattle.swap_wire.specs.declared.Seen.TheVariants as seen
-use Rattle.swap_wire.specs.Input.{Input, IsOfGeometry}
+use Rattle.swap_wire.specs.Input.{Input}
 use Rattle.swap_calls.specs.Calls.{state_of, is_idle}
 use Rattle.swap_record.specs.declared.Op.{Op}
 use Rattle.swap_record.specs.declared.Op.TheVariants as op
 use Rattle.swap_record.specs.History.{Row, entries_of}
-use Rattle.swap_local.specs.Device.{Device}
-use Rattle.swap_world.specs.World.{start, reach, made_by}
+use Rattle.swap_table.specs.Device.{Device}
 
 abbrev pub is_call_of : Caller → Event → Bool
 is_call_of c (event.PageOut d p) = d.0 == c.0
@@ -66,6 +63,3 @@ AnswersAll false (open_ ∷ is) rows = AnswersEach is rows
 -- after these events each call of this caller was answered once
 abbrev pub AreAnsweredOnce : Caller → List (Input × Seen) → Device → Type 0
 AreAnsweredOnce c made d = AnswersAll (is_idle (state_of d.calls c)) (calls_of c made) (entries_of c d.history)
-
-abbrev pub EachCallOnce : Type 0
-EachCallOnce = (s : Sizes) (is : List Input) (c : Caller) → c.0 < s.callers → AllByRecursion (λ (i : Input). IsOfGeometry s i.event) is → AreAnsweredOnce c (made_by [] (start s) is) (reach (start s) is).device

@@ -1,47 +1,80 @@
 -- What holds of every run.
-use Rattle.std.specs.Prelude.{◌≡◌, ◌<◌, Bool, List, is_some, []}
+use Rattle.std.specs.Prelude.{◌≡◌, ℕ, ◌<◌, ◌≤◌, Bool, true, List, is_some, [], length}
 use Rattle.std.specs.List.{AllByRecursion}
 use Rattle.swap_base.specs.declared.Caller.{Caller}
+use Rattle.swap_base.specs.declared.geometry.LenderSpec.{LenderSpec}
 use Rattle.swap_base.specs.Sizes.{Sizes, zeros}
 use Rattle.swap_wire.specs.declared.Seen.{Seen}
-use Rattle.swap_wire.specs.Input.{Input, IsOfGeometry}
+use Rattle.swap_wire.specs.Input.{Input}
+use Rattle.swap_wire.specs.Fabric.{FabricCall, FabricAnswer, FabricOf}
 use Rattle.swap_record.specs.History.{IsOrdered, IsLegal}
 use Rattle.swap_disk.specs.Port.{Port, DiskCall, DiskAnswer}
-use Rattle.swap_disk.specs.Drive.{Drive, Moves}
-use Rattle.swap_local.specs.Device.{Device, new}
-use Rattle.swap_local.specs.Fits.{IsFaithfulFrom, IsBlank, trusted}
+use Rattle.swap_disk.specs.Drive as drive
+use Rattle.swap_disk.specs.Drive.{Drive}
+use Rattle.swap_slabs.specs.declared.TheConstants.{MOST_LENDERS}
+use Rattle.swap_link.specs.Harbor as harbor
+use Rattle.swap_link.specs.Harbor.{Harbor}
+use Rattle.swap_table.specs.Device.{Device, new}
+use Rattle.swap_table.specs.Fits.{Fits, IsFaithfulOver, IsBlank}
+use Rattle.swap_table.specs.Serves.{Keeping, Owing}
 use Rattle.swap_world.specs.Answered.{AreAnsweredOnce}
 use Rattle.swap_world.specs.Failures.{HoldsEntriesSeen}
-use Rattle.swap_world.specs.Runs.{IsRun, GoesOn}
+use Rattle.swap_world.specs.Runs.{IsRun, IsInput, GoesOn}
 use Rattle.swap_world.specs.World.{World, IsStep, start, next, reach, history, made_by}
 
--- over the disk in memory the history is one of an array of pages that starts as zeros
-abbrev pub AlwaysLegal : Type 0
-AlwaysLegal = (s : Sizes) (is : List Input) → AllByRecursion (λ (i : Input). IsOfGeometry s i.event) is → IsLegal (zeros s) (history (reach (start s) is))
+-- every event names what there is, and every page-out hands in a page
+abbrev pub AreInputs : Sizes → List LenderSpec → List Input → Type 0
+AreInputs s specs is = AllByRecursion (IsInput s (length specs)) is
 
--- After these events the history is ordered, each page-in that the disk didn't give is faithful, and each that it gave
--- too where the disk tells its blocks; each caller's calls were answered once, in its order; and the history holds
--- exactly the entries that were seen, where each failure has its cause.
-pub record Holds (told : Bool) (s : Sizes) (made : List (Input × Seen)) (d : Device) : Type 0 where
+-- over the disk and the lenders in memory the history is one of an array of pages that starts as zeros
+abbrev pub AlwaysLegal : Type 0
+AlwaysLegal = (s : Sizes) (specs : List LenderSpec) (is : List Input) → length specs ≤ MOST_LENDERS → AreInputs s specs is → IsLegal (zeros s) (history (reach (start s specs) is))
+
+-- After these events the history is ordered, and each page-in gives what it may for its page's content: the content
+-- where it comes from nowhere or from the queue, or from a disk that tells its blocks, and from a lender what answers it;
+-- each caller's calls were answered once, in its order; and the history holds exactly the entries that were seen, where
+-- each failure has its cause.
+pub record Holds (told : Bool) (answers : List ℕ → List ℕ → Type 0) (s : Sizes) (made : List (Input × Seen)) (d : Device) : Type 0 where
   pub ordered : IsOrdered d.history
-  pub faithful : IsFaithfulFrom (trusted told) (zeros s) d.history
+  pub faithful : IsFaithfulOver told answers (zeros s) d.history
   pub once : (c : Caller) → c.0 < s.callers → AreAnsweredOnce c made d
   pub entries : HoldsEntriesSeen made d.history
 
--- it holds after every run over a disk that was blank
-abbrev pub HoldsAfterEach : {D : Type 0} → (D → Port) → (D → (c : DiskCall) → DiskAnswer c → D → Type 0) → Type 0
-HoldsAfterEach {D} means moves =
-    (s : Sizes) (first : D) (made : List (Input × Seen)) (d : Device) (disk : D) → IsBlank s (means first) → IsRun moves (new s) first made d disk → Holds (is_some (means first).blocks) s made d
+-- it holds after every run over a disk that was blank and a fabric of these sizes
+abbrev pub HoldsAfterEach : {D F : Type 0} → (D → Port) → (D → (c : DiskCall) → DiskAnswer c → D → Type 0) → (F → FabricOf) → (F → (c : FabricCall) → FabricAnswer c → F → Type 0) → (List ℕ → List ℕ → Type 0) → Type 0
+HoldsAfterEach {D} {F} means disk_moves of moves answers =
+    (s : Sizes) (n : ℕ) (first : D) (fabric : F) (made : List (Input × Seen)) (d : Device) (disk : D) (f : F) → IsBlank s (means first) → of fabric ≡ record { sizes = s; lenders = n } → n ≤ MOST_LENDERS → IsRun disk_moves moves n (new s) first fabric made d disk f
+    → Holds (is_some (means first).blocks) answers s made d
 
--- one event over the disk in memory leads to the next world
+-- and the device, its disk and its fabric agree: on the queue and the disk, on each link's requests and what it owes, and
+-- on what the lenders keep of the mapped slabs
+abbrev pub AgreesAfterEach : {D F : Type 0} → (D → Port) → (D → (c : DiskCall) → DiskAnswer c → D → Type 0) → (F → FabricOf) → (F → (c : FabricCall) → FabricAnswer c → F → Type 0) → (F → Keeping) → (F → Owing) → (List ℕ → List ℕ → Type 0) → Type 0
+AgreesAfterEach {D} {F} means disk_moves of moves keeps owes answers =
+    (s : Sizes) (n : ℕ) (first : D) (fabric : F) (made : List (Input × Seen)) (d : Device) (disk : D) (f : F) → IsBlank s (means first) → of fabric ≡ record { sizes = s; lenders = n } → n ≤ MOST_LENDERS → IsRun disk_moves moves n (new s) first fabric made d disk f
+    → Fits (is_some (means first).blocks) answers (keeps f) (owes f) n d (means disk)
+
+-- over the disk and the lenders in memory: a page that answers is the page that was owed
+abbrev pub Agrees : ℕ → World → Type 0
+Agrees n w = Fits true (λ page given. page ≡ given) (harbor.KeepsAt w.harbor) (harbor.OwesAt w.harbor) n w.device (drive.port_of w.drive)
+
+abbrev pub AlwaysAgrees : Type 0
+AlwaysAgrees = (s : Sizes) (specs : List LenderSpec) (is : List Input) → length specs ≤ MOST_LENDERS → AreInputs s specs is → Agrees (length specs) (reach (start s specs) is)
+
+-- one event over the disk and the lenders in memory leads to the next world
 abbrev pub StepsAreNext : Type 0
 StepsAreNext =
-    (d d' : Device) (k k' : Drive) (i : Input) (s : Seen) → IsStep Moves d k i s d' k' → next (record { device = d; drive = k }) i ≡ record { world = record { device = d'; drive = k' }; seen = s }
+    (d d' : Device) (k k' : Drive) (h h' : Harbor) (i : Input) (s : Seen) → IsStep drive.Moves harbor.Moves d k h i s d' k' h'
+    → next (record { device = d; drive = k; harbor = h }) i ≡ record { world = record { device = d'; drive = k'; harbor = h' }; seen = s }
 
 -- a history goes on with every event
 abbrev pub HistoriesGoOn : Type 0
 HistoriesGoOn = (w : World) (is : List Input) → GoesOn (history w) (history (reach w is))
 
--- over the disk in memory the history holds exactly the entries that were seen, and each failure has its cause
+-- over the disk and the lenders in memory the history holds exactly the entries that were seen, and each failure has its
+-- cause
 abbrev pub EntriesAreSeen : Type 0
-EntriesAreSeen = (s : Sizes) (is : List Input) → AllByRecursion (λ (i : Input). IsOfGeometry s i.event) is → HoldsEntriesSeen (made_by [] (start s) is) (history (reach (start s) is))
+EntriesAreSeen = (s : Sizes) (specs : List LenderSpec) (is : List Input) → length specs ≤ MOST_LENDERS → AreInputs s specs is → HoldsEntriesSeen (made_by [] (start s specs) is) (history (reach (start s specs) is))
+
+-- and each caller's calls are answered once, in its order
+abbrev pub EachCallOnce : Type 0
+EachCallOnce = (s : Sizes) (specs : List LenderSpec) (is : List Input) (c : Caller) → c.0 < s.callers → length specs ≤ MOST_LENDERS → AreInputs s specs is → AreAnsweredOnce c (made_by [] (start s specs) is) (reach (start s specs) is).device

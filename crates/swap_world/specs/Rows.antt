@@ -1,8 +1,13 @@
 -- Rows of events by hand.
-use Rattle.std.specs.Prelude.{◌≡◌, ℕ, Bool, true, false, List, [], ◌∷◌, ◌++◌, map, take, replicate, None}
+use Rattle.std.specs.Prelude.{◌≡◌, ℕ, Bool, true, false, List, [], ◌∷◌, ◌++◌, map, take, replicate, None, Some}
 use Rattle.swap_base.specs.declared.Page.{Page}
 use Rattle.swap_base.specs.declared.Caller.{Caller}
 use Rattle.swap_base.specs.declared.EntryNo.{EntryNo}
+use Rattle.swap_base.specs.declared.Lender.{Lender}
+use Rattle.swap_base.specs.declared.Slab.{Slab}
+use Rattle.swap_base.specs.declared.Lease.{Lease}
+use Rattle.swap_base.specs.declared.geometry.LenderSpec.{LenderSpec}
+use Rattle.swap_wire.specs.declared.Msg.TheVariants as msg
 use Rattle.swap_base.specs.declared.Via.TheVariants as via
 use Rattle.swap_base.specs.declared.DiskWhich.TheVariants as which
 use Rattle.swap_base.specs.Sizes.{Sizes}
@@ -45,13 +50,13 @@ seen_of (pair ∷ pairs) = pair.1 ∷ seen_of pairs
 
 abbrev pub PageOutWithoutRoomFailsWhereAWriteFailed : Type 0
 PageOutWithoutRoomFailsWhereAWriteFailed =
-    seen_of (seens (start (sizes 1)) (out 0 1 170 ∷ by event.Start ∷ out 1 2 187 ∷ disk_write 1 false ∷ by (event.Finish (caller 1)) ∷ by (event.PageIn (caller 0) (page 1)) ∷ []))
+    seen_of (seens (start (sizes 1) []) (out 0 1 170 ∷ by event.Start ∷ out 1 2 187 ∷ disk_write 1 false ∷ by (event.Finish (caller 1)) ∷ by (event.PageIn (caller 0) (page 1)) ∷ []))
     ≡ seen.Done (entry 0) None ∷ seen.Started (page 1) (entry 0) ∷ seen.Room ∷ seen.WriteKept (entry 0) ∷ seen.Fault (entry 1) ∷ seen.Done (entry 2) None ∷ []
 
 abbrev pub ReadOvertakenByAPageOutAlreadyOnTheDisk : Type 0
 ReadOvertakenByAPageOutAlreadyOnTheDisk =
     seen_of (
-    seens (start (sizes 4)) (
+    seens (start (sizes 4) []) (
     out 0 3 170 ∷ by event.Start ∷ disk_write 3 true ∷ by (event.PageIn (caller 0) (page 3)) ∷ out 1 3 187 ∷ by event.Start ∷ disk_read 0 true ∷ disk_write 3 true ∷ by (event.Finish (caller 0)) ∷ disk_read 0 true
     ∷ by (event.Finish (caller 0))
     ∷ []
@@ -65,13 +70,13 @@ ReadOvertakenByAPageOutAlreadyOnTheDisk =
 
 -- the ends of a caller's own reads since its last start, and of each entry since whether it is a page-out of this page
 abbrev own_ends : ℕ → List Input → List (Event × Seen)
-own_ends c is = read_ends (caller c) (since_start (caller c) (made_by [] (start (sizes 4)) is))
+own_ends c is = read_ends (caller c) (since_start (caller c) (made_by [] (start (sizes 4) []) is))
 
 abbrev outs_since : ℕ → ℕ → List Input → List Bool
-outs_since c p is = map (is_out_of (page p)) (take (entries_in (since_start (caller c) (made_by [] (start (sizes 4)) is))) (history (reach (start (sizes 4)) is)))
+outs_since c p is = map (is_out_of (page p)) (take (entries_in (since_start (caller c) (made_by [] (start (sizes 4) []) is))) (history (reach (start (sizes 4) []) is)))
 
 abbrev seen_in_the_end : List Input → List Input → List Seen
-seen_in_the_end is more = seen_of (seens (reach (start (sizes 4)) is) more)
+seen_in_the_end is more = seen_of (seens (reach (start (sizes 4) []) is) more)
 
 abbrev failed_read : List Input
 failed_read = out 0 3 170 ∷ by event.Start ∷ disk_write 3 true ∷ by (event.PageIn (caller 0) (page 3)) ∷ disk_read 0 false ∷ []
@@ -96,3 +101,45 @@ AnotherCallersReadFails =
     (own_ends 0 two_reads ≡ (event.Disk (which.Read (caller 0)) true, seen.ReadCame (page 3)) ∷ [])
     × (own_ends 1 two_reads ≡ (event.Disk (which.Read (caller 1)) false, seen.ReadFailed (page 3)) ∷ [])
     × (seen_in_the_end two_reads (by (event.Finish (caller 0)) ∷ by (event.Finish (caller 1)) ∷ []) ≡ seen.Done (entry 1) None ∷ seen.Fault (entry 2) ∷ [])
+
+-- one lender, lent to by its messages
+abbrev lender_spec : LenderSpec
+lender_spec = record { slots = 4; headroom = 1; extra = 1 }
+
+abbrev lender : Lender
+lender = record { 0 = 0 }
+
+abbrev slab : Slab
+slab = record { 0 = 0 }
+
+abbrev lease : Lease
+lease = record { 0 = 0 }
+
+abbrev gives : Event
+gives = event.Give lender
+
+abbrev takes : Event
+takes = event.Take lender
+
+-- a page goes out to a lender and comes back from it
+abbrev mapping_events : List Input
+mapping_events = by (event.Connect lender) ∷ by (event.Map slab lender) ∷ by gives ∷ by gives ∷ by takes ∷ []
+
+abbrev mapping_seen : List Seen
+mapping_seen =
+    seen.Linked (record { 0 = 0 }) ∷ seen.Borrowing ∷ seen.Gave (msg.Hello 1 8 4) None 0 ∷ seen.Gave (msg.Borrow slab) (Some (msg.Lent slab lease)) 0 ∷ seen.Took (msg.Lent slab lease) ∷ []
+
+abbrev pub PageInFromALender : Type 0
+PageInFromALender =
+    seen_of (
+    seens (start (sizes 4) (lender_spec ∷ [])) (
+    mapping_events
+    ++ (out 0 3 170 ∷ by gives ∷ by takes ∷ by event.Start ∷ disk_write 3 true ∷ by (event.PageIn (caller 0) (page 3)) ∷ by gives ∷ by takes ∷ by (event.Finish (caller 0)) ∷ [])
+    )
+    )
+    ≡ mapping_seen
+    ++ (seen.Done (entry 0) (Some lender) ∷ seen.Gave (msg.Write lease 3) (Some (msg.Wrote lease 3)) 0 ∷ seen.Took (msg.Wrote lease 3) ∷ seen.Started (page 3) (entry 0) ∷ seen.Written (entry 0) ∷ seen.Wait (via.Lender lender)
+    ∷ seen.Gave (msg.Read lease 3) (Some (msg.PageIs lease 3)) 0
+    ∷ seen.Took (msg.PageIs lease 3)
+    ∷ seen.Done (entry 1) None
+    ∷ [])

@@ -2,7 +2,7 @@
 use Rattle.std.specs.Prelude.{◌≡◌, ◌+◌, ◌-◌, ◌<◌, ◌≤◌, ◌↔◌, Bool, true, false, not, ℕ, List, [], ◌∷◌, ◌++◌, length, count_by, MatchOption, Option, None, Some}
 use Rattle.swap_base.specs.declared.EntryNo.{EntryNo}
 use Rattle.swap_base.specs.Sizes.{Sizes}
-use Rattle.swap_wire.specs.Input.{Input, IsOfGeometry}
+use Rattle.swap_wire.specs.Input.{Input, IsInRange}
 use Rattle.swap_wire.specs.declared.Event.{Event}
 use Rattle.swap_wire.specs.declared.Event.TheVariants as event
 use Rattle.swap_wire.specs.declared.Seen.{Seen}
@@ -10,14 +10,16 @@ use Rattle.swap_wire.specs.declared.Seen.TheVariants as seen
 use Rattle.swap_record.specs.History.{History}
 use Rattle.swap_base.specs.declared.DiskWhich.TheVariants as which
 use Rattle.swap_disk.specs.Disk.{Taken}
+use Rattle.swap_wire.specs.Fabric.{FabricCall, FabricAnswer, FabricOf}
+use Rattle.swap_slabs.specs.declared.TheConstants.{MOST_LENDERS}
 use Rattle.swap_disk.specs.Port.{Port, DiskCall, DiskAnswer, TakeDone}
 use Rattle.swap_calls.specs.Calls.{Call, is_idle, state_of}
-use Rattle.swap_local.specs.Ports.{Along}
-use Rattle.swap_local.specs.declared.DiskStep.{DiskStep}
-use Rattle.swap_local.specs.declared.DiskStep.TheVariants as ends
-use Rattle.swap_local.specs.Device.{Device, Core, new, disk_take, took_back}
-use Rattle.swap_local.specs.Fits.{IsBlank}
-use Rattle.swap_local.specs.State.{GivesLast}
+use Rattle.swap_table.specs.Ports.{Along}
+use Rattle.swap_table.specs.declared.DiskStep.{DiskStep}
+use Rattle.swap_table.specs.declared.DiskStep.TheVariants as ends
+use Rattle.swap_table.specs.Device.{Device, Core, new, disk_take, took_back}
+use Rattle.swap_table.specs.Fits.{IsBlank}
+use Rattle.swap_device.specs.State.{GivesLast}
 use Rattle.swap_world.specs.World.{IsStep, see_disk}
 
 -- an event has an effect unless nothing is seen of it, or a caller is told to wait on
@@ -46,22 +48,31 @@ made_with (Some e) s made = (record { event = e; page = [] }, s) ∷ made
 abbrev pub with_polled : DiskStep → List (Input × Seen) → List (Input × Seen)
 with_polled step made = made_with (event_of step) (see_disk step) made
 
--- A run from a device and its disk, with the events that had an effect and what was seen of each, the newest
--- first. Events without an effect leave the device as it was, and the disk where the disk is in memory. A disk that
--- ends its operations by itself is polled; what it ended counts as an event.
-pub data IsRun {D : Type 0} (moves : D → (c : DiskCall) → DiskAnswer c → D → Type 0) (first : Device) (disk : D) : List (Input × Seen) → Device → D → Type 0 where
-  begin : IsRun moves first disk [] first disk
-  effect : {made : List (Input × Seen)} {d : Device} {k : D} (i : Input) (s : Seen) (d' : Device) (k' : D)
-      → IsRun moves first disk made d k → IsOfGeometry first.sizes i.event → IsStep moves d k i s d' k' → has_effect i.event s ≡ true → IsRun moves first disk ((i, s) ∷ made) d' k'
-  without : {made : List (Input × Seen)} {d : Device} {k : D} (i : Input) (s : Seen) (k' : D)
-      → IsRun moves first disk made d k → IsOfGeometry first.sizes i.event → IsStep moves d k i s d k' → has_effect i.event s ≡ false → IsRun moves first disk made d k'
-  polled : {made : List (Input × Seen)} {d : Device} {k : D} (step : DiskStep) (d' : Device) (k' : D)
-      → IsRun moves first disk made d k → Along moves (disk_take d) k k' (d', step) → IsRun moves first disk (with_polled step made) d' k'
+-- the page that a page-out hands in has the length of a page
+abbrev pub IsPaged : Sizes → Event → List ℕ → Type 0
+IsPaged s (event.PageOut c p) page = length page ≡ s.page_bytes
+IsPaged s e page = Unit {0}
 
--- a device over its disk, its events that had an effect with what was seen of each, the oldest first, and for how
+-- an event names what there is, and hands in a page
+abbrev pub IsInput : Sizes → ℕ → Input → Type 0
+IsInput s lenders i = IsInRange s lenders i.event × IsPaged s i.event i.page
+
+-- A run from a device, its disk and its fabric of so many lenders, with the events that had an effect and what was seen
+-- of each, the newest first. Events without an effect leave the device as it was, and disk and fabric where they are in
+-- memory. A disk that ends its operations by itself is polled; what it ended counts as an event.
+pub data IsRun {D F : Type 0} (disk_moves : D → (c : DiskCall) → DiskAnswer c → D → Type 0) (moves : F → (c : FabricCall) → FabricAnswer c → F → Type 0) (lenders : ℕ) (first : Device) (disk : D) (fabric : F) : List (Input × Seen) → Device → D → F → Type 0 where
+  begin : IsRun disk_moves moves lenders first disk fabric [] first disk fabric
+  effect : {made : List (Input × Seen)} {d : Device} {k : D} {f : F} (i : Input) (s : Seen) (d' : Device) (k' : D) (f' : F)
+      → IsRun disk_moves moves lenders first disk fabric made d k f → IsInRange first.sizes lenders i.event → IsStep disk_moves moves d k f i s d' k' f' → has_effect i.event s ≡ true → IsRun disk_moves moves lenders first disk fabric ((i, s) ∷ made) d' k' f'
+  without : {made : List (Input × Seen)} {d : Device} {k : D} {f : F} (i : Input) (s : Seen) (k' : D) (f' : F)
+      → IsRun disk_moves moves lenders first disk fabric made d k f → IsInRange first.sizes lenders i.event → IsStep disk_moves moves d k f i s d k' f' → has_effect i.event s ≡ false → IsRun disk_moves moves lenders first disk fabric made d k' f'
+  polled : {made : List (Input × Seen)} {d : Device} {k : D} {f : F} (step : DiskStep) (d' : Device) (k' : D) (f' : F)
+      → IsRun disk_moves moves lenders first disk fabric made d k f → Along disk_moves moves (disk_take d) k f k' f' (d', step) → IsRun disk_moves moves lenders first disk fabric (with_polled step made) d' k' f'
+
+-- a device over its ports, its events that had an effect with what was seen of each, the oldest first, and for how
 -- many more there is room
-pub record WorldOf (D : Type 0) : Type 0 where
-  pub core : Core D
+pub record WorldOf (D F : Type 0) : Type 0 where
+  pub core : Core D F
   pub log : List (Event × Seen)
   pub log_spare : ℕ
 
@@ -69,13 +80,17 @@ abbrev pub logged_of : List (Input × Seen) → List (Event × Seen)
 logged_of [] = []
 logged_of ((i, s) ∷ made) = logged_of made ++ (i.event, s) ∷ []
 
--- a world's device and disk were reached by the events of its log
-pub record IsReached {D : Type 0} (means : D → Port) (moves : D → (c : DiskCall) → DiskAnswer c → D → Type 0) (core : Core D) (log : List (Event × Seen)) : Type 0 where
+-- a world's device, disk and fabric were reached by the events of its log
+pub record IsReached {D F : Type 0} (means : D → Port) (disk_moves : D → (c : DiskCall) → DiskAnswer c → D → Type 0) (of : F → FabricOf) (moves : F → (c : FabricCall) → FabricAnswer c → F → Type 0) (core : Core D F) (log : List (Event × Seen)) : Type 0 where
   pub sizes : Sizes
+  pub lenders : ℕ
+  pub few : lenders ≤ MOST_LENDERS
   pub first : D
+  pub first_fabric : F
   pub made : List (Input × Seen)
   pub blank : IsBlank sizes (means first)
-  pub run : IsRun moves (new sizes) first made core.device core.disk
+  pub is_of : of first_fabric ≡ record { sizes = sizes; lenders = lenders }
+  pub run : IsRun disk_moves moves lenders (new sizes) first first_fabric made core.device core.disk core.fabric
   pub logged : log ≡ logged_of made
 
 -- the log after a poll

@@ -1,5 +1,6 @@
--- The world is the device over its disk. An event leads from one world to the next, and something is seen of it.
-use Rattle.std.specs.Prelude.{ℕ, Bool, true, false, if◌then◌else◌, List, [], ◌∷◌, Option, None, Some}
+-- The world is the device over its disk and its lenders. An event leads from one world to the next, and something is
+-- seen of it.
+use Rattle.std.specs.Prelude.{ℕ, Bool, true, false, if◌then◌else◌, List, [], ◌∷◌, map, Option, None, Some}
 use Rattle.swap_base.specs.declared.Page.{Page}
 use Rattle.swap_base.specs.declared.EntryNo.{EntryNo}
 use Rattle.swap_base.specs.Sizes.{Sizes}
@@ -10,19 +11,29 @@ use Rattle.swap_wire.specs.declared.Seen.{Seen}
 use Rattle.swap_wire.specs.declared.Seen.TheVariants as seen
 use Rattle.swap_record.specs.History.{History}
 use Rattle.swap_disk.specs.Port.{DiskCall, DiskAnswer, LetFinish}
-use Rattle.swap_disk.specs.Drive.{Drive, ask, new_drive}
+use Rattle.swap_disk.specs.Drive.{Drive, new_drive}
+use Rattle.swap_disk.specs.Drive as drive
+use Rattle.swap_base.specs.declared.Link.{Link}
+use Rattle.swap_base.specs.declared.geometry.LenderSpec.{LenderSpec}
+use Rattle.swap_wire.specs.declared.fabric.Gave.{Gave}
+use Rattle.swap_wire.specs.declared.fabric.Gave.TheVariants as gave
+use Rattle.swap_wire.specs.Fabric.{FabricCall, FabricAnswer}
+use Rattle.swap_link.specs.Harbor.{Harbor, new_channel}
+use Rattle.swap_link.specs.Harbor as harbor
 use Rattle.swap_calls.specs.Calls.{state_of, is_idle}
-use Rattle.swap_local.specs.Device as device
-use Rattle.swap_local.specs.Device.{Device}
-use Rattle.swap_local.specs.Ports.{Prog, Ret, AskDisk, answering, Along, run}
-use Rattle.swap_local.specs.declared.OutStep.{OutStep}
-use Rattle.swap_local.specs.declared.OutStep.TheVariants as outs
-use Rattle.swap_local.specs.declared.InStep.{InStep}
-use Rattle.swap_local.specs.declared.InStep.TheVariants as ins
-use Rattle.swap_local.specs.declared.Step.{Step}
-use Rattle.swap_local.specs.declared.Step.TheVariants as steps
-use Rattle.swap_local.specs.declared.DiskStep.{DiskStep}
-use Rattle.swap_local.specs.declared.DiskStep.TheVariants as ends
+use Rattle.swap_table.specs.Device as device
+use Rattle.swap_table.specs.Device.{Device}
+use Rattle.swap_table.specs.Ports.{Prog, Ret, AskDisk, answering, Along, run}
+use Rattle.swap_table.specs.declared.OutStep.{OutStep}
+use Rattle.swap_table.specs.declared.OutStep.TheVariants as outs
+use Rattle.swap_table.specs.declared.InStep.{InStep}
+use Rattle.swap_table.specs.declared.InStep.TheVariants as ins
+use Rattle.swap_table.specs.declared.Step.{Step}
+use Rattle.swap_table.specs.declared.Step.TheVariants as steps
+use Rattle.swap_table.specs.declared.DiskStep.{DiskStep}
+use Rattle.swap_table.specs.declared.DiskStep.TheVariants as ends
+use Rattle.swap_table.specs.declared.LinkStep.{LinkStep}
+use Rattle.swap_table.specs.declared.LinkStep.TheVariants as link
 
 -- what is seen of an answer
 abbrev pub see_out : OutStep → Seen
@@ -52,6 +63,26 @@ see_disk (ends.Dropped page entry) = seen.WriteDropped entry
 see_disk (ends.Came caller page) = seen.ReadCame page
 see_disk (ends.Failed caller page) = seen.ReadFailed page
 
+abbrev pub see_map : Bool → Seen
+see_map true = seen.Borrowing
+see_map false = seen.Nothing
+
+abbrev pub see_link : Option Link → Seen
+see_link None = seen.Nothing
+see_link (Some n) = seen.Linked n
+
+abbrev pub see_gave : Gave → Seen
+see_gave gave.Nothing = seen.Nothing
+see_gave gave.End = seen.GaveEnd
+see_gave (gave.Got msg reply evicted) = seen.Gave msg reply evicted
+see_gave (gave.Ended msg) = seen.GaveEnded msg
+
+abbrev pub see_take : LinkStep → Seen
+see_take link.Nothing = seen.Nothing
+see_take (link.Got msg) = seen.Took msg
+see_take link.Lost = seen.Lost
+see_take link.Lied = seen.Lied
+
 -- a call of the device, by what is seen of its answer
 abbrev pub seen_by : {R : Type 0} → (R → Seen) → Prog (Device × R) → Prog (Device × Seen)
 seen_by see p = answering (λ r. (r.0, see r.1)) p
@@ -68,29 +99,38 @@ happens d page (event.PageIn c p) = if is_idle (state_of d.calls c) then seen_by
 happens d page (event.Finish c) = if is_idle (state_of d.calls c) then Ret (d, seen.Idle) else seen_by see_step (device.finish d c)
 happens d page event.Start = seen_by see_start (device.disk_start d)
 happens d page (event.Disk which ok) = AskDisk (LetFinish which ok) (taken_if d)
+happens d page (event.Map slab l) = seen_by see_map (device.map d slab l)
+happens d page (event.Connect l) = seen_by see_link (device.connect d l)
+happens d page (event.Give l) = seen_by see_gave (device.give_to d l)
+happens d page (event.Take l) = seen_by see_take (device.link_take d l)
 happens d page _ = Ret (d, seen.Nothing)
 
--- one event over a disk
-abbrev pub IsStep : {D : Type 0} → (D → (c : DiskCall) → DiskAnswer c → D → Type 0) → Device → D → Input → Seen → Device → D → Type 0
-IsStep moves d disk i s d' disk' = Along moves (happens d i.page i.event) disk disk' (d', s)
+-- one event over a disk and a fabric
+abbrev pub IsStep : {D F : Type 0} → (D → (c : DiskCall) → DiskAnswer c → D → Type 0) → (F → (c : FabricCall) → FabricAnswer c → F → Type 0) → Device → D → F → Input → Seen → Device → D → F → Type 0
+IsStep disk_moves moves d disk f i s d' disk' f' = Along disk_moves moves (happens d i.page i.event) disk f disk' f' (d', s)
 
--- the disk in memory is a function, and so is the world over it
+-- the disk in memory and the lenders in memory are functions, and so is the world over them
 pub record World : Type 0 where
   pub device : Device
   pub drive : Drive
+  pub harbor : Harbor
 
 pub record Next : Type 0 where
   pub world : World
   pub seen : Seen
 
-abbrev pub next_of : (Device × Seen) × Drive → Next
-next_of r = record { world = record { device = r.0.0; drive = r.1 }; seen = r.0.1 }
+abbrev pub next_of : (Device × Seen) × (Drive × Harbor) → Next
+next_of r = record { world = record { device = r.0.0; drive = r.1.0; harbor = r.1.1 }; seen = r.0.1 }
 
 abbrev pub next : World → Input → Next
-next w i = next_of (run ask (happens w.device i.page i.event) w.drive)
+next w i = next_of (run drive.ask harbor.ask (happens w.device i.page i.event) w.drive w.harbor)
 
-abbrev pub start : Sizes → World
-start s = record { device = device.new s; drive = new_drive s }
+-- a harbor as it is made
+abbrev pub new_harbor : Sizes → List LenderSpec → Harbor
+new_harbor s specs = record { sizes = s; channels = map (new_channel s) specs }
+
+abbrev pub start : Sizes → List LenderSpec → World
+start s specs = record { device = device.new s; drive = new_drive s; harbor = new_harbor s specs }
 
 abbrev pub history : World → History
 history w = w.device.history

@@ -1,18 +1,20 @@
-ghost use Rattle.std.specs.Prelude.{◌≡◌, ◌+◌, ◌<◌, ◌^◌, length, true, false};
+ghost use Rattle.std.specs.Prelude.{◌≡◌, ◌+◌, ◌<◌, ◌^◌, length, true, false, []};
 ghost use Rattle.swap_base.specs.Sizes.{pages_of};
 ghost use Rattle.swap_calls.specs.Calls.{is_idle, state_of};
-ghost use Rattle.swap_local.specs.Ports.{Along};
-ghost use Rattle.swap_local.specs.State.{KeepsRoom};
-ghost use Rattle.swap_wire.specs.Input.{IsOfGeometry};
+ghost use Rattle.swap_table.specs.Ports.{Along};
+ghost use Rattle.swap_device.specs.State.{KeepsRoom};
+ghost use Rattle.swap_wire.specs.Input.{IsInRange};
 ghost use Rattle.swap_world.specs.World.{IsStep, happens};
 ghost use Rattle.swap_world.specs.Runs.{HasSpare, GivesPage};
 
-use crate::world::{see_disk, see_in, see_out, see_start, see_step};
-use swap_base::{Caller, DiskWhich, Page};
+use crate::world::{
+    see_disk, see_gave, see_in, see_link, see_map, see_out, see_start, see_step, see_take,
+};
+use swap_base::{Caller, DiskWhich, Lender, Page};
 use swap_calls::CallState;
+use swap_device::DeviceCore;
 use swap_disk::DiskPort;
-use swap_local::DeviceCore;
-use swap_wire::{Event, Seen};
+use swap_wire::{Event, Fabric, Seen};
 
 fn is_idle(state: CallState) -> bool
     ensures { result ≡ is_idle state }
@@ -23,8 +25,8 @@ fn is_idle(state: CallState) -> bool
     }
 }
 
-fn page_out<D: DiskPort>(
-    device: &mut DeviceCore<D>,
+fn page_out<D: DiskPort, F: Fabric>(
+    device: &mut DeviceCore<D, F>,
     caller: Caller,
     page: Page,
     bytes: &[u8],
@@ -33,7 +35,7 @@ fn page_out<D: DiskPort>(
     requires page { page.0 < pages_of device.old.device.sizes }
     requires bytes { length bytes.now ≡ device.old.device.sizes.page_bytes }
     requires spare { is_idle (state_of device.old.device.calls caller) ≡ true → 0 < device.old.spare }
-    ensures step { Along D.moves (happens device.old.device bytes.now (Event.PageOut caller page)) device.old.disk device.new.disk (device.new.device, result) }
+    ensures step { Along D.moves F.moves (happens device.old.device bytes.now (Event.PageOut caller page)) device.old.disk device.old.fabric device.new.disk device.new.fabric (device.new.device, result) }
     ensures room { KeepsRoom device.old device.new }
 {
     if !is_idle(device.state(caller)) {
@@ -42,8 +44,8 @@ fn page_out<D: DiskPort>(
     see_out(device.out(caller, page, bytes))
 }
 
-fn page_in<D: DiskPort>(
-    device: &mut DeviceCore<D>,
+fn page_in<D: DiskPort, F: Fabric>(
+    device: &mut DeviceCore<D, F>,
     caller: Caller,
     page: Page,
     buf: &mut [u8],
@@ -52,7 +54,7 @@ fn page_in<D: DiskPort>(
     requires page { page.0 < pages_of device.old.device.sizes }
     requires buf { length buf.old ≡ device.old.device.sizes.page_bytes }
     requires spare { is_idle (state_of device.old.device.calls caller) ≡ true → 0 < device.old.spare }
-    ensures step { Along D.moves (happens device.old.device buf.old (Event.PageIn caller page)) device.old.disk device.new.disk (device.new.device, result) }
+    ensures step { Along D.moves F.moves (happens device.old.device buf.old (Event.PageIn caller page)) device.old.disk device.old.fabric device.new.disk device.new.fabric (device.new.device, result) }
     ensures room { KeepsRoom device.old device.new }
     ensures gives { GivesPage (Event.PageIn caller page) result device.new.device.history buf.new }
 {
@@ -62,11 +64,15 @@ fn page_in<D: DiskPort>(
     see_in(device.read(caller, page, buf))
 }
 
-fn finish<D: DiskPort>(device: &mut DeviceCore<D>, caller: Caller, buf: &mut [u8]) -> Seen
+fn finish<D: DiskPort, F: Fabric>(
+    device: &mut DeviceCore<D, F>,
+    caller: Caller,
+    buf: &mut [u8],
+) -> Seen
     requires caller { caller.0 < device.old.device.sizes.callers }
     requires buf { length buf.old ≡ device.old.device.sizes.page_bytes }
     requires spare { is_idle (state_of device.old.device.calls caller) ≡ false → 0 < device.old.spare }
-    ensures step { Along D.moves (happens device.old.device buf.old (Event.Finish caller)) device.old.disk device.new.disk (device.new.device, result) }
+    ensures step { Along D.moves F.moves (happens device.old.device buf.old (Event.Finish caller)) device.old.disk device.old.fabric device.new.disk device.new.fabric (device.new.device, result) }
     ensures room { KeepsRoom device.old device.new }
     ensures gives { GivesPage (Event.Finish caller) result device.new.device.history buf.new }
 {
@@ -76,15 +82,15 @@ fn finish<D: DiskPort>(device: &mut DeviceCore<D>, caller: Caller, buf: &mut [u8
     see_step(device.finish(caller, buf))
 }
 
-fn disk_event<D: DiskPort>(
-    device: &mut DeviceCore<D>,
+fn disk_event<D: DiskPort, F: Fabric>(
+    device: &mut DeviceCore<D, F>,
     which: DiskWhich,
     ok: bool,
     page: &[u8],
 ) -> Seen
     requires writes { device.old.device.failed_writes + 1 < 2 ^ 64 }
     requires reads { device.old.device.failed_reads + 1 < 2 ^ 64 }
-    ensures step { Along D.moves (happens device.old.device page.now (Event.Disk which ok)) device.old.disk device.new.disk (device.new.device, result) }
+    ensures step { Along D.moves F.moves (happens device.old.device page.now (Event.Disk which ok)) device.old.disk device.old.fabric device.new.disk device.new.fabric (device.new.device, result) }
     ensures room { KeepsRoom device.old device.new }
 {
     if !device.disk_finish(which, ok) {
@@ -93,14 +99,26 @@ fn disk_event<D: DiskPort>(
     see_disk(device.disk_take())
 }
 
-/// What an event does to a device over its disk.
-pub fn happen<D: DiskPort>(device: &mut DeviceCore<D>, event: &Event, page: &mut [u8]) -> Seen
-    requires range { IsOfGeometry device.old.device.sizes event.now }
+fn give_event<D: DiskPort, F: Fabric>(device: &mut DeviceCore<D, F>, lender: Lender) -> Seen
+    requires { lender.0 < (F.of device.old.fabric).lenders }
+    ensures step { Along D.moves F.moves (happens device.old.device [] (Event.Give lender)) device.old.disk device.old.fabric device.new.disk device.new.fabric (device.new.device, result) }
+    ensures room { KeepsRoom device.old device.new }
+{
+    see_gave(device.give(lender))
+}
+
+/// What an event does to a device over its ports.
+pub fn happen<D: DiskPort, F: Fabric>(
+    device: &mut DeviceCore<D, F>,
+    event: &Event,
+    page: &mut [u8],
+) -> Seen
+    requires range { IsInRange device.old.device.sizes (F.of device.old.fabric).lenders event.now }
     requires page { length page.old ≡ device.old.device.sizes.page_bytes }
     requires spare { HasSpare device.old.device event.now device.old.spare }
     requires writes { device.old.device.failed_writes + 1 < 2 ^ 64 }
     requires reads { device.old.device.failed_reads + 1 < 2 ^ 64 }
-    ensures step { IsStep D.moves device.old.device device.old.disk (record { event = event.now; page = page.old }) result device.new.device device.new.disk }
+    ensures step { IsStep D.moves F.moves device.old.device device.old.disk device.old.fabric (record { event = event.now; page = page.old }) result device.new.device device.new.disk device.new.fabric }
     ensures room { KeepsRoom device.old device.new }
     ensures gives { GivesPage event.now result device.new.device.history page.new }
 {
@@ -110,6 +128,10 @@ pub fn happen<D: DiskPort>(device: &mut DeviceCore<D>, event: &Event, page: &mut
         Event::Finish { caller } => finish(device, caller, page),
         Event::Start => see_start(device.disk_start()),
         Event::Disk { which, ok } => disk_event(device, which, ok, page),
+        Event::Map { slab, lender } => see_map(device.map(slab, lender)),
+        Event::Connect { lender } => see_link(device.connect(lender)),
+        Event::Give { lender } => give_event(device, lender),
+        Event::Take { lender } => see_take(device.link_take(lender)),
         _ => Seen::Nothing,
     }
 }

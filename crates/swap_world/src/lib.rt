@@ -1,18 +1,18 @@
-//! The device over its disk: one event of the machine after another.
+//! The device over its disk and its lenders: one event of the machine after another.
 #![tactic(auto)]
 
-ghost use Rattle.swap_world.specs.Answered.{EachCallOnce};
-ghost use Rattle.swap_world.specs.Laws.{AlwaysLegal, EntriesAreSeen, HistoriesGoOn, HoldsAfterEach, StepsAreNext};
-ghost use Rattle.swap_world.specs.Rows.{PageOutWithoutRoomFailsWhereAWriteFailed, ReadOvertakenByAPageOutAlreadyOnTheDisk, FailedDiskReadFailsThePageIn, FailedDiskReadWithANewerPageOut, AnotherCallersReadFails};
+ghost use Rattle.swap_world.specs.Laws.{AgreesAfterEach, AlwaysAgrees, AlwaysLegal, EachCallOnce, EntriesAreSeen, HistoriesGoOn, HoldsAfterEach, StepsAreNext};
+ghost use Rattle.swap_world.specs.Rows.{PageOutWithoutRoomFailsWhereAWriteFailed, ReadOvertakenByAPageOutAlreadyOnTheDisk, FailedDiskReadFailsThePageIn, FailedDiskReadWithANewerPageOut, AnotherCallersReadFails, PageInFromALender};
 
 mod events;
 mod world;
 
 use swap_disk::DiskPort;
+use swap_wire::Fabric;
 pub use world::World;
 
-/// Whatever the events and whatever fails, the history over the disk in memory is one of an array of pages that
-/// starts as zeros.
+/// Whatever the events and whatever fails, the history over the disk and the lenders in memory is one of an array of
+/// pages that starts as zeros.
 pub fn always_legal()
     ensures { AlwaysLegal }
 {}
@@ -22,27 +22,40 @@ pub fn each_call_once()
     ensures { EachCallOnce }
 {}
 
-/// Over any disk that was blank, after every list of events: the history is ordered, each page-in that the disk
-/// didn't give is faithful, each that it gave too where it tells its blocks, each caller's calls were answered once,
-/// in its order, and the history holds exactly the entries that were seen. Each failure has its cause: its two counts
+/// Over any disk that was blank and any fabric, after every list of events: the history is ordered, each page-in from
+/// zeros or the queue is faithful, each that the disk gave too where it tells its blocks, each that a lender gave as
+/// far as the fabric's answers tell, each caller's calls were answered once, in its order, and the history holds
+/// exactly the entries that were seen. Each failure has its cause: its two counts
 /// are the failed writes, or reads, before its last start and before the step that ended it, the first below the
 /// second; and a page-in fails by its own read alone, with no page-out of its page accepted since that read began.
-pub fn over_any_disk<D: DiskPort>()
-    ensures { HoldsAfterEach D.means D.moves }
+pub fn over_any_ports<D: DiskPort, F: Fabric>()
+    ensures { HoldsAfterEach D.means D.moves F.of F.moves F.answers }
 {}
 
-/// Over the disk in memory the history holds exactly the entries that were seen, in order, and each failure has its
+/// Over any disk that was blank and any fabric, after every list of events, the device, its disk and its links agree: on
+/// the newest copies, on the requests under way and what their answers bring, and on the pages that the lenders keep of
+/// the mapped slabs, each page with a set bit and its content among them.
+pub fn agrees_over_any_ports<D: DiskPort, F: Fabric>()
+    ensures { AgreesAfterEach D.means D.moves F.of F.moves F.keeps F.owes F.answers }
+{}
+
+/// So they do over the disk and the lenders in memory.
+pub fn always_agrees()
+    ensures { AlwaysAgrees }
+{}
+
+/// Over the disk and the lenders in memory the history holds exactly the entries that were seen, in order, and each failure has its
 /// cause: its two counts, and for a page-in its own failed read.
 pub fn entries_are_seen()
     ensures { EntriesAreSeen }
 {}
 
-/// Over the disk in memory the world is a function of the events.
+/// Over the disk and the lenders in memory the world is a function of the events.
 pub fn steps_are_next()
     ensures { StepsAreNext }
 {}
 
-/// A history goes on with every event over the disk in memory.
+/// A history goes on with every event over the disk and the lenders in memory.
 pub fn histories_go_on()
     ensures { HistoriesGoOn }
 {}
@@ -54,4 +67,5 @@ pub fn rows()
     ensures read_fails { FailedDiskReadFailsThePageIn }
     ensures newer { FailedDiskReadWithANewerPageOut }
     ensures anothers { AnotherCallersReadFails }
+    ensures from_lender { PageInFromALender }
 {}

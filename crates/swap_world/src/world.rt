@@ -1,44 +1,48 @@
 ghost use Rattle.std.specs.Prelude.{◌≡◌, ◌+◌, ◌<◌, ◌≤◌, ◌^◌, ◌↔◌, length, max, IfOk, OnOk, OnErr, false, true, [], slice_get, Some, Err, vec_len, vec_capacity};
-ghost use Rattle.swap_wire.specs.Input.{IsOfGeometry};
-ghost use Rattle.swap_local.specs.Device.{new};
-ghost use Rattle.swap_local.specs.Fits.{IsBlank};
-ghost use Rattle.swap_local.specs.State.{KeepsRoom};
-ghost use Rattle.swap_world.specs.World.{IsStep, see_out, see_in, see_step, see_start, see_disk};
+ghost use Rattle.swap_wire.specs.Input.{IsInRange};
+ghost use Rattle.swap_table.specs.Device.{new};
+ghost use Rattle.swap_table.specs.Fits.{IsBlank};
+ghost use Rattle.swap_device.specs.State.{KeepsRoom};
+ghost use Rattle.swap_slabs.specs.declared.TheConstants.{MOST_LENDERS};
+ghost use Rattle.swap_world.specs.World.{IsStep, see_out, see_in, see_step, see_start, see_disk, see_map, see_link, see_gave, see_take};
 ghost use Rattle.swap_world.specs.Runs.{has_effect, event_of, logged_if, logged_polled, IsPolled, one_less_if, HasSpare, GivesPage, GoesOn, StandsIn, GrowsByCalls};
 
 use crate::events::happen;
 use std::alloc::Global;
 use std::marker::Model;
-use swap_base::{DiskWhich, EntryNo, Geometry, NoMemory, Page};
+use swap_base::{DiskWhich, EntryNo, Geometry, Link, NoMemory, Page};
+use swap_device::DeviceCore;
 use swap_disk::DiskPort;
-use swap_local::{DeviceCore, DiskStep, InStep, OutStep, Step};
 use swap_record::ReserveRefused;
-use swap_wire::{Event, Seen};
+use swap_slabs::MOST_LENDERS;
+use swap_table::{DiskStep, InStep, LinkStep, OutStep, Step};
+use swap_wire::{Event, Fabric, Gave, Seen};
 
-/// The machine: a device over its disk, with the log of its events.
+/// The machine: a device over its disk and its lenders' links, with the log of its events.
 #[derive(Drop)]
-pub struct World<D: DiskPort> {
-    device: DeviceCore<D>,
+pub struct World<D: DiskPort, F: Fabric> {
+    device: DeviceCore<D, F>,
     log: Vec<(Event, Seen)>,
 }
 
-impl<D: DiskPort> Model for World<D> {
+impl<D: DiskPort, F: Fabric> Model for World<D, F> {
     ghost use Rattle.std.specs.Prelude.{◌-◌, length, vec_capacity};
     ghost use Rattle.swap_world.specs.Runs.{WorldOf, IsReached};
 
-    ghost Value = { WorldOf D };
+    ghost Value = { WorldOf D F };
 
     ghost view = { λ w. record { core = w.device; log = w.log.items; log_spare = vec_capacity w.log - length w.log.items } };
 
-    ghost invariant = { λ w. IsReached D.means D.moves w.device w.log.items };
+    ghost invariant = { λ w. IsReached D.means D.moves F.of F.moves w.device w.log.items };
 }
 
-impl<D: DiskPort> World<D> {
+impl<D: DiskPort, F: Fabric> World<D, F> {
     /// Makes room for so many more entries and logged events. `TooMany` comes exactly where the history would
     /// pass its limit; nothing but the room changes.
     pub fn reserve(&mut self, calls: u32, events: usize) -> Result<(), ReserveRefused>
         ensures device { self.new.core.device ≡ self.old.core.device }
         ensures disk { self.new.core.disk ≡ self.old.core.disk }
+        ensures fabric { self.new.core.fabric ≡ self.old.core.fabric }
         ensures log { self.new.log ≡ self.old.log }
         ensures spare { OnOk result (self.new.core.spare ≡ max self.old.core.spare calls) }
         ensures log_spare { OnOk result (events ≤ self.new.log_spare) }
@@ -54,16 +58,17 @@ impl<D: DiskPort> World<D> {
     /// Makes one event. A page-out's page is handed in; after a page-in's `Done` the buffer holds the page. An event
     /// with an effect is logged; one without leaves the device as it was.
     pub fn step(&mut self, event: &Event, page: &mut [u8]) -> Seen
-        requires range { IsOfGeometry self.old.core.device.sizes event.now }
+        requires range { IsInRange self.old.core.device.sizes (F.of self.old.core.fabric).lenders event.now }
         requires page { length page.old ≡ self.old.core.device.sizes.page_bytes }
         requires spare { HasSpare self.old.core.device event.now self.old.core.spare }
         requires log_spare { 0 < self.old.log_spare }
-        ensures step { IsStep D.moves self.old.core.device self.old.core.disk (record { event = event.now; page = page.old }) result self.new.core.device self.new.core.disk }
+        ensures step { IsStep D.moves F.moves self.old.core.device self.old.core.disk self.old.core.fabric (record { event = event.now; page = page.old }) result self.new.core.device self.new.core.disk self.new.core.fabric }
         ensures unchanged { has_effect event.now result ≡ false → self.new.core.device ≡ self.old.core.device }
         ensures log { self.new.log ≡ logged_if (has_effect event.now result) self.old.log event.now result }
         ensures log_room { self.new.log_spare ≡ one_less_if (has_effect event.now result) self.old.log_spare }
         ensures room { KeepsRoom self.old.core self.new.core }
         ensures sizes { self.new.core.device.sizes ≡ self.old.core.device.sizes }
+        ensures lenders { F.of self.new.core.fabric ≡ F.of self.old.core.fabric }
         ensures goes_on { GoesOn self.old.core.device.history self.new.core.device.history }
         ensures stands { StandsIn self.new.core.device.history result }
         ensures grows { GrowsByCalls event.now self.old.core.device self.new.core.device }
@@ -81,6 +86,7 @@ impl<D: DiskPort> World<D> {
     pub fn poll_disk(&mut self) -> Seen
         requires log_spare { 0 < self.old.log_spare }
         ensures polled { IsPolled D.moves self.old.core.device self.old.core.disk self.old.log result self.new.core.device self.new.core.disk self.new.log }
+        ensures fabric { self.new.core.fabric ≡ self.old.core.fabric }
         ensures room { KeepsRoom self.old.core self.new.core }
     {
         let _len = self.log.len();
@@ -105,7 +111,7 @@ impl<D: DiskPort> World<D> {
     }
 
     /// The device.
-    pub fn device(&self) -> &DeviceCore<D>
+    pub fn device(&self) -> &DeviceCore<D, F>
         ensures { result.now ≡ self.now.core }
     {
         &self.device
@@ -127,17 +133,33 @@ impl<D: DiskPort> World<D> {
     }
 }
 
-impl<D: DiskPort + Drop> World<D> {
-    /// A world that nothing happened in, over a disk of its geometry that nothing was asked of.
-    pub fn make(alloc: Global, geometry: Geometry, disk: D) -> Result<World<D>, NoMemory>
-        requires { IsBlank geometry (D.means disk) }
-        ensures core { IfOk result (λ w. w.core ≡ record { device = new geometry; disk = disk; spare = 0 }) }
+impl<D: DiskPort + Drop, F: Fabric + Drop> World<D, F> {
+    /// A world that nothing happened in, over a disk of its geometry that nothing was asked of, and a fabric as it is
+    /// made for so many lenders.
+    pub fn make(
+        alloc: Global,
+        geometry: Geometry,
+        lenders: u32,
+        disk: D,
+        fabric: F,
+    ) -> Result<World<D, F>, NoMemory>
+        requires disk { IsBlank geometry (D.means disk) }
+        requires lenders { lenders ≤ MOST_LENDERS }
+        requires fabric { F.fresh fabric (record { sizes = geometry; lenders = lenders }) }
+        ensures core { IfOk result (λ w. w.core ≡ record { device = new geometry; disk = disk; fabric = fabric; spare = 0 }) }
         ensures log { IfOk result (λ w. w.log ≡ []) }
     {
         Ok(World {
-            device: DeviceCore::make(alloc, geometry, disk)?,
+            device: DeviceCore::make(alloc, geometry, lenders, disk, fabric)?,
             log: Vec::new(alloc),
         })
+    }
+
+    /// Gives up the ports, as they are.
+    pub fn ports(self) -> (D, F)
+        ensures { result ≡ (self.core.disk, self.core.fabric) }
+    {
+        self.device.ports()
     }
 }
 
@@ -233,6 +255,59 @@ pub(crate) fn see_disk(step: DiskStep) -> Seen
         DiskStep::Dropped { entry, .. } => Seen::WriteDropped { entry },
         DiskStep::Came { page, .. } => Seen::ReadCame { page },
         DiskStep::Failed { page, .. } => Seen::ReadFailed { page },
+    }
+}
+
+// What is seen of a slab that is to be mapped.
+pub(crate) fn see_map(asked: bool) -> Seen
+    ensures { result ≡ see_map asked }
+{
+    if asked {
+        Seen::Borrowing
+    } else {
+        Seen::Nothing
+    }
+}
+
+// What is seen of a link that is to be made.
+pub(crate) fn see_link(link: Option<Link>) -> Seen
+    ensures { result ≡ see_link link }
+{
+    match link {
+        None => Seen::Nothing,
+        Some(link) => Seen::Linked { link },
+    }
+}
+
+// What is seen of a lender's turn.
+pub(crate) fn see_gave(gave: Gave) -> Seen
+    ensures { result ≡ see_gave gave }
+{
+    match gave {
+        Gave::Nothing => Seen::Nothing,
+        Gave::End => Seen::GaveEnd,
+        Gave::Got {
+            msg,
+            reply,
+            evicted,
+        } => Seen::Gave {
+            msg,
+            reply,
+            evicted,
+        },
+        Gave::Ended { msg } => Seen::GaveEnded { msg },
+    }
+}
+
+// What is seen of what a link brought.
+pub(crate) fn see_take(step: LinkStep) -> Seen
+    ensures { result ≡ see_take step }
+{
+    match step {
+        LinkStep::Nothing => Seen::Nothing,
+        LinkStep::Got(msg) => Seen::Took { msg },
+        LinkStep::Lost => Seen::Lost,
+        LinkStep::Lied => Seen::Lied,
     }
 }
 

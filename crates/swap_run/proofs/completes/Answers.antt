@@ -1,10 +1,10 @@
 -- Each other ending is ruled out by its cause.
 use Rattle.std.proofs.Common.{◌≡◌, ℕ, ◌+◌, ◌≤◌, ◌⊎◌, List, ◌++◌, length, refl, sym, ap, ◌∙◌, subst, inl, inr, arith, length-append, append-nil, Option, None, Some, Ok, Err}
 use Rattle.swap_io.specs.Causes.{WasRead, WasReadWhole}
-use Rattle.swap_plain.specs.declared.ScriptRefused.{ScriptRefused}
-use Rattle.swap_plain.specs.Reading.{script}
-use Rattle.swap_plain.specs.Reading as reading
-use Rattle.swap_plain.specs.declared.TheConstants.{TEXT_LIMIT}
+use Rattle.swap_script.specs.declared.ScriptRefused.{ScriptRefused}
+use Rattle.swap_script.specs.Reading.{script}
+use Rattle.swap_script.specs.Reading as reading
+use Rattle.swap_script.specs.declared.TheConstants.{TEXT_LIMIT}
 use Rattle.swap_run.specs.declared.Ending.{Ending}
 use Rattle.swap_run.specs.declared.Ending.TheVariants as ending
 use Rattle.swap_run.specs.Clause.{Stream, RunScript, Ends, Failed}

@@ -11,6 +11,10 @@ pub returns-clause-disk : goal.returns-clause-disk
 unfolding digits
 returns-clause-disk c = (refl, refl, refl, refl, refl, refl, refl, refl)
 
+pub returns-clause-lender : goal.returns-clause-lender
+unfolding digits
+returns-clause-lender c = (refl, refl, refl)
+
 pub returns-clause-refused : goal.returns-clause-refused
 unfolding digits
 returns-clause-refused c = (refl, refl, refl, refl, refl, refl)

@@ -5,4 +5,4 @@ use Rattle.swap_world.specs.World.{start, reach, made_by}
 use Rattle.swap_world.proofs.each_call_once.Goals as goal
 
 pub returns : goal.returns
-returns x = λ s is c within range. answered_once c (reach (start s) is).device (made_by [] (start s) is) (reach_once s c (start s) is [] within range (starts_sound s) (starts_once s c))
+returns x = λ s specs is c within few inputs. answered_once c (reach (start s specs) is).device (made_by [] (start s specs) is) (reach_once s specs c (start s specs) is [] within inputs (starts_sound s specs few) (starts_once s c))

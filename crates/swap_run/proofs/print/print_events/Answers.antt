@@ -1,5 +1,5 @@
 use Rattle.std.proofs.Common.{arith, ap, sym, ◌∙◌}
-use Rattle.swap_plain.specs.Transcript.{line}
+use Rattle.swap_script.specs.Transcript.{line}
 use Rattle.swap_run.proofs.Printed.{printed_more, printed_broke, any_err}
 use Rattle.swap_run.proofs.print.print_events.Goals as goal
 
@@ -10,6 +10,7 @@ events-preserved g c = record {
       (record {
         step = c.step-seen.ensures.step;
         sizes = c.step-seen.ensures.sizes;
+        of = c.step-seen.ensures.lenders;
         keeps = c.step-seen.ensures.room;
         grows = c.step-seen.ensures.grows;
         log = c.step-seen.ensures.log_room;
@@ -29,6 +30,7 @@ returns-in_err-write_line-clause-err g c =
     (record {
       step = c.step-seen.ensures.step;
       sizes = c.step-seen.ensures.sizes;
+      of = c.step-seen.ensures.lenders;
       keeps = c.step-seen.ensures.room;
       grows = c.step-seen.ensures.grows;
       log = c.step-seen.ensures.log_room;

@@ -1,4 +1,0 @@
-pub mod Ports
-pub mod Device
-pub mod Fits
-pub mod State

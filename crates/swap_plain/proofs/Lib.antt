@@ -1,5 +1,0 @@
-pub mod Patterns
-pub mod Pieces
-pub mod Read
-pub mod Sized
-pub mod Spaced
