@@ -27,7 +27,7 @@ use Rattle.swap_table.specs.Fits.{KeepsNewest, WaitsFor, IsExpected, IsFair, Fit
 use Rattle.swap_table.specs.Serves.{Keeping, Owing, WaitsFrom, IsContent, Serves}
 use Rattle.swap_table.proofs.Lists.{All-set, All-get_or, All-map, All-implies, or_false, by_page, by_caller, not_eqb}
 use Rattle.swap_table.proofs.Agree.{IdleFor, call_agrees, get_or-map_idle, state-paged_out}
-use Rattle.swap_table.proofs.Entries.{out_on}
+use Rattle.swap_table.proofs.Entries.{out_on, last_bytes}
 use Rattle.swap_table.proofs.Shifts.{IsShift, PageStays, shifted_serves}
 
 -- lenders and links don't matter to the disk
@@ -62,18 +62,18 @@ waits_not l p r (Room q since) w f = f
 waits_not l p r (Reading q n via.Disk how newer since) w f = w
 waits_not l p r (Reading q n (via.Lender m) how newer since) w f = f
 
-fair_brought : (T : Bool) (A : List ℕ → List ℕ → Type 0) (N : ℕ) (z : List ℕ) (H : History) (q : Queue) (l : Lender) (p : Page) (page bytes : List ℕ) (call : Call) (state : CallState) → WaitsFrom l p state → A page bytes → IsContent (array z H p) page p state → IsFair T A N z H q call.bytes state
+fair_brought : (T : Bool) (A : List ℕ → List ℕ → Type 0) (N reads : ℕ) (z : List ℕ) (H : History) (q : Queue) (l : Lender) (p : Page) (page bytes : List ℕ) (call : Call) (state : CallState) → WaitsFrom l p state → A page bytes → IsContent H page p state → KeepsNewest H reads state → IsFair T A N z H q call.bytes state
     → let after : Call = calls.arrives arrived.Came bytes call state in IsFair T A N z H q after.bytes after.state
-fair_brought T A N z H q l p page bytes call Idle w answers content h = absurd w
-fair_brought T A N z H q l p page bytes call (Room r since) w answers content h = absurd w
-fair_brought T A N z H q l p page bytes call (Reading r n via.Disk how newer since) w answers content h = absurd w
-fair_brought T A N z H q l p page bytes call (Reading r n (via.Lender m) arrived.Came newer since) w answers content h = absurd w
-fair_brought T A N z H q l p page bytes call (Reading r n (via.Lender m) arrived.Failed newer since) w answers content h = absurd w
-fair_brought T A N z H q l p page bytes call (Reading r n (via.Lender m) arrived.Lost newer since) w answers content h = absurd w
-fair_brought T A N z H q l p page bytes call (Reading r n (via.Lender m) arrived.Waiting newer since) w answers content h =
-    (h.0, λ e. subst (λ n. A (array z H (record { 0 = n })) bytes) (sym w.0) (subst (λ x. A x bytes) (content e) answers))
+fair_brought T A N reads z H q l p page bytes call Idle w answers content kept h = absurd w
+fair_brought T A N reads z H q l p page bytes call (Room r since) w answers content kept h = absurd w
+fair_brought T A N reads z H q l p page bytes call (Reading r n via.Disk how newer since) w answers content kept h = absurd w
+fair_brought T A N reads z H q l p page bytes call (Reading r n (via.Lender m) arrived.Came newer since) w answers content kept h = absurd w
+fair_brought T A N reads z H q l p page bytes call (Reading r n (via.Lender m) arrived.Failed newer since) w answers content kept h = absurd w
+fair_brought T A N reads z H q l p page bytes call (Reading r n (via.Lender m) arrived.Lost newer since) w answers content kept h = absurd w
+fair_brought T A N reads z H q l p page bytes call (Reading r n (via.Lender m) arrived.Waiting newer since) w answers content kept h =
+    (h.0, λ e. subst (λ x. A x bytes) (content.1 ∙ last_bytes z H r n (kept.0 e)) answers)
 
-pub brought_disk : (T : Bool) (A : List ℕ → List ℕ → Type 0) (d : Device) (p : Port) (l : Lender) (c : Caller) (pg : Page) (page bytes : List ℕ) (r : Remote) → FitsDisk T A d p → WaitsFrom l pg (state_of d.calls c) → A page bytes → IsContent (array (zeros d.sizes) d.history pg) page pg (state_of d.calls c)
+pub brought_disk : (T : Bool) (A : List ℕ → List ℕ → Type 0) (d : Device) (p : Port) (l : Lender) (c : Caller) (pg : Page) (page bytes : List ℕ) (r : Remote) → FitsDisk T A d p → WaitsFrom l pg (state_of d.calls c) → A page bytes → IsContent d.history page pg (state_of d.calls c)
     → FitsDisk T A (record d { remote = r; calls = calls.came d.calls c bytes }) p
 brought_disk T A d p l c pg page bytes r k waits answers content =
     let here : KeepsNewest d.history d.failed_reads (state_of d.calls c) = All-get_or (λ (call : Call). KeepsNewest d.history d.failed_reads call.state) d.calls c.0 calls.idle k.in_order.calls tt in
@@ -87,7 +87,7 @@ brought_disk T A d p l c pg page bytes r k waits answers content =
           };
       agrees =
           call_agrees T A _ _ (zeros d.sizes) d.history d.queue p.blocks p.flights p.finished d.calls c (calls.arrives arrived.Came bytes (call_of d.calls c) (state_of d.calls c)) k.agrees (λ x f. waits_not l pg x (state_of d.calls c) waits f)
-          (fair_brought T A (pages_of d.sizes) (zeros d.sizes) d.history d.queue l pg page bytes (call_of d.calls c) (state_of d.calls c) waits answers content fair);
+          (fair_brought T A (pages_of d.sizes) d.failed_reads (zeros d.sizes) d.history d.queue l pg page bytes (call_of d.calls c) (state_of d.calls c) waits answers content here fair);
     }
 
 -- the calls that waited through a lender are lost
@@ -173,22 +173,21 @@ waits_newer l q p (Reading r n (via.Lender m) arrived.Lost newer since) w = absu
 array-other : (z : List ℕ) (H : History) (c : Caller) (p q : Page) (bytes : List ℕ) → (q.0 ≡ p.0 → ⊥) → array z (pushed H c p op.PageOut bytes) q ≡ array z H q
 array-other z H c p q bytes other = ap (λ b. cond b bytes (array z H q)) (not_eqb p.0 q.0 (λ e. other (sym e)))
 
-last-other : (H : History) (c : Caller) (p q : Page) (bytes : List ℕ) → (q.0 ≡ p.0 → ⊥) → last (pushed H c p op.PageOut bytes) q ≡ last H q
+pub last-other : (H : History) (c : Caller) (p q : Page) (bytes : List ℕ) → (q.0 ≡ p.0 → ⊥) → last (pushed H c p op.PageOut bytes) q ≡ last H q
 last-other H c p q bytes other = ap (λ b. cond b (Some (next_name H)) (last H q)) (not_eqb p.0 q.0 (λ e. other (sym e)))
 
-content_newer : (z : List ℕ) (H : History) (c : Caller) (p : Page) (bytes : List ℕ) (l : Lender) (q : Page) (page : List ℕ) (state : CallState) → WaitsFrom l q state → IsContent (array z H q) page q state → IsContent (array z (pushed H c p op.PageOut bytes) q) page q (calls.newer_if_reads p state)
-content_newer z H c p bytes l q page Idle w h = h
-content_newer z H c p bytes l q page (Room r since) w h = h
-content_newer z H c p bytes l q page (Reading r n via.Disk how newer since) w h = absurd w
-content_newer z H c p bytes l q page (Reading r n (via.Lender m) arrived.Came newer since) w h = absurd w
-content_newer z H c p bytes l q page (Reading r n (via.Lender m) arrived.Failed newer since) w h = absurd w
-content_newer z H c p bytes l q page (Reading r n (via.Lender m) arrived.Lost newer since) w h = absurd w
-content_newer z H c p bytes l q page (Reading r n (via.Lender m) arrived.Waiting newer since) w h = λ not_newer.
-    let parts = or_false newer (p.0 == r.0) not_newer in
-    let other : q.0 ≡ p.0 → ⊥ = λ e. eqb-false p.0 r.0 parts.1 (sym (w.0 ∙ e)) in h parts.0 ∙ sym (array-other z H c p q bytes other)
+content_on : (H : History) (row : Row) (q : Page) (page : List ℕ) (state : CallState) → IsContent H page q state → IsContent (row ∷ H) page q state
+content_on H row q page Idle h = h
+content_on H row q page (Room r since) h = h
+content_on H row q page (Reading r n v how newer since) h = let on = out_on H row q n h.0 in (on.0, h.1 ∙ sym on.1)
 
-enter_shift : (z : List ℕ) (H : History) (cs : Calls) (c : Caller) (p : Page) (bytes : List ℕ) → ((m : Lender) (q : Page) → WaitsFrom m q (state_of cs c) → ⊥) → IsShift z H (pushed H c p op.PageOut bytes) cs (calls.ended (calls.paged_out cs p) c)
-enter_shift z H cs c p bytes idles = record {
+content_newer : (H : History) (p q : Page) (page : List ℕ) (state : CallState) → IsContent H page q state → IsContent H page q (calls.newer_if_reads p state)
+content_newer H p q page Idle h = h
+content_newer H p q page (Room r since) h = h
+content_newer H p q page (Reading r n v how newer since) h = h
+
+enter_shift : (H : History) (cs : Calls) (c : Caller) (p : Page) (bytes : List ℕ) → ((m : Lender) (q : Page) → WaitsFrom m q (state_of cs c) → ⊥) → IsShift H (pushed H c p op.PageOut bytes) cs (calls.ended (calls.paged_out cs p) c)
+enter_shift H cs c p bytes idles = record {
   entries = λ q e out. out_on H (row_of H c p op.PageOut bytes) q e out;
   waits =
       λ l d q w.
@@ -196,10 +195,10 @@ enter_shift z H cs c p bytes idles = record {
       (λ other w. let P : CallState → Type 0 = λ x. WaitsFrom l q x in subst P (sym (call-ended (calls.paged_out cs p) c d other ∙ state-paged_out cs p d)) (waits_newer l q p (state_of cs d) w)) w;
   owed =
       λ l d q page w h.
-      by_caller (λ d. WaitsFrom l q (state_of cs d) → IsContent (array z H q) page q (state_of cs d) → IsContent (array z (pushed H c p op.PageOut bytes) q) page q (state_of (calls.ended (calls.paged_out cs p) c) d)) c d (λ w h. absurd (idles l q w))
+      by_caller (λ d. WaitsFrom l q (state_of cs d) → IsContent H page q (state_of cs d) → IsContent (pushed H c p op.PageOut bytes) page q (state_of (calls.ended (calls.paged_out cs p) c) d)) c d (λ w h. absurd (idles l q w))
       (λ other w h.
-      let P : CallState → Type 0 = λ x. IsContent (array z (pushed H c p op.PageOut bytes) q) page q x in
-      subst P (sym (call-ended (calls.paged_out cs p) c d other ∙ state-paged_out cs p d)) (content_newer z H c p bytes l q page (state_of cs d) w h)) w h;
+      let P : CallState → Type 0 = λ x. IsContent (pushed H c p op.PageOut bytes) page q x in
+      subst P (sym (call-ended (calls.paged_out cs p) c d other ∙ state-paged_out cs p d)) (content_newer (pushed H c p op.PageOut bytes) p q page (state_of cs d) (content_on H (row_of H c p op.PageOut bytes) q page (state_of cs d) h))) w h;
 }
 
 pub cleared_here : (bits : List Bool) (i : ℕ) → get_or (set bits i false) i false ≡ false
@@ -212,7 +211,7 @@ pub enter_serves : (keeps : Keeping) (owes : Owing) (n : ℕ) (d : Device) (c : 
 enter_serves keeps owes n d c p bytes idles k =
     let H' : History = pushed d.history c p op.PageOut bytes in
     let z : List ℕ = zeros d.sizes in
-    shifted_serves keeps owes d.sizes n d.history H' d.calls (calls.ended (calls.paged_out d.calls p) c) d.remote (without_number d.remote.bits p.0) (enter_shift z d.history d.calls c p bytes idles) (length-set (calls.paged_out d.calls p) c.0 calls.idle ∙ length-map d.calls _) (length-set d.remote.bits p.0 false)
+    shifted_serves keeps owes d.sizes n d.history H' d.calls (calls.ended (calls.paged_out d.calls p) c) d.remote (without_number d.remote.bits p.0) (enter_shift d.history d.calls c p bytes idles) (length-set (calls.paged_out d.calls p) c.0 calls.idle ∙ length-map d.calls _) (length-set d.remote.bits p.0 false)
     (λ q within.
     by_page (λ q. PageStays z d.history H' q (has_page d.remote q) (has (without_number d.remote.bits p.0) q.0)) p q
     (record { clear = λ _. cleared_here d.remote.bits p.0; set = λ is. absurd (both (cleared_here d.remote.bits p.0) is) })
@@ -224,24 +223,24 @@ enter_serves keeps owes n d c p bytes idles k =
     both a b = cc
 
 -- an entry that is no page-out
-in_shift : (z : List ℕ) (H : History) (row : Row) (cs : Calls) (c : Caller) → ((m : Lender) (q : Page) → WaitsFrom m q (state_of cs c) → ⊥) → ((q : Page) → array z (row ∷ H) q ≡ array z H q) → IsShift z H (row ∷ H) cs (calls.ended cs c)
-in_shift z H row cs c idles same = record {
+in_shift : (H : History) (row : Row) (cs : Calls) (c : Caller) → ((m : Lender) (q : Page) → WaitsFrom m q (state_of cs c) → ⊥) → IsShift H (row ∷ H) cs (calls.ended cs c)
+in_shift H row cs c idles = record {
   entries = λ q e out. out_on H row q e out;
   waits =
       λ l d q w.
       by_caller (λ d. WaitsFrom l q (state_of cs d) → WaitsFrom l q (state_of (calls.ended cs c) d)) c d (λ w. absurd (idles l q w)) (λ other w. let P : CallState → Type 0 = λ x. WaitsFrom l q x in subst P (sym (call-ended cs c d other)) w) w;
   owed =
       λ l d q page w h.
-      by_caller (λ d. WaitsFrom l q (state_of cs d) → IsContent (array z H q) page q (state_of cs d) → IsContent (array z (row ∷ H) q) page q (state_of (calls.ended cs c) d)) c d (λ w h. absurd (idles l q w))
+      by_caller (λ d. WaitsFrom l q (state_of cs d) → IsContent H page q (state_of cs d) → IsContent (row ∷ H) page q (state_of (calls.ended cs c) d)) c d (λ w h. absurd (idles l q w))
       (λ other w h.
-      let P : CallState → Type 0 = λ x. IsContent (array z (row ∷ H) q) page q x in
-      let Q : List ℕ → Type 0 = λ x. IsContent x page q (state_of cs d) in subst P (sym (call-ended cs c d other)) (subst Q (sym (same q)) h)) w h;
+      let P : CallState → Type 0 = λ x. IsContent (row ∷ H) page q x in
+      subst P (sym (call-ended cs c d other)) (content_on H row q page (state_of cs d) h)) w h;
 }
 
 in_serves : (keeps : Keeping) (owes : Owing) (n : ℕ) (d : Device) (c : Caller) (row : Row) → ((m : Lender) (q : Page) → WaitsFrom m q (state_of d.calls c) → ⊥) → ((q : Page) → array (zeros d.sizes) (row ∷ d.history) q ≡ array (zeros d.sizes) d.history q) → ((q : Page) → last (row ∷ d.history) q ≡ last d.history q)
     → Serves keeps owes d.sizes n d.history d.calls d.remote → Serves keeps owes d.sizes n (row ∷ d.history) (calls.ended d.calls c) d.remote
 in_serves keeps owes n d c row idles array_same last_same k =
-    shifted_serves keeps owes d.sizes n d.history (row ∷ d.history) d.calls (calls.ended d.calls c) d.remote d.remote.bits (in_shift (zeros d.sizes) d.history row d.calls c idles array_same) (length-set d.calls c.0 calls.idle) refl
+    shifted_serves keeps owes d.sizes n d.history (row ∷ d.history) d.calls (calls.ended d.calls c) d.remote d.remote.bits (in_shift d.history row d.calls c idles) (length-set d.calls c.0 calls.idle) refl
     (λ q within. record { clear = λ is. is; set = λ is. (is, last_same q, array_same q) }) k
 
 pub give_serves : (keeps : Keeping) (owes : Owing) (n : ℕ) (d : Device) (c : Caller) (p : Page) (named : Option EntryNo) (from : Origin) (bytes : List ℕ) → ((m : Lender) (q : Page) → WaitsFrom m q (state_of d.calls c) → ⊥) → Serves keeps owes d.sizes n d.history d.calls d.remote

@@ -1,57 +1,92 @@
--- The laws of the calls, from what any disk and any fabric promise.
-use Rattle.std.proofs.Common.{◌≡◌, ℕ, Bool, true, List, refl}
-use Rattle.swap_base.specs.declared.Caller.{Caller}
-use Rattle.swap_base.specs.Sizes.{Sizes}
-use Rattle.swap_disk.specs.Port.{Port, DiskCall, DiskAnswer, Follows}
-use Rattle.swap_wire.specs.Fabric.{FabricCall, FabricAnswer, FabricOf}
-use Rattle.swap_calls.specs.Calls.{Calls, state_of, is_idle}
-use Rattle.swap_calls.specs.declared.CallState.{CallState}
-use Rattle.swap_calls.specs.declared.CallState.TheVariants.{Idle, Room, Reading}
+-- So each call of the device, and each event, keeps what device and ports agree on.
+use Rattle.std.proofs.Common.{◌≡◌, ℕ, refl, sym, ◌∙◌, subst, List, [], Bool, true}
+use Rattle.swap_base.specs.declared.Lender.{Lender}
+use Rattle.swap_base.specs.declared.DiskWhich.TheVariants as which
+use Rattle.swap_disk.specs.declared.port.DiskPort.{Ghosts as DiskMeaning}
+use Rattle.swap_wire.specs.declared.fabric.Fabric.{Ghosts as FabricMeaning}
+use Rattle.swap_wire.specs.Input.{IsInRange}
+use Rattle.swap_wire.specs.declared.Event.{Event}
+use Rattle.swap_wire.specs.declared.Event.TheVariants as event
+use Rattle.swap_wire.specs.declared.Seen.{Seen}
 use Rattle.swap_table.specs.Ports.{Prog}
-use Rattle.swap_table.specs.Device as device
-use Rattle.swap_table.specs.Device.{Device}
-use Rattle.swap_table.specs.Serves.{Keeping, Owing}
-use Rattle.swap_table.specs.Fabrics.{Promises}
+use Rattle.swap_table.specs.Device.{Device, of_device}
+use Rattle.swap_table.specs.Happens.{happens}
+use Rattle.swap_table.specs.Goes.{Goes, EachKeeps}
+use Rattle.swap_table.specs.Moves.{Within, of_sizes, Speaker, quiet, Move}
+use Rattle.swap_table.specs.Promises.{FollowsItsMoves, Promises}
 use Rattle.swap_table.specs.Laws.{AgreeWith, AgreesAfter, EachCallKeeps, NewAgrees}
 use Rattle.swap_table.proofs.Programs.{Leads-implies}
-use Rattle.swap_table.proofs.Calls as calls_of
-use Rattle.swap_table.proofs.Calls.{WaitsForNone, waits_none}
+use Rattle.swap_table.proofs.Going.{Goes-leads, Goes-implies, beside}
+use Rattle.swap_table.proofs.Walks as walk
+use Rattle.swap_table.proofs.Comings.{Hands, names_there}
+use Rattle.swap_table.proofs.Keeps as keep
+use Rattle.swap_table.proofs.Accounting as accounting
+use Rattle.swap_table.proofs.Accounting.{new_accounts}
 use Rattle.swap_table.proofs.New.{new_fits}
 use Rattle.swap_table.proofs.Losses.{new_serves}
 
--- an idle caller waits for nothing
-pub idle_waits : (cs : Calls) (c : Caller) → is_idle (state_of cs c) ≡ true → WaitsForNone cs c
-idle_waits cs c e = go (state_of cs c) refl e
-  where
-    go : (state : CallState) → state_of cs c ≡ state → is_idle state ≡ true → WaitsForNone cs c
-    go Idle is e = waits_none cs c Idle is ((λ r w. w), (λ m q w. w))
-    go (Room p since) is e = cc
-    go (Reading p n v how newer since) is e = cc
+-- any lender's far side may be moved
+abbrev pub anyone : Lender → Type 0
+anyone l = Unit {0}
 
-module _ {D F : Type 0} (means : D → Port) (disk_moves : D → (c : DiskCall) → DiskAnswer c → D → Type 0) (follows : (d : D) (c : DiskCall) (answer : DiskAnswer c) (e : D) → disk_moves d c answer e → Follows (means d) c answer (means e))
-    (of : F → FabricOf) (moves : F → (c : FabricCall) → FabricAnswer c → F → Type 0) (keeps : F → Keeping) (owes : F → Owing) (answers : List ℕ → List ℕ → Type 0) (laws : Promises of moves keeps owes answers) where
-  kept_agrees : {R : Type 0} (told : Bool) (o : FabricOf) (s : Sizes) (a : Device × R) (e : D) (g : F) → calls_of.IsKept means disk_moves follows of moves keeps owes answers laws told o s a e g → AgreeWith means disk_moves of moves keeps owes answers told o a.0 e g × (a.0.sizes ≡ s)
-  kept_agrees told o s a e g h = ((h.0, h.2), h.1)
+-- any page may be handed in
+abbrev pub any : List ℕ → Type 0
+any page = Unit {0}
 
-  after : {R : Type 0} (told : Bool) (o : FabricOf) (p : Prog (Device × R)) (d : Device) (disk : D) (f : F) → calls_of.Keeps means disk_moves follows of moves keeps owes answers laws told o p d disk f → AgreesAfter means disk_moves of moves keeps owes answers told o p d disk f
-  after told o p d disk f k = Leads-implies disk_moves moves p disk f _ _ (λ a e g h. kept_agrees told o d.sizes a e g h) k
+pub hands_any : (page : List ℕ) (e : Event) → Hands anyone any page e
+hands_any page (event.PageOut c p) = tt
+hands_any page (event.Give l) = tt
+hands_any page e = tt
 
-  pub each_call_keeps : EachCallKeeps means disk_moves of moves keeps owes answers
+-- what there is for a device
+abbrev pub there : Device → Within
+there d = of_sizes d.sizes d.lenders anyone any
+
+module _ {D F : Type 0} (disk : DiskMeaning D) (follows : FollowsItsMoves disk) (fabric : FabricMeaning F) (laws : Promises fabric) where
+  -- what goes by moves and leaves the device quiet keeps it
+  pub goes_keep : {R : Type 0} (T : Bool) (d : Device) (p : Prog (Device × R)) (k : D) (f : F) → Goes (Move (there d)) (λ (a : Device × R) s. s ≡ quiet a.0) (quiet d) p → AgreeWith disk fabric T d k f → AgreesAfter disk fabric T p d k f
+  goes_keep {R} T d p k f g h =
+      let first : Agrees (quiet d) k f × Accounted (quiet d) k f = (record { fits = record { disk = h.0.disk; serves = h.0.serves }; is = refl; of_f = h.1 }, h.0.accounts) in
+      Leads-implies disk.moves fabric.moves p k f _ _ then_kept (Goes-leads (Move (there d)) disk.moves fabric.moves (λ s k f. Agrees s k f × Accounted s k f) each (λ (a : Device × R) s. s ≡ quiet a.0) k f g first)
+    where
+      Agrees : Speaker → D → F → Type 0
+      Agrees = keep.Agrees disk follows fabric laws T (of_device d) anyone any
+
+      Accounted : Speaker → D → F → Type 0
+      Accounted s k f = accounting.AccountsOf disk follows fabric laws T (of_device d) anyone any s.device k
+
+      each : EachKeeps disk.moves fabric.moves (Move (there d)) (λ s k f. Agrees s k f × Accounted s k f)
+      each = beside (Move (there d)) disk.moves fabric.moves Agrees Accounted (keep.each_keeps disk follows fabric laws T (of_device d) anyone any) (accounting.each_accounts disk follows fabric laws T (of_device d) anyone any)
+
+      then_kept : (a : Device × R) (k : D) (f : F) → ((s : Speaker) × (s ≡ quiet a.0) × (Agrees s k f × Accounted s k f)) → AgreeWith disk fabric T a.0 k f × (of_device a.0 ≡ of_device d)
+      then_kept a k f (s, is, (agree, accounted)) =
+          let now : Agrees (quiet a.0) k f = subst (λ x. Agrees x k f) is agree in
+          let then : Accounted (quiet a.0) k f = subst (λ x. Accounted x k f) is accounted in
+          ((record { disk = now.fits.disk; serves = now.fits.serves; accounts = then }, now.of_f ∙ sym now.is), now.is)
+
+  pub fares_keep : {R : Type 0} (T : Bool) (d : Device) (page : List ℕ) (e : Event) (see : R → Seen) (p : Prog (Device × R)) (k : D) (f : F) → walk.Fares (there d) d page e see d p → AgreeWith disk fabric T d k f → AgreesAfter disk fabric T p d k f
+  fares_keep T d page e see p k f g h = goes_keep T d p k f (Goes-implies (Move (there d)) _ _ (λ a s q. q.0) g) h
+
+  pub each_call_keeps : EachCallKeeps disk fabric
   each_call_keeps = record {
-    out = λ told o d disk f c p bytes k idle within. after told o (device.out d c p bytes) d disk f (calls_of.out_kept means disk_moves follows of moves keeps owes answers laws told o d disk f c p bytes k.0 k.1 (idle_waits d.calls c idle) within);
-    read = λ told o d disk f c p k idle caller within. after told o (device.read d c p) d disk f (calls_of.route_kept means disk_moves follows of moves keeps owes answers laws told o d disk f c p k.0 k.1 (idle_waits d.calls c idle) caller within);
-    finish = λ told o d disk f c k caller. after told o (device.finish d c) d disk f (calls_of.finish_kept means disk_moves follows of moves keeps owes answers laws told o d disk f c k.0 k.1 caller);
-    disk_start = λ told o d disk f k. after told o (device.disk_start d) d disk f (calls_of.disk_start_kept means disk_moves follows of moves keeps owes answers laws told o d disk f k.0 k.1);
-    disk_take = λ told o d disk f k. after told o (device.disk_take d) d disk f (calls_of.disk_take_kept means disk_moves follows of moves keeps owes answers laws told o d disk f k.0 k.1);
-    disk_finish = λ told o d disk f w ok k. after told o (device.disk_finish d w ok) d disk f (calls_of.disk_finish_kept means disk_moves follows of moves keeps owes answers laws told o d disk f w ok k.0 k.1);
-    link_take = λ told o d disk f l k. after told o (device.link_take d l) d disk f (calls_of.link_take_kept means disk_moves follows of moves keeps owes answers laws told o d disk f l k.0 k.1);
-    map = λ told o d disk f slab l k within. after told o (device.map d slab l) d disk f (calls_of.map_kept means disk_moves follows of moves keeps owes answers laws told o d disk f slab l k.0 k.1 within);
-    connect = λ told o d disk f l k within. after told o (device.connect d l) d disk f (calls_of.connect_kept means disk_moves follows of moves keeps owes answers laws told o d disk f l k.0 k.1 within);
-    give = λ told o d disk f l k. after told o (device.give_to d l) d disk f (calls_of.give_to_kept means disk_moves follows of moves keeps owes answers laws told o d disk f l k.0 k.1);
-    cut = λ told o d disk f l a b k. after told o (device.cut d l a b) d disk f (calls_of.cut_kept means disk_moves follows of moves keeps owes answers laws told o d disk f l a b k.0 k.1);
-    crash = λ told o d disk f l k. after told o (device.crash d l) d disk f (calls_of.crash_kept means disk_moves follows of moves keeps owes answers laws told o d disk f l k.0 k.1);
-    host = λ told o d disk f l used word k. after told o (device.host d l used word) d disk f (calls_of.host_kept means disk_moves follows of moves keeps owes answers laws told o d disk f l used word k.0 k.1);
+    out = λ T d k f c p bytes h idle within. fares_keep T d bytes _ _ _ k f (walk.out_fares (there d) d bytes c p idle within tt) h;
+    read = λ T d k f c p h idle caller within. fares_keep T d [] _ _ _ k f (walk.read_in_fares (there d) d [] c p idle caller within) h;
+    finish = λ T d k f c h caller. fares_keep T d [] _ _ _ k f (walk.finish_fares (there d) d [] c caller) h;
+    disk_start = λ T d k f h. fares_keep T d [] _ _ _ k f (walk.disk_start_fares (there d) d []) h;
+    disk_take = λ T d k f h. fares_keep T d [] _ _ _ k f (walk.disk_take_fares (there d) d [] (which.Write (record { 0 = 0 })) true) h;
+    disk_finish = λ T d k f w ok h. goes_keep T d _ k f (walk.disk_finish_goes (there d) d [] w ok) h;
+    link_take = λ T d k f l h. fares_keep T d [] _ _ _ k f (walk.link_take_fares (there d) d [] l) h;
+    map = λ T d k f t l h within. fares_keep T d [] _ _ _ k f (walk.map_fares (there d) d [] t l within) h;
+    connect = λ T d k f l h within. fares_keep T d [] _ _ _ k f (walk.connect_fares (there d) d [] l within) h;
+    give = λ T d k f l h. fares_keep T d [] _ _ _ k f (walk.give_fares (there d) d [] l tt) h;
+    cut = λ T d k f l a b h. goes_keep T d _ k f (walk.cut_goes (there d) d [] l a b tt) h;
+    crash = λ T d k f l h. goes_keep T d _ k f (walk.crash_goes (there d) d [] l tt) h;
+    host = λ T d k f l used word h. goes_keep T d _ k f (walk.host_goes (there d) d [] l used word tt) h;
   }
 
-  pub new_agrees : NewAgrees means disk_moves of moves keeps owes answers
-  new_agrees s o disk f blank is few = (record { disk = new_fits answers s (means disk) blank; serves = new_serves (keeps f) (owes f) s o.lenders few }, is)
+  pub new_agrees : NewAgrees disk fabric
+  new_agrees s n k f blank is few = (record { disk = new_fits fabric.answers s n (disk.means k) blank; serves = new_serves (fabric.keeps f) (fabric.owes f) s n few; accounts = new_accounts fabric.answers s n (disk.means k).flights }, is)
+
+  -- an event
+  pub happens_kept : (T : Bool) (d : Device) (k : D) (f : F) (page : List ℕ) (e : Event) → AgreeWith disk fabric T d k f → IsInRange d.sizes d.lenders e → AgreesAfter disk fabric T (happens d page e) d k f
+  happens_kept T d k f page e h range = fares_keep T d page e _ _ k f (walk.happens_fares (there d) d page e (names_there d.sizes d.lenders anyone any d page e range (hands_any page e))) h

@@ -35,6 +35,15 @@ last_within (row ∷ H) p e is = go (is_out_of p row) is (last_within H p e)
     go true is rest = let same : next_name H ≡ e = cc in subst (λ (x : EntryNo). x.0 < length (row ∷ H)) same (omega arith)
     go false is rest = let less = rest is in omega (arith, less)
 
+-- and is a page-out of it
+pub last_out : (H : History) (p : Page) (e : EntryNo) → last H p ≡ Some e → IsOut H p e
+last_out [] p e is = cc
+last_out (row ∷ H) p e is = go (is_out_of p row) refl is (last_out H p e)
+  where
+    go : (b : Bool) → is_out_of p row ≡ b → cond b (Some (next_name H)) (last H p) ≡ Some e → (last H p ≡ Some e → IsOut H p e) → IsOut (row ∷ H) p e
+    go true out is rest = let same : next_name H ≡ e = cc in subst (λ (x : EntryNo). IsOut (row ∷ H) p x) same (subst (λ o. IsOutIn p o) (sym (named_last H row)) out)
+    go false out is rest = (out_on H row p e (rest is)).0
+
 -- the last page-out of a page has its content
 pub last_bytes : (z : List ℕ) (H : History) (p : Page) (e : EntryNo) → last H p ≡ Some e → bytes_of H e ≡ array z H p
 last_bytes z [] p e is = cc

@@ -14,6 +14,7 @@ use Rattle.swap_record.specs.History.{History, array, last, is_out_of, is_zero, 
 use Rattle.swap_queue.specs.Queue as queue
 use Rattle.swap_queue.specs.Queue.{Queue, Places, Copy, places_of, newest, next, flying, first_of}
 use Rattle.swap_disk.specs.declared.DiskDone.{DiskDone}
+use Rattle.swap_wire.specs.Fabric.{FabricOf}
 use Rattle.swap_disk.specs.Disk.{Flight, Write, Read, Finished, Taken, which_of, page_of, is_flight_of, without}
 use Rattle.swap_disk.specs.Port.{Port, Takes, TakesTold, LetsFinish, started, kept_by}
 use Rattle.swap_calls.specs.Calls as calls
@@ -22,7 +23,7 @@ use Rattle.swap_calls.specs.declared.Arrived.{Arrived}
 use Rattle.swap_calls.specs.declared.Arrived.TheVariants as arrived
 use Rattle.swap_calls.specs.declared.CallState.{CallState}
 use Rattle.swap_calls.specs.declared.CallState.TheVariants.{Idle, Room, Reading}
-use Rattle.swap_table.specs.Device.{Device, enter, give, fault, wait_for_room, wait_for_disk, wrote, took, took_back}
+use Rattle.swap_table.specs.Device.{Device, of_device, enter, give, fault, wait_for_room, wait_for_disk, wrote, took, took_back}
 use Rattle.swap_table.specs.Fits.{MayGive, block_in, IsBlock, HoldsPage, IsCopyOf, WaitsFor, IsExpected, IsSettled, IsUnderWay, Agrees, AgreesAt, FitsDisk}
 use Rattle.swap_table.proofs.Order.{enter_keeps, give_keeps, fault_keeps, room_wait_keeps, disk_wait_keeps, took_back_keeps}
 use Rattle.swap_table.proofs.Agree.{IdleFor, enter_agrees, call_agrees, row_agrees, read_agrees, start_agrees, wrote_agrees, read_back_agrees, finish_agrees, found, some_first, copy_flies, IsBrought}
@@ -162,19 +163,19 @@ took_agrees T A d p now (Read c page) true bytes h eb ef en there told =
 took_agrees T A d p now (Read c page) false bytes h eb ef en there told =
     rw (eb, ef, en) (read_back_agrees T A _ _ (zeros d.sizes) d.history d.queue p.blocks p.flights p.finished d.calls c page [] arrived.Failed h (found (IsExpected T (pages_of d.sizes) d.sizes.callers d.queue d.calls) (which.Read c) p.flights (Read c page) there h.expected) tt)
 
-wrote_sizes : (d : Device) (page : Page) (copy : Option Copy) (ok : Bool) → (wrote d page copy ok).0.sizes ≡ d.sizes
-wrote_sizes d page None ok = refl
-wrote_sizes d page (Some copy) true = refl
-wrote_sizes d page (Some copy) false = refl
+wrote_of : (d : Device) (page : Page) (copy : Option Copy) (ok : Bool) → of_device (wrote d page copy ok).0 ≡ of_device d
+wrote_of d page None ok = refl
+wrote_of d page (Some copy) true = refl
+wrote_of d page (Some copy) false = refl
 
-took_sizes : (d : Device) (w : DiskWhich) (page : Page) (ok : Bool) (bytes : List ℕ) → (took d w page ok bytes).0.sizes ≡ d.sizes
-took_sizes d (which.Write r) page ok bytes = wrote_sizes d page (flying d.queue page) ok
-took_sizes d (which.Read c) page true bytes = refl
-took_sizes d (which.Read c) page false bytes = refl
+took_of : (d : Device) (w : DiskWhich) (page : Page) (ok : Bool) (bytes : List ℕ) → of_device (took d w page ok bytes).0 ≡ of_device d
+took_of d (which.Write r) page ok bytes = wrote_of d page (flying d.queue page) ok
+took_of d (which.Read c) page true bytes = refl
+took_of d (which.Read c) page false bytes = refl
 
-pub took_back_sizes : (d : Device) (taken : Option Taken) → (took_back d taken).0.sizes ≡ d.sizes
-took_back_sizes d None = refl
-took_back_sizes d (Some t) = took_sizes d t.done.which t.done.page t.done.ok t.bytes
+pub took_back_of : (d : Device) (taken : Option Taken) → of_device (took_back d taken).0 ≡ of_device d
+took_back_of d None = refl
+took_back_of d (Some t) = took_of d t.done.which t.done.page t.done.ok t.bytes
 
 pub took_back_fits : (T : Bool) (A : List ℕ → List ℕ → Type 0) (d : Device) (p now : Port) (taken : Option Taken) → FitsDisk T A d p → now.sizes ≡ p.sizes → Takes p taken now → FitsDisk T A (took_back d taken).0 now
 took_back_fits T A d p now None k es takes = record {
@@ -192,7 +193,7 @@ took_back_fits T A d p now (Some t) k es takes =
     let P : DiskWhich → Type 0 = λ w. AgreesAt T A (took d w t.done.page t.done.ok t.bytes).0 now in
     let Q : Page → Type 0 = λ r. AgreesAt T A (took d (which_of f) r t.done.ok t.bytes).0 now in
     record {
-      sizes = es ∙ k.sizes ∙ sym (took_sizes d t.done.which t.done.page t.done.ok t.bytes);
+      sizes = es ∙ k.sizes ∙ sym (ap (λ (x : FabricOf). x.sizes) (took_of d t.done.which t.done.page t.done.ok t.bytes));
       in_order = took_back_keeps d (Some t) k.in_order;
       agrees = subst P (sym is_which) (subst Q (sym is_page) agrees);
     }

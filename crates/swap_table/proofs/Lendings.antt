@@ -101,7 +101,7 @@ borrow_sent_serves keeps keeps' owes owes' s n H cs r t l k within local up kept
           subst P (sym (sent-same r.links l x link_in))
           (link_sent owes owes' s n H cs r.slabs states' l (link_of r.links l) x up (each l) (within, state-same r.slabs t (Borrowing l) slab_in)
           (All-implies (IsAwaited s H cs r.slabs l) (λ y. MayPrecede y x) (ring_of r.links l) (λ y h. before_borrow t y (borrows_not s H cs r.slabs t l y (unborrowed l) h)) (k.link l).awaited)
-          (λ o. record { pages = o.pages; owed = owed l o.pages o.owed; reads = owed-append_borrow (zeros s) H cs (ring_of r.links l) o.pages t o.reads }) (k.link l)))
+          (λ o. record { pages = o.pages; owed = owed l o.pages o.owed; reads = owed-append_borrow H cs (ring_of r.links l) o.pages t o.reads }) (k.link l)))
           (λ other.
           let P : LinkState → Type 0 = λ y. LinkFits owes' s n H cs states' m y in
           subst P (sym (sent-other r.links l m x other)) (link_stays owes owes' s n H cs r.slabs states' m (link_of r.links m) (each m) (owed m) (k.link m)));

@@ -2,6 +2,7 @@ pub mod Lists
 pub mod Order
 pub mod Agree
 pub mod Programs
+pub mod Sequences
 pub mod Kept
 pub mod Links
 pub mod Entries
@@ -14,7 +15,14 @@ pub mod Lendings
 pub mod Returns
 pub mod Losses
 pub mod Acts
+pub mod Places
+pub mod Accounted
 pub mod Promised
-pub mod Calls
+pub mod Waits
+pub mod Going
+pub mod Walks
+pub mod Comings
+pub mod Keeps
+pub mod Accounting
 pub mod New
 pub mod EachCall

@@ -74,14 +74,14 @@ waits_lost l m p (Reading q newest (via.Lender o) arrived.Waiting newer since) o
     go true e = absurd (other (sym w.1 ∙ eqb-true o.0 l.0 e))
     go false e = w
 
-content_lost : (l : Lender) (content page : List ℕ) (p : Page) (state : CallState) → IsContent content page p state → IsContent content page p (calls.lost_if_through l state)
-content_lost l content page p Idle h = h
-content_lost l content page p (Room q since) h = h
-content_lost l content page p (Reading q newest via.Disk how newer since) h = h
-content_lost l content page p (Reading q newest (via.Lender o) arrived.Waiting newer since) h = h
-content_lost l content page p (Reading q newest (via.Lender o) arrived.Came newer since) h = h
-content_lost l content page p (Reading q newest (via.Lender o) arrived.Failed newer since) h = h
-content_lost l content page p (Reading q newest (via.Lender o) arrived.Lost newer since) h = h
+content_lost : (l : Lender) (H : History) (page : List ℕ) (p : Page) (state : CallState) → IsContent H page p state → IsContent H page p (calls.lost_if_through l state)
+content_lost l H page p Idle h = h
+content_lost l H page p (Room q since) h = h
+content_lost l H page p (Reading q newest via.Disk how newer since) h = h
+content_lost l H page p (Reading q newest (via.Lender o) arrived.Waiting newer since) h = h
+content_lost l H page p (Reading q newest (via.Lender o) arrived.Came newer since) h = h
+content_lost l H page p (Reading q newest (via.Lender o) arrived.Failed newer since) h = h
+content_lost l H page p (Reading q newest (via.Lender o) arrived.Lost newer since) h = h
 
 mapped_lost : (l m : Lender) (state : SlabState) → (m.0 ≡ l.0 → ⊥) → IsMappedTo m state → IsMappedTo m (slabs.after_lost l state)
 mapped_lost l m Local other h = absurd h
@@ -112,15 +112,15 @@ awaited_lost s H cs states l m (Read c p) other k = (
   let P : CallState → Type 0 = λ y. WaitsFrom m p y in subst P (sym (call-lost cs l c.0)) (waits_lost l m p (state_of cs c) other k.3),
 )
 
-owed_lost : (z : List ℕ) (H : History) (cs : Calls) (l : Lender) (ring : List Request) (pages : List (List ℕ)) → AreOwed z H cs ring pages → AreOwed z H (calls.lost cs l) ring pages
-owed_lost z H cs l [] [] o = o
-owed_lost z H cs l [] (page ∷ pages) o = o
-owed_lost z H cs l (Query u ∷ ring) pages o = owed_lost z H cs l ring pages o
-owed_lost z H cs l (Borrow u ∷ ring) pages o = owed_lost z H cs l ring pages o
-owed_lost z H cs l (Write p e ∷ ring) pages o = owed_lost z H cs l ring pages o
-owed_lost z H cs l (Read c p ∷ ring) [] o = o
-owed_lost z H cs l (Read c p ∷ ring) (page ∷ pages) o =
-    (let P : CallState → Type 0 = λ y. IsContent (array z H p) page p y in subst P (sym (call-lost cs l c.0)) (content_lost l (array z H p) page p (state_of cs c) o.0), owed_lost z H cs l ring pages o.1)
+owed_lost : (H : History) (cs : Calls) (l : Lender) (ring : List Request) (pages : List (List ℕ)) → AreOwed H cs ring pages → AreOwed H (calls.lost cs l) ring pages
+owed_lost H cs l [] [] o = o
+owed_lost H cs l [] (page ∷ pages) o = o
+owed_lost H cs l (Query u ∷ ring) pages o = owed_lost H cs l ring pages o
+owed_lost H cs l (Borrow u ∷ ring) pages o = owed_lost H cs l ring pages o
+owed_lost H cs l (Write p e ∷ ring) pages o = owed_lost H cs l ring pages o
+owed_lost H cs l (Read c p ∷ ring) [] o = o
+owed_lost H cs l (Read c p ∷ ring) (page ∷ pages) o =
+    (let P : CallState → Type 0 = λ y. IsContent H page p y in subst P (sym (call-lost cs l c.0)) (content_lost l H page p (state_of cs c) o.0), owed_lost H cs l ring pages o.1)
 
 -- a slab after a loss
 slab_lost : (s : Sizes) (links : List LinkState) (l : Lender) (u : Slab) (state : SlabState) → SlabFits s links u state → SlabFits s (rings.lost links l) u (slabs.after_lost l state)
@@ -189,7 +189,7 @@ lost_serves keeps keeps' owes owes' s n H cs r l k within kept owed =
             lender = f.lender;
             awaited = All-implies (IsAwaited s H cs r.slabs m) _ (ring_of r.links m) (λ y h. awaited_lost s H cs r.slabs l m y other h) f.awaited;
             ordered = f.ordered;
-            owed = λ up. let o = f.owed up in record { pages = o.pages; owed = owed m other o.pages o.owed; reads = owed_lost (zeros s) H cs l (ring_of r.links m) o.pages o.reads };
+            owed = λ up. let o = f.owed up in record { pages = o.pages; owed = owed m other o.pages o.owed; reads = owed_lost H cs l (ring_of r.links m) o.pages o.reads };
           }));
       page =
           λ q q_in.

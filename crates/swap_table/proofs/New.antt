@@ -24,12 +24,12 @@ none_flies : (n : ℕ) → count_by flies (replicate n (record { flying = None; 
 none_flies zero = refl
 none_flies (suc n) = count_by-cons flies (record { flying = None; next = None }) (replicate n (record { flying = None; next = None })) ∙ ap (λ m. 0 + m) (none_flies n)
 
-pub new_fits : (A : List ℕ → List ℕ → Type 0) (s : Sizes) (p : Port) → IsBlank s p → FitsDisk (is_some p.blocks) A (new s) p
-new_fits A s p blank =
+pub new_fits : (A : List ℕ → List ℕ → Type 0) (s : Sizes) (n : ℕ) (p : Port) → IsBlank s p → FitsDisk (is_some p.blocks) A (new s n) p
+new_fits A s n p blank =
     let nothing : Places = record { flying = None; next = None } in
     record {
       sizes = blank.sizes;
-      in_order = new_in_order s;
+      in_order = new_in_order s n;
       agrees =
           record {
             tells = refl;
@@ -43,7 +43,7 @@ new_fits A s p blank =
             under_way = rw blank.finished tt;
             in_line = tt;
             apart = tt;
-            fair = All-replicate (λ (call : Call). IsFair (is_some p.blocks) A (pages_of s) (zeros s) [] (new s).queue call.bytes call.state) s.callers idle tt;
+            fair = All-replicate (λ (call : Call). IsFair (is_some p.blocks) A (pages_of s) (zeros s) [] (new s n).queue call.bytes call.state) s.callers idle tt;
             faithful = tt;
           };
     }

@@ -131,5 +131,5 @@ pub took_back_keeps : (d : Device.Device) (taken : Option Taken) → IsInOrder d
 took_back_keeps d None k = k
 took_back_keeps d (Some t) k = took_keeps d t.done.which t.done.page t.done.ok t.bytes k
 
-pub new_in_order : (s : Sizes) → IsInOrder (new s)
-new_in_order s = record { ordered = tt; calls = All-replicate (λ (call : Call). KeepsNewest [] 0 call.state) s.callers idle tt }
+pub new_in_order : (s : Sizes) (n : ℕ) → IsInOrder (new s n)
+new_in_order s n = record { ordered = tt; calls = All-replicate (λ (call : Call). KeepsNewest [] 0 call.state) s.callers idle tt }

@@ -9,10 +9,10 @@ use Rattle.swap_base.specs.declared.Lease.{Lease}
 use Rattle.swap_wire.specs.declared.Msg.{Msg}
 use Rattle.swap_wire.specs.declared.Msg.TheVariants as msg
 use Rattle.swap_wire.specs.declared.fabric.Sent.TheVariants as sent
-use Rattle.swap_wire.specs.Fabric.{Parcel, write_parcel, read_parcel, Brought, NothingCame, LinkLost, FabricCall, Connect, Send, Take, End, FabricAnswer, FabricOf, is_page, is_read, lends, replaces, same_lender, ends_keeping, changes_owing}
+use Rattle.swap_wire.specs.Fabric.{Parcel, write_parcel, read_parcel, Brought, NothingCame, LinkLost, FabricCall, Connect, Send, Take, End, FabricAnswer, is_page, is_read, lends, replaces, same_lender, ends_keeping, changes_owing}
 use Rattle.swap_table.specs.Device.{borrow_reply, write_reply, read_reply}
-use Rattle.swap_table.specs.Serves.{Keeping, Owing}
-use Rattle.swap_table.specs.Fabrics.{Promises}
+use Rattle.swap_wire.specs.declared.fabric.Fabric.{Ghosts as FabricMeaning}
+use Rattle.swap_table.specs.Promises.{Promises}
 use Rattle.swap_table.proofs.Lists.{not_eqb}
 use Rattle.swap_table.proofs.Requests.{KeepsBut, KeepsAll, OwesAll, OwesOthers}
 use Rattle.swap_table.proofs.Lendings.{KeepsButLease}
@@ -97,22 +97,22 @@ lent_is (msg.PageIs k i) slab lease is = cc
 lent_is (msg.AskRates k) slab lease is = cc
 lent_is (msg.Evict k) slab lease is = cc
 
-module _ {F : Type 0} (of : F → FabricOf) (moves : F → (c : FabricCall) → FabricAnswer c → F → Type 0) (keeps : F → Keeping) (owes : F → Owing) (answers : List ℕ → List ℕ → Type 0) (laws : Promises of moves keeps owes answers) where
+module _ {F : Type 0} (fabric : FabricMeaning F) (laws : Promises fabric) where
   -- a call that ends nothing of what is kept, or of what is owed
-  kept_all : (f : F) (c : FabricCall) (r : FabricAnswer c) (g : F) → moves f c r g → ((m : Lender) (k : Lease) (i : ℕ) → ends_keeping m k i c r ≡ false) → KeepsAll (keeps f) (keeps g)
+  kept_all : (f : F) (c : FabricCall) (r : FabricAnswer c) (g : F) → fabric.moves f c r g → ((m : Lender) (k : Lease) (i : ℕ) → ends_keeping m k i c r ≡ false) → KeepsAll (fabric.keeps f) (fabric.keeps g)
   kept_all f c r g moved none m k i bytes h = laws.kept_until f c r g m k i bytes moved h (none m k i)
 
-  owed_all : (f : F) (c : FabricCall) (r : FabricAnswer c) (g : F) → moves f c r g → ((m : Lender) → changes_owing m c r ≡ false) → OwesAll (owes f) (owes g)
+  owed_all : (f : F) (c : FabricCall) (r : FabricAnswer c) (g : F) → fabric.moves f c r g → ((m : Lender) → changes_owing m c r ≡ false) → OwesAll (fabric.owes f) (fabric.owes g)
   owed_all f c r g moved none m pages h = laws.owed_until f c r g m pages moved h (none m)
 
-  kept_others : (f : F) (c : FabricCall) (r : FabricAnswer c) (g : F) (l : Lender) → moves f c r g → ((m : Lender) → (m.0 ≡ l.0 → ⊥) → (k : Lease) (i : ℕ) → ends_keeping m k i c r ≡ false) → KeepsOthers l (keeps f) (keeps g)
+  kept_others : (f : F) (c : FabricCall) (r : FabricAnswer c) (g : F) (l : Lender) → fabric.moves f c r g → ((m : Lender) → (m.0 ≡ l.0 → ⊥) → (k : Lease) (i : ℕ) → ends_keeping m k i c r ≡ false) → KeepsOthers l (fabric.keeps f) (fabric.keeps g)
   kept_others f c r g l moved none m other k i bytes h = laws.kept_until f c r g m k i bytes moved h (none m other k i)
 
-  owed_others : (f : F) (c : FabricCall) (r : FabricAnswer c) (g : F) (l : Lender) → moves f c r g → ((m : Lender) → (m.0 ≡ l.0 → ⊥) → changes_owing m c r ≡ false) → OwesOthers l (owes f) (owes g)
+  owed_others : (f : F) (c : FabricCall) (r : FabricAnswer c) (g : F) (l : Lender) → fabric.moves f c r g → ((m : Lender) → (m.0 ≡ l.0 → ⊥) → changes_owing m c r ≡ false) → OwesOthers l (fabric.owes f) (fabric.owes g)
   owed_others f c r g l moved none m other pages h = laws.owed_until f c r g m pages moved h (none m other)
 
   -- a send: of a write, of a read, of another message, and one that finds the link down
-  pub write_keeps : (f g : F) (l : Lender) (k : Lease) (i : ℕ) (bytes : List ℕ) → moves f (Send l (write_parcel k i bytes)) sent.Sent g → KeepsBut l k i (keeps f) (keeps g)
+  pub write_keeps : (f g : F) (l : Lender) (k : Lease) (i : ℕ) (bytes : List ℕ) → fabric.moves f (Send l (write_parcel k i bytes)) sent.Sent g → KeepsBut l k i (fabric.keeps f) (fabric.keeps g)
   write_keeps f g l k i bytes moved m j o b other h = laws.kept_until f (Send l (write_parcel k i bytes)) sent.Sent g m j o b moved h (ends (same_lender m l) refl (k.0 == j.0) refl (i == o) refl)
     where
       ends : (a : Bool) → same_lender m l ≡ a → (b : Bool) → (k.0 == j.0) ≡ b → (c : Bool) → (i == o) ≡ c → (a && (b && c)) ≡ false
@@ -121,32 +121,32 @@ module _ {F : Type 0} (of : F → FabricOf) (moves : F → (c : FabricCall) → 
       ends true ea true eb false ec = refl
       ends true ea true eb true ec = absurd (other (eqb-true m.0 l.0 ea) (sym (eqb-true k.0 j.0 eb)) (sym (eqb-true i o ec)))
 
-  pub write_owes : (f g : F) (l : Lender) (k : Lease) (i : ℕ) (bytes : List ℕ) → moves f (Send l (write_parcel k i bytes)) sent.Sent g → OwesAll (owes f) (owes g)
+  pub write_owes : (f g : F) (l : Lender) (k : Lease) (i : ℕ) (bytes : List ℕ) → fabric.moves f (Send l (write_parcel k i bytes)) sent.Sent g → OwesAll (fabric.owes f) (fabric.owes g)
   write_owes f g l k i bytes moved = owed_all f (Send l (write_parcel k i bytes)) sent.Sent g moved (λ m. and-false (same_lender m l))
 
-  pub read_keeps : (f g : F) (l : Lender) (k : Lease) (i : ℕ) → moves f (Send l (read_parcel k i)) sent.Sent g → KeepsAll (keeps f) (keeps g)
+  pub read_keeps : (f g : F) (l : Lender) (k : Lease) (i : ℕ) → fabric.moves f (Send l (read_parcel k i)) sent.Sent g → KeepsAll (fabric.keeps f) (fabric.keeps g)
   read_keeps f g l k i moved = kept_all f (Send l (read_parcel k i)) sent.Sent g moved (λ m j o. and-false (same_lender m l))
 
-  pub read_owes : (f g : F) (l : Lender) (k : Lease) (i : ℕ) → moves f (Send l (read_parcel k i)) sent.Sent g → OwesOthers l (owes f) (owes g)
+  pub read_owes : (f g : F) (l : Lender) (k : Lease) (i : ℕ) → fabric.moves f (Send l (read_parcel k i)) sent.Sent g → OwesOthers l (fabric.owes f) (fabric.owes g)
   read_owes f g l k i moved = owed_others f (Send l (read_parcel k i)) sent.Sent g l moved (λ m other. another_and l m true other)
 
-  pub other_keeps : (f g : F) (l : Lender) (p : Parcel) → moves f (Send l p) sent.Sent g → ((k : Lease) (i : ℕ) → replaces k i p.msg ≡ false) → KeepsAll (keeps f) (keeps g)
+  pub other_keeps : (f g : F) (l : Lender) (p : Parcel) → fabric.moves f (Send l p) sent.Sent g → ((k : Lease) (i : ℕ) → replaces k i p.msg ≡ false) → KeepsAll (fabric.keeps f) (fabric.keeps g)
   other_keeps f g l p moved none = kept_all f (Send l p) sent.Sent g moved (λ m j o. and_right (same_lender m l) (replaces j o p.msg) (none j o))
 
-  pub other_owes : (f g : F) (l : Lender) (p : Parcel) → moves f (Send l p) sent.Sent g → is_read p.msg ≡ false → OwesAll (owes f) (owes g)
+  pub other_owes : (f g : F) (l : Lender) (p : Parcel) → fabric.moves f (Send l p) sent.Sent g → is_read p.msg ≡ false → OwesAll (fabric.owes f) (fabric.owes g)
   other_owes f g l p moved none = owed_all f (Send l p) sent.Sent g moved (λ m. and_right (same_lender m l) (is_read p.msg) none)
 
-  pub down_keeps : (f g : F) (l : Lender) (p : Parcel) → moves f (Send l p) sent.Down g → KeepsOthers l (keeps f) (keeps g)
+  pub down_keeps : (f g : F) (l : Lender) (p : Parcel) → fabric.moves f (Send l p) sent.Down g → KeepsOthers l (fabric.keeps f) (fabric.keeps g)
   down_keeps f g l p moved = kept_others f (Send l p) sent.Down g l moved (λ m other k i. another_and l m true other)
 
-  pub down_owes : (f g : F) (l : Lender) (p : Parcel) → moves f (Send l p) sent.Down g → OwesOthers l (owes f) (owes g)
+  pub down_owes : (f g : F) (l : Lender) (p : Parcel) → fabric.moves f (Send l p) sent.Down g → OwesOthers l (fabric.owes f) (fabric.owes g)
   down_owes f g l p moved = owed_others f (Send l p) sent.Down g l moved (λ m other. another_and l m true other)
 
   -- a take: of a message, of nothing, and one that finds the link lost
-  pub took_keeps : (f g : F) (l : Lender) (p : Parcel) → moves f (Take l) (Brought p) g → ((k : Lease) → lends k p.msg ≡ false) → KeepsAll (keeps f) (keeps g)
+  pub took_keeps : (f g : F) (l : Lender) (p : Parcel) → fabric.moves f (Take l) (Brought p) g → ((k : Lease) → lends k p.msg ≡ false) → KeepsAll (fabric.keeps f) (fabric.keeps g)
   took_keeps f g l p moved none = kept_all f (Take l) (Brought p) g moved (λ m k i. and_right (same_lender m l) (lends k p.msg) (none k))
 
-  pub lent_keeps : (f g : F) (l : Lender) (p : Parcel) (lease : Lease) → moves f (Take l) (Brought p) g → ((k : Lease) → lends k p.msg ≡ (lease.0 == k.0)) → KeepsButLease l lease (keeps f) (keeps g)
+  pub lent_keeps : (f g : F) (l : Lender) (p : Parcel) (lease : Lease) → fabric.moves f (Take l) (Brought p) g → ((k : Lease) → lends k p.msg ≡ (lease.0 == k.0)) → KeepsButLease l lease (fabric.keeps f) (fabric.keeps g)
   lent_keeps f g l p lease moved is m k i bytes other h = laws.kept_until f (Take l) (Brought p) g m k i bytes moved h (ap (λ b. same_lender m l && b) (is k) ∙ ends (same_lender m l) refl (lease.0 == k.0) refl)
     where
       ends : (a : Bool) → same_lender m l ≡ a → (b : Bool) → (lease.0 == k.0) ≡ b → (a && b) ≡ false
@@ -154,43 +154,43 @@ module _ {F : Type 0} (of : F → FabricOf) (moves : F → (c : FabricCall) → 
       ends true ea false eb = refl
       ends true ea true eb = absurd (other (eqb-true m.0 l.0 ea) (sym (eqb-true lease.0 k.0 eb)))
 
-  pub took_owes : (f g : F) (l : Lender) (p : Parcel) → moves f (Take l) (Brought p) g → is_page p.msg ≡ false → OwesAll (owes f) (owes g)
+  pub took_owes : (f g : F) (l : Lender) (p : Parcel) → fabric.moves f (Take l) (Brought p) g → is_page p.msg ≡ false → OwesAll (fabric.owes f) (fabric.owes g)
   took_owes f g l p moved none = owed_all f (Take l) (Brought p) g moved (λ m. and_right (same_lender m l) (is_page p.msg) none)
 
-  pub page_owes : (f g : F) (l : Lender) (p : Parcel) → moves f (Take l) (Brought p) g → OwesOthers l (owes f) (owes g)
+  pub page_owes : (f g : F) (l : Lender) (p : Parcel) → fabric.moves f (Take l) (Brought p) g → OwesOthers l (fabric.owes f) (fabric.owes g)
   page_owes f g l p moved = owed_others f (Take l) (Brought p) g l moved (λ m other. another_and l m (is_page p.msg) other)
 
-  pub nothing_keeps : (f g : F) (l : Lender) → moves f (Take l) NothingCame g → KeepsAll (keeps f) (keeps g)
+  pub nothing_keeps : (f g : F) (l : Lender) → fabric.moves f (Take l) NothingCame g → KeepsAll (fabric.keeps f) (fabric.keeps g)
   nothing_keeps f g l moved = kept_all f (Take l) NothingCame g moved (λ m k i. and-false (same_lender m l))
 
-  pub nothing_owes : (f g : F) (l : Lender) → moves f (Take l) NothingCame g → OwesAll (owes f) (owes g)
+  pub nothing_owes : (f g : F) (l : Lender) → fabric.moves f (Take l) NothingCame g → OwesAll (fabric.owes f) (fabric.owes g)
   nothing_owes f g l moved = owed_all f (Take l) NothingCame g moved (λ m. and-false (same_lender m l))
 
-  pub loss_keeps : (f g : F) (l : Lender) → moves f (Take l) LinkLost g → KeepsOthers l (keeps f) (keeps g)
+  pub loss_keeps : (f g : F) (l : Lender) → fabric.moves f (Take l) LinkLost g → KeepsOthers l (fabric.keeps f) (fabric.keeps g)
   loss_keeps f g l moved = kept_others f (Take l) LinkLost g l moved (λ m other k i. another_and l m true other)
 
-  pub loss_owes : (f g : F) (l : Lender) → moves f (Take l) LinkLost g → OwesOthers l (owes f) (owes g)
+  pub loss_owes : (f g : F) (l : Lender) → fabric.moves f (Take l) LinkLost g → OwesOthers l (fabric.owes f) (fabric.owes g)
   loss_owes f g l moved = owed_others f (Take l) LinkLost g l moved (λ m other. another_and l m true other)
 
   -- a message that isn't understood: what it brings is looked at no more, and the link is ended
-  pub brought_keeps : (f g : F) (l : Lender) (p : Parcel) → moves f (Take l) (Brought p) g → KeepsOthers l (keeps f) (keeps g)
+  pub brought_keeps : (f g : F) (l : Lender) (p : Parcel) → fabric.moves f (Take l) (Brought p) g → KeepsOthers l (fabric.keeps f) (fabric.keeps g)
   brought_keeps f g l p moved = kept_others f (Take l) (Brought p) g l moved (λ m other k i. another_and l m (lends k p.msg) other)
 
-  pub end_keeps : (f g : F) (l : Lender) → moves f (End l) tt g → KeepsOthers l (keeps f) (keeps g)
+  pub end_keeps : (f g : F) (l : Lender) → fabric.moves f (End l) tt g → KeepsOthers l (fabric.keeps f) (fabric.keeps g)
   end_keeps f g l moved = kept_others f (End l) tt g l moved (λ m other k i. another l m other)
 
-  pub end_owes : (f g : F) (l : Lender) → moves f (End l) tt g → OwesOthers l (owes f) (owes g)
+  pub end_owes : (f g : F) (l : Lender) → fabric.moves f (End l) tt g → OwesOthers l (fabric.owes f) (fabric.owes g)
   end_owes f g l moved = owed_others f (End l) tt g l moved (λ m other. another l m other)
 
-  pub connect_keeps : (f g : F) (l : Lender) (n : Link) → moves f (Connect l n) tt g → KeepsOthers l (keeps f) (keeps g)
+  pub connect_keeps : (f g : F) (l : Lender) (n : Link) → fabric.moves f (Connect l n) tt g → KeepsOthers l (fabric.keeps f) (fabric.keeps g)
   connect_keeps f g l n moved = kept_others f (Connect l n) tt g l moved (λ m other k i. another l m other)
 
-  pub connect_owes : (f g : F) (l : Lender) (n : Link) → moves f (Connect l n) tt g → OwesOthers l (owes f) (owes g)
+  pub connect_owes : (f g : F) (l : Lender) (n : Link) → fabric.moves f (Connect l n) tt g → OwesOthers l (fabric.owes f) (fabric.owes g)
   connect_owes f g l n moved = owed_others f (Connect l n) tt g l moved (λ m other. another l m other)
 
   -- the far side moves
-  pub far_keeps : (f : F) (c : FabricCall) (r : FabricAnswer c) (g : F) → moves f c r g → ((m : Lender) (k : Lease) (i : ℕ) → ends_keeping m k i c r ≡ false) → KeepsAll (keeps f) (keeps g)
+  pub far_keeps : (f : F) (c : FabricCall) (r : FabricAnswer c) (g : F) → fabric.moves f c r g → ((m : Lender) (k : Lease) (i : ℕ) → ends_keeping m k i c r ≡ false) → KeepsAll (fabric.keeps f) (fabric.keeps g)
   far_keeps f c r g moved none = kept_all f c r g moved none
 
-  pub far_owes : (f : F) (c : FabricCall) (r : FabricAnswer c) (g : F) → moves f c r g → ((m : Lender) → changes_owing m c r ≡ false) → OwesAll (owes f) (owes g)
+  pub far_owes : (f : F) (c : FabricCall) (r : FabricAnswer c) (g : F) → fabric.moves f c r g → ((m : Lender) → changes_owing m c r ≡ false) → OwesAll (fabric.owes f) (fabric.owes g)
   far_owes f c r g moved none = owed_all f c r g moved none

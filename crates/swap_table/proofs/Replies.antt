@@ -56,8 +56,8 @@ pub record IsAnswer (owes owes' : Owing) (s : Sizes) (H : History) (cs cs' : Cal
   pub calls_len : length cs' ≡ length cs
   pub here : (y : Request) → MayPrecede x y → IsAwaited s H cs r.slabs l y → IsAwaited s H cs' (slabs.with_state r.slabs t state) l y
   pub there : (m : Lender) → (m.0 ≡ l.0 → ⊥) → (y : Request) → IsAwaited s H cs r.slabs m y → IsAwaited s H cs' (slabs.with_state r.slabs t state) m y
-  pub owed : AllByRecursion (MayPrecede x) rest → OwesReads owes (zeros s) H cs l (x ∷ rest) → OwesReads owes' (zeros s) H cs' l rest
-  pub others : (m : Lender) → (m.0 ≡ l.0 → ⊥) → AllByRecursion (IsAwaited s H cs r.slabs m) (ring_of r.links m) → OwesReads owes (zeros s) H cs m (ring_of r.links m) → OwesReads owes' (zeros s) H cs' m (ring_of r.links m)
+  pub owed : AllByRecursion (MayPrecede x) rest → OwesReads owes H cs l (x ∷ rest) → OwesReads owes' H cs' l rest
+  pub others : (m : Lender) → (m.0 ≡ l.0 → ⊥) → AllByRecursion (IsAwaited s H cs r.slabs m) (ring_of r.links m) → OwesReads owes H cs m (ring_of r.links m) → OwesReads owes' H cs' m (ring_of r.links m)
 
 -- a test of each, where another holds of each too
 pub All-with : {X : Type 0} (P Q R : X → Type 0) (xs : List X) → ((x : X) → P x → Q x → R x) → AllByRecursion P xs → AllByRecursion Q xs → AllByRecursion R xs
@@ -75,14 +75,14 @@ link_answered owes owes' s n H cs cs' r l x rest t state link up ring a k =
       lender = k.lender;
       awaited = subst (λ ys. AllByRecursion (IsAwaited s H cs' (slabs.with_state r.slabs t state) l) ys) (sym left) (All-with (MayPrecede x) (IsAwaited s H cs r.slabs l) (IsAwaited s H cs' (slabs.with_state r.slabs t state) l) rest a.here ordered.0 awaited.1);
       ordered = subst AreInOrder (sym left) ordered.1;
-      owed = λ _. subst (λ ys. OwesReads owes' (zeros s) H cs' l ys) (sym left) (a.owed ordered.0 (subst (λ ys. OwesReads owes (zeros s) H cs l ys) ring (k.owed up)));
+      owed = λ _. subst (λ ys. OwesReads owes' H cs' l ys) (sym left) (a.owed ordered.0 (subst (λ ys. OwesReads owes H cs l ys) ring (k.owed up)));
     }
   where
     both : link.up ≡ true → link.up ≡ false → ⊥
     both a b = cc
 
 link_other : (owes owes' : Owing) (s : Sizes) (n : ℕ) (H : History) (cs cs' : Calls) (states states' : List SlabState) (m : Lender) (link : LinkState) → ((y : Request) → IsAwaited s H cs states m y → IsAwaited s H cs' states' m y)
-    → (AllByRecursion (IsAwaited s H cs states m) link.ring → OwesReads owes (zeros s) H cs m link.ring → OwesReads owes' (zeros s) H cs' m link.ring) → LinkFits owes s n H cs states m link → LinkFits owes' s n H cs' states' m link
+    → (AllByRecursion (IsAwaited s H cs states m) link.ring → OwesReads owes H cs m link.ring → OwesReads owes' H cs' m link.ring) → LinkFits owes s n H cs states m link → LinkFits owes' s n H cs' states' m link
 link_other owes owes' s n H cs cs' states states' m link each reads k = record {
   quiet = k.quiet;
   lender = k.lender;

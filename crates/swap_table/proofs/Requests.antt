@@ -11,7 +11,7 @@ use Rattle.swap_base.specs.declared.Caller.{Caller}
 use Rattle.swap_base.specs.declared.EntryNo.{EntryNo}
 use Rattle.swap_base.specs.declared.Via.TheVariants as via
 use Rattle.swap_base.specs.Sizes.{Sizes, pages_of, slab_of, place_of, zeros}
-use Rattle.swap_record.specs.History.{History, array}
+use Rattle.swap_record.specs.History.{History, array, last}
 use Rattle.swap_queue.specs.Queue.{first_of}
 use Rattle.swap_calls.specs.Calls as calls
 use Rattle.swap_calls.specs.Calls.{Calls, state_of, may_read}
@@ -28,6 +28,7 @@ use Rattle.swap_rings.specs.declared.Request.TheVariants.{Query, Borrow, Write, 
 use Rattle.swap_remote.specs.Remote.{Remote, slab_for, state_for, has_page, sent_for}
 use Rattle.swap_table.specs.Serves.{Keeping, Owing, entry_to, latest, IsOut, bytes_of, IsMappedTo, WaitsFrom, IsAwaited, MayPrecede, IsContent, AreOwed, IsWriteKept, IsReadable, PageFits, AreSingle, Serves}
 use Rattle.swap_table.proofs.Lists.{by_page, by_caller, not_eqb}
+use Rattle.swap_table.proofs.Entries.{last_out, last_bytes}
 use Rattle.swap_table.proofs.Leases.{only_slab}
 use Rattle.swap_table.proofs.Links.{by_lender, by_slab, latest-append, entry_to-own, entry_to-other}
 use Rattle.swap_table.proofs.Shifts.{IsShift, PageStays, shifted_serves}
@@ -47,30 +48,30 @@ abbrev pub OwesOthers : Lender → Owing → Owing → Type 0
 OwesOthers l owes owes' = (m : Lender) → (m.0 ≡ l.0 → ⊥) → (pages : List (List ℕ)) → owes m pages → owes' m pages
 
 -- the pages that are owed, with one more request
-pub owed-append_write : (z : List ℕ) (H : History) (cs : Calls) (ring : List Request) (pages : List (List ℕ)) (p : Page) (e : EntryNo) → AreOwed z H cs ring pages → AreOwed z H cs (ring ++ Write p e ∷ []) pages
-owed-append_write z H cs [] pages p e o = o
-owed-append_write z H cs (Query t ∷ ring) pages p e o = owed-append_write z H cs ring pages p e o
-owed-append_write z H cs (Borrow t ∷ ring) pages p e o = owed-append_write z H cs ring pages p e o
-owed-append_write z H cs (Write q f ∷ ring) pages p e o = owed-append_write z H cs ring pages p e o
-owed-append_write z H cs (Read c q ∷ ring) [] p e o = o
-owed-append_write z H cs (Read c q ∷ ring) (page ∷ pages) p e o = (o.0, owed-append_write z H cs ring pages p e o.1)
+pub owed-append_write : (H : History) (cs : Calls) (ring : List Request) (pages : List (List ℕ)) (p : Page) (e : EntryNo) → AreOwed H cs ring pages → AreOwed H cs (ring ++ Write p e ∷ []) pages
+owed-append_write H cs [] pages p e o = o
+owed-append_write H cs (Query t ∷ ring) pages p e o = owed-append_write H cs ring pages p e o
+owed-append_write H cs (Borrow t ∷ ring) pages p e o = owed-append_write H cs ring pages p e o
+owed-append_write H cs (Write q f ∷ ring) pages p e o = owed-append_write H cs ring pages p e o
+owed-append_write H cs (Read c q ∷ ring) [] p e o = o
+owed-append_write H cs (Read c q ∷ ring) (page ∷ pages) p e o = (o.0, owed-append_write H cs ring pages p e o.1)
 
-pub owed-append_borrow : (z : List ℕ) (H : History) (cs : Calls) (ring : List Request) (pages : List (List ℕ)) (u : Slab) → AreOwed z H cs ring pages → AreOwed z H cs (ring ++ Borrow u ∷ []) pages
-owed-append_borrow z H cs [] pages u o = o
-owed-append_borrow z H cs (Query t ∷ ring) pages u o = owed-append_borrow z H cs ring pages u o
-owed-append_borrow z H cs (Borrow t ∷ ring) pages u o = owed-append_borrow z H cs ring pages u o
-owed-append_borrow z H cs (Write q f ∷ ring) pages u o = owed-append_borrow z H cs ring pages u o
-owed-append_borrow z H cs (Read c q ∷ ring) [] u o = o
-owed-append_borrow z H cs (Read c q ∷ ring) (page ∷ pages) u o = (o.0, owed-append_borrow z H cs ring pages u o.1)
+pub owed-append_borrow : (H : History) (cs : Calls) (ring : List Request) (pages : List (List ℕ)) (u : Slab) → AreOwed H cs ring pages → AreOwed H cs (ring ++ Borrow u ∷ []) pages
+owed-append_borrow H cs [] pages u o = o
+owed-append_borrow H cs (Query t ∷ ring) pages u o = owed-append_borrow H cs ring pages u o
+owed-append_borrow H cs (Borrow t ∷ ring) pages u o = owed-append_borrow H cs ring pages u o
+owed-append_borrow H cs (Write q f ∷ ring) pages u o = owed-append_borrow H cs ring pages u o
+owed-append_borrow H cs (Read c q ∷ ring) [] u o = o
+owed-append_borrow H cs (Read c q ∷ ring) (page ∷ pages) u o = (o.0, owed-append_borrow H cs ring pages u o.1)
 
-pub owed-append_read : (z : List ℕ) (H : History) (cs : Calls) (ring : List Request) (pages : List (List ℕ)) (c : Caller) (p : Page) (b : List ℕ) → AreOwed z H cs ring pages → IsContent (array z H p) b p (state_of cs c) → AreOwed z H cs (ring ++ Read c p ∷ []) (pages ++ b ∷ [])
-owed-append_read z H cs [] [] c p b o is = (is, tt)
-owed-append_read z H cs [] (page ∷ pages) c p b o is = absurd o
-owed-append_read z H cs (Query t ∷ ring) pages c p b o is = owed-append_read z H cs ring pages c p b o is
-owed-append_read z H cs (Borrow t ∷ ring) pages c p b o is = owed-append_read z H cs ring pages c p b o is
-owed-append_read z H cs (Write q f ∷ ring) pages c p b o is = owed-append_read z H cs ring pages c p b o is
-owed-append_read z H cs (Read d q ∷ ring) [] c p b o is = absurd o
-owed-append_read z H cs (Read d q ∷ ring) (page ∷ pages) c p b o is = (o.0, owed-append_read z H cs ring pages c p b o.1 is)
+pub owed-append_read : (H : History) (cs : Calls) (ring : List Request) (pages : List (List ℕ)) (c : Caller) (p : Page) (b : List ℕ) → AreOwed H cs ring pages → IsContent H b p (state_of cs c) → AreOwed H cs (ring ++ Read c p ∷ []) (pages ++ b ∷ [])
+owed-append_read H cs [] [] c p b o is = (is, tt)
+owed-append_read H cs [] (page ∷ pages) c p b o is = absurd o
+owed-append_read H cs (Query t ∷ ring) pages c p b o is = owed-append_read H cs ring pages c p b o is
+owed-append_read H cs (Borrow t ∷ ring) pages c p b o is = owed-append_read H cs ring pages c p b o is
+owed-append_read H cs (Write q f ∷ ring) pages c p b o is = owed-append_read H cs ring pages c p b o is
+owed-append_read H cs (Read d q ∷ ring) [] c p b o is = absurd o
+owed-append_read H cs (Read d q ∷ ring) (page ∷ pages) c p b o is = (o.0, owed-append_read H cs ring pages c p b o.1 is)
 
 -- a page by its slab and its place
 pub same_page : (s : Sizes) (p q : ℕ) → slab_of s q ≡ slab_of s p → place_of s q ≡ place_of s p → q ≡ p
@@ -154,7 +155,7 @@ write_sent_serves keeps keeps' owes owes' s n H cs r l p lease flying e k lies c
     ((λ is. absurd (not_both clear is)), subst (λ o. IsWriteKept keeps' H l lease (place_of s p.0) o) (sym latest_is) now) in
     sent_serves keeps keeps' owes owes' s n H cs r l p lease flying x k lies
     (record { here = eq-eqb (slab_of s p.0) (slab_of s p.0) refl; there = λ t other. not_eqb (slab_of s p.0) t.0 (λ e. other (sym e)); awaited = (lies.within, mapped, out); order = order })
-    (λ o. record { pages = o.pages; owed = owed l o.pages o.owed; reads = owed-append_write (zeros s) H cs (ring_of r.links l) o.pages p e o.reads })
+    (λ o. record { pages = o.pages; owed = owed l o.pages o.owed; reads = owed-append_write H cs (ring_of r.links l) o.pages p e o.reads })
     (λ m other pages. owed m pages)
     (λ q within.
     by_page (λ q. q.0 < pages_of s → PageFits keeps' s H (rings.sent r.links l x) q (has_page r q) (state_for s (slabs.begun r.slabs (slab_for s p)) q)) p q
@@ -189,14 +190,14 @@ read_order s H cs states l c p [] idles none a = tt
 read_order s H cs states l c p (y ∷ ring) idles none a = (read_last s H cs states l c p y idles none.0 a.0, read_order s H cs states l c p ring idles none.1 a.1)
 
 -- one caller's call changes that waited for no lender
-pub call_shift : (z : List ℕ) (H : History) (cs : Calls) (c : Caller) (call : calls.Call) → ((m : Lender) (q : Page) → WaitsFrom m q (state_of cs c) → ⊥) → IsShift z H H cs (calls.with_call cs c call)
-call_shift z H cs c call idles = record {
+pub call_shift : (H : History) (cs : Calls) (c : Caller) (call : calls.Call) → ((m : Lender) (q : Page) → WaitsFrom m q (state_of cs c) → ⊥) → IsShift H H cs (calls.with_call cs c call)
+call_shift H cs c call idles = record {
   entries = λ p e out. (out, refl);
   waits = λ l d p w. by_caller (λ d. WaitsFrom l p (state_of cs d) → WaitsFrom l p (state_of (calls.with_call cs c call) d)) c d (λ w. absurd (idles l p w)) (λ other w. let P : CallState → Type 0 = λ x. WaitsFrom l p x in subst P (sym (call-other cs c d call other)) w) w;
   owed =
       λ l d p page w is.
-      by_caller (λ d. WaitsFrom l p (state_of cs d) → IsContent (array z H p) page p (state_of cs d) → IsContent (array z H p) page p (state_of (calls.with_call cs c call) d)) c d (λ w is. absurd (idles l p w))
-      (λ other w is. let P : CallState → Type 0 = λ x. IsContent (array z H p) page p x in subst P (sym (call-other cs c d call other)) is) w is;
+      by_caller (λ d. WaitsFrom l p (state_of cs d) → IsContent H page p (state_of cs d) → IsContent H page p (state_of (calls.with_call cs c call) d)) c d (λ w is. absurd (idles l p w))
+      (λ other w is. let P : CallState → Type 0 = λ x. IsContent H page p x in subst P (sym (call-other cs c d call other)) is) w is;
 }
   where
     call-other : (cs : Calls) (c d : Caller) (call : calls.Call) → (d.0 ≡ c.0 → ⊥) → state_of (calls.with_call cs c call) d ≡ state_of cs d
@@ -207,14 +208,14 @@ bits_stay z H p bit = record { clear = λ e. e; set = λ e. (e, refl, refl) }
 
 pub call_serves : (keeps : Keeping) (owes : Owing) (s : Sizes) (n : ℕ) (H : History) (cs : Calls) (r : Remote) (c : Caller) (call : calls.Call) → ((m : Lender) (q : Page) → WaitsFrom m q (state_of cs c) → ⊥) → Serves keeps owes s n H cs r → Serves keeps owes s n H (calls.with_call cs c call) r
 call_serves keeps owes s n H cs r c call idles k =
-    shifted_serves keeps owes s n H H cs (calls.with_call cs c call) r r.bits (call_shift (zeros s) H cs c call idles) (length-set cs c.0 call) refl (λ p _. bits_stay (zeros s) H p (has_page r p)) k
+    shifted_serves keeps owes s n H H cs (calls.with_call cs c call) r r.bits (call_shift H cs c call idles) (length-set cs c.0 call) refl (λ p _. bits_stay (zeros s) H p (has_page r p)) k
 
 -- a read is sent: the link owes the page's content
 pub read_sent_serves : (keeps keeps' : Keeping) (owes owes' : Owing) (s : Sizes) (n : ℕ) (H : History) (cs : Calls) (r : Remote) (l : Lender) (c : Caller) (p : Page) (lease : Lease) (flying : ℕ) (newest : EntryNo) (since : ℕ)
-    → Serves keeps owes s n H cs r → LiesAt s r p l lease flying → has_page r p ≡ true → c.0 < s.callers → ((m : Lender) (q : Page) → WaitsFrom m q (state_of cs c) → ⊥)
+    → Serves keeps owes s n H cs r → LiesAt s r p l lease flying → has_page r p ≡ true → last H p ≡ Some newest → c.0 < s.callers → ((m : Lender) (q : Page) → WaitsFrom m q (state_of cs c) → ⊥)
     → KeepsAll keeps keeps' → OwesOthers l owes owes' → ((pages : List (List ℕ)) (bytes : List ℕ) → owes l pages → keeps l lease (place_of s p.0) bytes → owes' l (pages ++ bytes ∷ []))
     → Serves keeps' owes' s n H (calls.reads cs c p newest (via.Lender l) since) (sent_for s r l p (Read c p))
-read_sent_serves keeps keeps' owes owes' s n H cs r l c p lease flying newest since k lies set caller idles kept others more =
+read_sent_serves keeps keeps' owes owes' s n H cs r l c p lease flying newest since k lies set is_last caller idles kept others more =
     let x : Request = Read c p in
     let call : calls.Call = record { state = Reading p newest (via.Lender l) arrived.Waiting false since; bytes = [] } in
     let cs' : Calls = calls.reads cs c p newest (via.Lender l) since in
@@ -226,12 +227,12 @@ read_sent_serves keeps keeps' owes owes' s n H cs r l c p lease flying newest si
     let readable : IsReadable keeps (zeros s) H p l lease (place_of s p.0) (ring_of r.links l) = fits.0 set in
     let state : state_of cs' c ≡ Reading p newest (via.Lender l) arrived.Waiting false since = ap (λ (y : calls.Call). y.state) (get_or-set_same cs c.0 call calls.idle (subst (λ m. c.0 < m) (sym k.calls_len) caller)) in
     let waits : WaitsFrom l p (state_of cs' c) = let P : CallState → Type 0 = λ y. WaitsFrom l p y in subst P (sym state) (refl, refl) in
-    let content : IsContent (array (zeros s) H p) (array (zeros s) H p) p (state_of cs' c) = let P : CallState → Type 0 = λ y. IsContent (array (zeros s) H p) (array (zeros s) H p) p y in subst P (sym state) (λ _. refl) in
+    let content : IsContent H (array (zeros s) H p) p (state_of cs' c) = let P : CallState → Type 0 = λ y. IsContent H (array (zeros s) H p) p y in subst P (sym state) (last_out H p newest is_last, sym (last_bytes (zeros s) H p newest is_last)) in
     let mapped : IsMappedTo l (state_for s r.slabs p) = subst (λ y. IsMappedTo l y) (sym lies.mapped) refl in
     let order : AllByRecursion (λ y. MayPrecede y x) (ring_of r.links l) = read_order s H cs r.slabs l c p (ring_of r.links l) idles (none_written p (ring_of r.links l) readable.none) (k.link l).awaited in
     sent_serves keeps keeps' owes owes' s n H cs' r l p lease flying x k' lies
     (record { here = eq-eqb (slab_of s p.0) (slab_of s p.0) refl; there = λ t other. not_eqb (slab_of s p.0) t.0 (λ e. other (sym e)); awaited = (caller, lies.within, mapped, waits); order = order })
-    (λ o. record { pages = o.pages ++ array (zeros s) H p ∷ []; owed = more o.pages (array (zeros s) H p) o.owed readable.kept; reads = owed-append_read (zeros s) H cs' (ring_of r.links l) o.pages c p (array (zeros s) H p) o.reads content })
+    (λ o. record { pages = o.pages ++ array (zeros s) H p ∷ []; owed = more o.pages (array (zeros s) H p) o.owed readable.kept; reads = owed-append_read H cs' (ring_of r.links l) o.pages c p (array (zeros s) H p) o.reads content })
     others
     (λ q within.
     page_sent keeps keeps' s H r l p q lease flying x k.single slab_in link_in lies.mapped refl (λ m j bytes same. kept m j (place_of s q.0) bytes) (k.page q within))

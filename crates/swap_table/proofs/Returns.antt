@@ -233,15 +233,15 @@ awaited_came s H cs states m c bytes (Borrow u) other k = k
 awaited_came s H cs states m c bytes (Write p e) other k = k
 awaited_came s H cs states m c bytes (Read d q) other k = (k.0, k.1, k.2, let P : CallState → Type 0 = λ y. WaitsFrom m q y in subst P (sym (came_other cs c d bytes (other d q refl))) k.3)
 
-owed_came : (z : List ℕ) (H : History) (cs : Calls) (c : Caller) (bytes : List ℕ) (ring : List Request) (pages : List (List ℕ)) → AllByRecursion (λ y. (d : Caller) (q : Page) → y ≡ Read d q → d.0 ≡ c.0 → ⊥) ring → AreOwed z H cs ring pages → AreOwed z H (calls.came cs c bytes) ring pages
-owed_came z H cs c bytes [] [] all o = o
-owed_came z H cs c bytes [] (page ∷ pages) all o = o
-owed_came z H cs c bytes (Query u ∷ ring) pages all o = owed_came z H cs c bytes ring pages all.1 o
-owed_came z H cs c bytes (Borrow u ∷ ring) pages all o = owed_came z H cs c bytes ring pages all.1 o
-owed_came z H cs c bytes (Write p e ∷ ring) pages all o = owed_came z H cs c bytes ring pages all.1 o
-owed_came z H cs c bytes (Read d q ∷ ring) [] all o = o
-owed_came z H cs c bytes (Read d q ∷ ring) (page ∷ pages) all o =
-    (let P : CallState → Type 0 = λ y. IsContent (array z H q) page q y in subst P (sym (came_other cs c d bytes (all.0 d q refl))) o.0, owed_came z H cs c bytes ring pages all.1 o.1)
+owed_came : (H : History) (cs : Calls) (c : Caller) (bytes : List ℕ) (ring : List Request) (pages : List (List ℕ)) → AllByRecursion (λ y. (d : Caller) (q : Page) → y ≡ Read d q → d.0 ≡ c.0 → ⊥) ring → AreOwed H cs ring pages → AreOwed H (calls.came cs c bytes) ring pages
+owed_came H cs c bytes [] [] all o = o
+owed_came H cs c bytes [] (page ∷ pages) all o = o
+owed_came H cs c bytes (Query u ∷ ring) pages all o = owed_came H cs c bytes ring pages all.1 o
+owed_came H cs c bytes (Borrow u ∷ ring) pages all o = owed_came H cs c bytes ring pages all.1 o
+owed_came H cs c bytes (Write p e ∷ ring) pages all o = owed_came H cs c bytes ring pages all.1 o
+owed_came H cs c bytes (Read d q ∷ ring) [] all o = o
+owed_came H cs c bytes (Read d q ∷ ring) (page ∷ pages) all o =
+    (let P : CallState → Type 0 = λ y. IsContent H page q y in subst P (sym (came_other cs c d bytes (all.0 d q refl))) o.0, owed_came H cs c bytes ring pages all.1 o.1)
 
 -- the reads after a caller's, and those on other links, are other callers'
 after_read : (c : Caller) (p : Page) (y : Request) → MayPrecede (Read c p) y → (d : Caller) (q : Page) → y ≡ Read d q → d.0 ≡ c.0 → ⊥
@@ -283,17 +283,17 @@ elsewhere s H cs states l m c p (Read b o) w other a d q is same =
         reader _ = 0
 
 -- the page owed to the oldest read
-pub record OwesFirst (owes : Owing) (z : List ℕ) (H : History) (cs : Calls) (l : Lender) (c : Caller) (p : Page) (rest : List Request) : Type 0 where
+pub record OwesFirst (owes : Owing) (H : History) (cs : Calls) (l : Lender) (c : Caller) (p : Page) (rest : List Request) : Type 0 where
   pub page : List ℕ
   pub more : List (List ℕ)
   pub owed : owes l (page ∷ more)
-  pub content : IsContent (array z H p) page p (state_of cs c)
-  pub reads : AreOwed z H cs rest more
+  pub content : IsContent H page p (state_of cs c)
+  pub reads : AreOwed H cs rest more
 
-pub owes_first : (owes : Owing) (z : List ℕ) (H : History) (cs : Calls) (l : Lender) (c : Caller) (p : Page) (rest : List Request) → OwesReads owes z H cs l (Read c p ∷ rest) → OwesFirst owes z H cs l c p rest
-owes_first owes z H cs l c p rest o = go o.pages o.owed o.reads
+pub owes_first : (owes : Owing) (H : History) (cs : Calls) (l : Lender) (c : Caller) (p : Page) (rest : List Request) → OwesReads owes H cs l (Read c p ∷ rest) → OwesFirst owes H cs l c p rest
+owes_first owes H cs l c p rest o = go o.pages o.owed o.reads
   where
-    go : (pages : List (List ℕ)) → owes l pages → AreOwed z H cs (Read c p ∷ rest) pages → OwesFirst owes z H cs l c p rest
+    go : (pages : List (List ℕ)) → owes l pages → AreOwed H cs (Read c p ∷ rest) pages → OwesFirst owes H cs l c p rest
     go [] owed reads = absurd reads
     go (page ∷ more) owed reads = record { page = page; more = more; owed = owed; content = reads.0; reads = reads.1 }
 
@@ -333,11 +333,11 @@ brought_serves keeps keeps' owes owes' s n H cs r l c p bytes rest k up ring kep
       there = λ j other y h. awaited_came s H cs (slabs.with_state r.slabs t state) j c bytes y (elsewhere s H cs r.slabs l j c p y waits other h) (awaited_stays s H cs r.slabs t state j y slab_in (same j) (off j) h);
       owed =
           λ after o.
-          let f = owes_first owes (zeros s) H cs l c p rest o in
-          record { pages = f.more; owed = less f.page f.more f.owed; reads = owed_came (zeros s) H cs c bytes rest f.more (All-implies (MayPrecede x) _ rest (λ y h. after_read c p y h) after) f.reads };
+          let f = owes_first owes H cs l c p rest o in
+          record { pages = f.more; owed = less f.page f.more f.owed; reads = owed_came H cs c bytes rest f.more (All-implies (MayPrecede x) _ rest (λ y h. after_read c p y h) after) f.reads };
       others =
           λ j other all o.
-          record { pages = o.pages; owed = others j other o.pages o.owed; reads = owed_came (zeros s) H cs c bytes (ring_of r.links j) o.pages (All-implies (IsAwaited s H cs r.slabs j) _ (ring_of r.links j) (λ y h. elsewhere s H cs r.slabs l j c p y waits other h) all) o.reads };
+          record { pages = o.pages; owed = others j other o.pages o.owed; reads = owed_came H cs c bytes (ring_of r.links j) o.pages (All-implies (IsAwaited s H cs r.slabs j) _ (ring_of r.links j) (λ y h. elsewhere s H cs r.slabs l j c p y waits other h) all) o.reads };
     })
     refl
     (λ q q_in. page_back keeps keeps' s H r l q x rest t state m.lease m.flying link_in slab_in ring refl m.is is_state kept (k.page q q_in))

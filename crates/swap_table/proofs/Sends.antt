@@ -80,7 +80,7 @@ awaited_begun s H calls states t l m lease flying (Read c p) within is k = (k.0,
 
 -- the link that the request was sent on, and every other
 pub link_sent : (owes owes' : Owing) (s : Sizes) (n : ℕ) (H : History) (calls : Calls) (states states' : List SlabState) (l : Lender) (link : LinkState) (x : Request) → link.up ≡ true → ((y : Request) → IsAwaited s H calls states l y → IsAwaited s H calls states' l y) → IsAwaited s H calls states' l x
-    → AllByRecursion (λ y. MayPrecede y x) link.ring → (OwesReads owes (zeros s) H calls l link.ring → OwesReads owes' (zeros s) H calls l (link.ring ++ x ∷ [])) → LinkFits owes s n H calls states l link → LinkFits owes' s n H calls states' l (sent_on link x)
+    → AllByRecursion (λ y. MayPrecede y x) link.ring → (OwesReads owes H calls l link.ring → OwesReads owes' H calls l (link.ring ++ x ∷ [])) → LinkFits owes s n H calls states l link → LinkFits owes' s n H calls states' l (sent_on link x)
 link_sent owes owes' s n H calls states states' l link x up each awaited order reads k = record {
   quiet = λ down. absurd (both up down);
   lender = k.lender;
@@ -117,7 +117,7 @@ pub record LiesAt (s : Sizes) (r : Remote) (p : Page) (l : Lender) (lease : Leas
 
 pub sent_serves : (keeps keeps' : Keeping) (owes owes' : Owing) (s : Sizes) (n : ℕ) (H : History) (calls : Calls) (r : Remote) (l : Lender) (p : Page) (lease : Lease) (flying : ℕ) (x : Request)
     → Serves keeps owes s n H calls r → LiesAt s r p l lease flying → IsSendable s H calls r.slabs l p (ring_of r.links l) x
-    → (OwesReads owes (zeros s) H calls l (ring_of r.links l) → OwesReads owes' (zeros s) H calls l (ring_of r.links l ++ x ∷ []))
+    → (OwesReads owes H calls l (ring_of r.links l) → OwesReads owes' H calls l (ring_of r.links l ++ x ∷ []))
     → ((m : Lender) → (m.0 ≡ l.0 → ⊥) → (pages : List (List ℕ)) → owes m pages → owes' m pages)
     → ((q : Page) → q.0 < pages_of s → PageFits keeps' s H (rings.sent r.links l x) q (has_page r q) (state_for s (slabs.begun r.slabs (slab_for s p)) q))
     → Serves keeps' owes' s n H calls (sent_for s r l p x)

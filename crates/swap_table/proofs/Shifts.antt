@@ -21,27 +21,27 @@ use Rattle.swap_remote.specs.Remote.{Remote, state_for, has_page}
 use Rattle.swap_table.specs.Serves.{Keeping, Owing, entry_to, latest, IsOut, bytes_of, WaitsFrom, IsAwaited, IsContent, AreOwed, OwesReads, LinkFits, IsWriteKept, IsReadable, PageFits, Serves}
 use Rattle.swap_table.proofs.Lists.{All-implies}
 
--- what the history and the calls may do: entries stay, a waiting call waits on, and what it is owed stays its content
-pub record IsShift (z : List ℕ) (H H' : History) (calls calls' : Calls) : Type 0 where
+-- what the history and the calls may do: entries stay, a waiting call waits on, and what it is owed stays its entry's bytes
+pub record IsShift (H H' : History) (calls calls' : Calls) : Type 0 where
   pub entries : (p : Page) (e : EntryNo) → IsOut H p e → IsOut H' p e × (bytes_of H' e ≡ bytes_of H e)
   pub waits : (l : Lender) (c : Caller) (p : Page) → WaitsFrom l p (state_of calls c) → WaitsFrom l p (state_of calls' c)
-  pub owed : (l : Lender) (c : Caller) (p : Page) (page : List ℕ) → WaitsFrom l p (state_of calls c) → IsContent (array z H p) page p (state_of calls c) → IsContent (array z H' p) page p (state_of calls' c)
+  pub owed : (l : Lender) (c : Caller) (p : Page) (page : List ℕ) → WaitsFrom l p (state_of calls c) → IsContent H page p (state_of calls c) → IsContent H' page p (state_of calls' c)
 
-awaited_shift : (s : Sizes) (z : List ℕ) (H H' : History) (calls calls' : Calls) (states : List SlabState) (l : Lender) → IsShift z H H' calls calls' → (x : Request) → IsAwaited s H calls states l x → IsAwaited s H' calls' states l x
-awaited_shift s z H H' calls calls' states l shift (Query slab) h = absurd h
-awaited_shift s z H H' calls calls' states l shift (Borrow slab) h = h
-awaited_shift s z H H' calls calls' states l shift (Write p e) h = (h.0, h.1, (shift.entries p e h.2).0)
-awaited_shift s z H H' calls calls' states l shift (Read c p) h = (h.0, h.1, h.2, shift.waits l c p h.3)
+awaited_shift : (s : Sizes) (H H' : History) (calls calls' : Calls) (states : List SlabState) (l : Lender) → IsShift H H' calls calls' → (x : Request) → IsAwaited s H calls states l x → IsAwaited s H' calls' states l x
+awaited_shift s H H' calls calls' states l shift (Query slab) h = absurd h
+awaited_shift s H H' calls calls' states l shift (Borrow slab) h = h
+awaited_shift s H H' calls calls' states l shift (Write p e) h = (h.0, h.1, (shift.entries p e h.2).0)
+awaited_shift s H H' calls calls' states l shift (Read c p) h = (h.0, h.1, h.2, shift.waits l c p h.3)
 
-owed_shift : (s : Sizes) (z : List ℕ) (H H' : History) (calls calls' : Calls) (states : List SlabState) (l : Lender) → IsShift z H H' calls calls' → (ring : List Request) (pages : List (List ℕ)) → AllByRecursion (IsAwaited s H calls states l) ring → AreOwed z H calls ring pages → AreOwed z H' calls' ring pages
-owed_shift s z H H' calls calls' states l shift [] [] all o = o
-owed_shift s z H H' calls calls' states l shift [] (page ∷ pages) all o = o
-owed_shift s z H H' calls calls' states l shift (Query slab ∷ ring) pages all o = owed_shift s z H H' calls calls' states l shift ring pages all.1 o
-owed_shift s z H H' calls calls' states l shift (Borrow slab ∷ ring) pages all o = owed_shift s z H H' calls calls' states l shift ring pages all.1 o
-owed_shift s z H H' calls calls' states l shift (Write p e ∷ ring) pages all o = owed_shift s z H H' calls calls' states l shift ring pages all.1 o
-owed_shift s z H H' calls calls' states l shift (Read c p ∷ ring) [] all o = o
-owed_shift s z H H' calls calls' states l shift (Read c p ∷ ring) (page ∷ pages) all o =
-    (shift.owed l c p page all.0.3 o.0, owed_shift s z H H' calls calls' states l shift ring pages all.1 o.1)
+owed_shift : (s : Sizes) (H H' : History) (calls calls' : Calls) (states : List SlabState) (l : Lender) → IsShift H H' calls calls' → (ring : List Request) (pages : List (List ℕ)) → AllByRecursion (IsAwaited s H calls states l) ring → AreOwed H calls ring pages → AreOwed H' calls' ring pages
+owed_shift s H H' calls calls' states l shift [] [] all o = o
+owed_shift s H H' calls calls' states l shift [] (page ∷ pages) all o = o
+owed_shift s H H' calls calls' states l shift (Query slab ∷ ring) pages all o = owed_shift s H H' calls calls' states l shift ring pages all.1 o
+owed_shift s H H' calls calls' states l shift (Borrow slab ∷ ring) pages all o = owed_shift s H H' calls calls' states l shift ring pages all.1 o
+owed_shift s H H' calls calls' states l shift (Write p e ∷ ring) pages all o = owed_shift s H H' calls calls' states l shift ring pages all.1 o
+owed_shift s H H' calls calls' states l shift (Read c p ∷ ring) [] all o = o
+owed_shift s H H' calls calls' states l shift (Read c p ∷ ring) (page ∷ pages) all o =
+    (shift.owed l c p page all.0.3 o.0, owed_shift s H H' calls calls' states l shift ring pages all.1 o.1)
 
 -- the entry of the last write of a page is a page-out of it
 written_out : (s : Sizes) (H : History) (calls : Calls) (states : List SlabState) (l : Lender) (p : Page) (x : Request) (e : EntryNo) → IsAwaited s H calls states l x → entry_to p x ≡ Some e → IsOut H p e
@@ -91,19 +91,19 @@ page_shift keeps s H H' calls states links p bit bit' (Mapped l lease flying) al
   kept_shift keeps H H' l lease (place_of s p.0) p (latest p (ring_of links l)) (λ e is. latest_out s H calls states l p (ring_of links l) e (all l) is) entries k.1,
 )
 
-owes_shift : (owes : Owing) (s : Sizes) (z : List ℕ) (H H' : History) (calls calls' : Calls) (states : List SlabState) (l : Lender) (ring : List Request) → IsShift z H H' calls calls' → AllByRecursion (IsAwaited s H calls states l) ring → OwesReads owes z H calls l ring → OwesReads owes z H' calls' l ring
-owes_shift owes s z H H' calls calls' states l ring shift all o = record { pages = o.pages; owed = o.owed; reads = owed_shift s z H H' calls calls' states l shift ring o.pages all o.reads }
+owes_shift : (owes : Owing) (s : Sizes) (H H' : History) (calls calls' : Calls) (states : List SlabState) (l : Lender) (ring : List Request) → IsShift H H' calls calls' → AllByRecursion (IsAwaited s H calls states l) ring → OwesReads owes H calls l ring → OwesReads owes H' calls' l ring
+owes_shift owes s H H' calls calls' states l ring shift all o = record { pages = o.pages; owed = o.owed; reads = owed_shift s H H' calls calls' states l shift ring o.pages all o.reads }
 
-link_shift : (owes : Owing) (s : Sizes) (n : ℕ) (H H' : History) (calls calls' : Calls) (states : List SlabState) (l : Lender) (link : LinkState) → IsShift (zeros s) H H' calls calls' → LinkFits owes s n H calls states l link → LinkFits owes s n H' calls' states l link
+link_shift : (owes : Owing) (s : Sizes) (n : ℕ) (H H' : History) (calls calls' : Calls) (states : List SlabState) (l : Lender) (link : LinkState) → IsShift H H' calls calls' → LinkFits owes s n H calls states l link → LinkFits owes s n H' calls' states l link
 link_shift owes s n H H' calls calls' states l link shift k = record {
   quiet = k.quiet;
   lender = k.lender;
-  awaited = All-implies (IsAwaited s H calls states l) (IsAwaited s H' calls' states l) link.ring (λ x h. awaited_shift s (zeros s) H H' calls calls' states l shift x h) k.awaited;
+  awaited = All-implies (IsAwaited s H calls states l) (IsAwaited s H' calls' states l) link.ring (λ x h. awaited_shift s H H' calls calls' states l shift x h) k.awaited;
   ordered = k.ordered;
-  owed = λ up. owes_shift owes s (zeros s) H H' calls calls' states l link.ring shift k.awaited (k.owed up);
+  owed = λ up. owes_shift owes s H H' calls calls' states l link.ring shift k.awaited (k.owed up);
 }
 
-pub shifted_serves : (keeps : Keeping) (owes : Owing) (s : Sizes) (n : ℕ) (H H' : History) (calls calls' : Calls) (r : Remote) (bits : List Bool) → IsShift (zeros s) H H' calls calls' → length calls' ≡ length calls → length bits ≡ length r.bits
+pub shifted_serves : (keeps : Keeping) (owes : Owing) (s : Sizes) (n : ℕ) (H H' : History) (calls calls' : Calls) (r : Remote) (bits : List Bool) → IsShift H H' calls calls' → length calls' ≡ length calls → length bits ≡ length r.bits
     → ((p : Page) → p.0 < pages_of s → PageStays (zeros s) H H' p (has_page r p) (has bits p.0)) → Serves keeps owes s n H calls r → Serves keeps owes s n H' calls' (record r { bits = bits })
 shifted_serves keeps owes s n H H' calls calls' r bits shift len bits_len stays k = record {
   slabs_len = k.slabs_len;

@@ -28,7 +28,7 @@ use Rattle.swap_wire.specs.declared.fabric.Sent.{Sent}
 use Rattle.swap_wire.specs.declared.fabric.Sent.TheVariants as sent
 use Rattle.swap_wire.specs.declared.fabric.Gave.{Gave}
 use Rattle.swap_wire.specs.declared.fabric.Hosted.{Hosted}
-use Rattle.swap_wire.specs.Fabric.{Parcel, parcel_of, Handed, Brought, NothingCame, LinkLost, Connect, Send, Take, End, Give, Cut, Crash, Host}
+use Rattle.swap_wire.specs.Fabric.{Parcel, parcel_of, Handed, Brought, NothingCame, LinkLost, Connect, Send, Take, End, Give, Cut, Crash, Host, FabricOf}
 use Rattle.swap_slabs.specs.Slabs as slabs
 use Rattle.swap_rings.specs.Rings as rings
 use Rattle.swap_rings.specs.declared.Request.{Request}
@@ -56,6 +56,7 @@ use Rattle.swap_table.specs.Ports.{Prog, Ret, AskDisk, AskFabric, answering}
 -- The newest entry of a page is the history's last page-out of it, and isn't kept beside the history.
 pub record Device : Type 0 where
   pub sizes : Sizes
+  pub lenders : ℕ
   pub history : History
   pub queue : Queue
   pub calls : Calls
@@ -71,10 +72,15 @@ pub record Core (D F : Type 0) : Type 0 where
   pub fabric : F
   pub spare : ℕ
 
-abbrev pub new : Sizes → Device
-new s =
+-- what the device's disk and fabric have to be of
+abbrev pub of_device : Device → FabricOf
+of_device d = record { sizes = d.sizes; lenders = d.lenders }
+
+abbrev pub new : Sizes → ℕ → Device
+new s lenders =
     record {
       sizes = s;
+      lenders = lenders;
       history = [];
       queue = queue.empty (pages_of s) s.queue;
       calls = calls.all_idle s.callers;

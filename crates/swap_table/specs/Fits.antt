@@ -20,6 +20,7 @@ use Rattle.swap_calls.specs.declared.CallState.{CallState}
 use Rattle.swap_calls.specs.declared.CallState.TheVariants.{Idle, Room, Reading}
 use Rattle.swap_table.specs.Device.{Device, origin_of}
 use Rattle.swap_table.specs.Serves.{Keeping, Owing, Serves}
+use Rattle.swap_table.specs.Accounts.{Accounts}
 
 -- what may be given for a page of this content, by where it comes from: from a disk that tells its blocks the content,
 -- and from another disk anything; from a lender what answers the content; and else the content
@@ -150,9 +151,10 @@ pub record FitsDisk (told : Bool) (answers : List ℕ → List ℕ → Type 0) (
   pub agrees : AgreesAt told answers d p
 
 -- what a device, its disk and its fabric agree on, where the fabric keeps, owes and answers by these tests
-pub record Fits (told : Bool) (answers : List ℕ → List ℕ → Type 0) (keeps : Keeping) (owes : Owing) (lenders : ℕ) (d : Device) (p : Port) : Type 0 where
+pub record Fits (told : Bool) (answers : List ℕ → List ℕ → Type 0) (keeps : Keeping) (owes : Owing) (d : Device) (p : Port) : Type 0 where
   pub disk : FitsDisk told answers d p
-  pub serves : Serves keeps owes d.sizes lenders d.history d.calls d.remote
+  pub serves : Serves keeps owes d.sizes d.lenders d.history d.calls d.remote
+  pub accounts : Accounts answers d p.flights
 
 -- a disk of these sizes that nothing was asked of, and whose blocks, where it tells them, are zeros
 pub record IsBlank (s : Sizes) (p : Port) : Type 0 where

@@ -1,6 +1,11 @@
 pub mod Ports
 pub mod Device
+pub mod Happens
+pub mod Goes
+pub mod Moves
+pub mod Comes
 pub mod Serves
 pub mod Fits
-pub mod Fabrics
+pub mod Accounts
+pub mod Promises
 pub mod Laws

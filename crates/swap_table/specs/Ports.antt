@@ -33,3 +33,9 @@ abbrev pub run : {D F A : Type 0} → (D → (c : DiskCall) → DiskAnswer c × 
 run ask_disk ask_fabric (Ret a) d f = (a, (d, f))
 run ask_disk ask_fabric (AskDisk c next) d f = run ask_disk ask_fabric (next (ask_disk d c).0) (ask_disk d c).1 f
 run ask_disk ask_fabric (AskFabric c next) d f = run ask_disk ask_fabric (next (ask_fabric f c).0) d (ask_fabric f c).1
+
+-- one program after another, which goes by what the first gave
+abbrev pub then : {A B : Type 0} → Prog A → (A → Prog B) → Prog B
+then (Ret a) next = next a
+then (AskDisk c more) next = AskDisk c (λ r. then (more r) next)
+then (AskFabric c more) next = AskFabric c (λ r. then (more r) next)

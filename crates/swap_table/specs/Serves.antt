@@ -111,25 +111,25 @@ abbrev pub AreInOrder : List Request → Type 0
 AreInOrder [] = Unit {0}
 AreInOrder (request ∷ ring) = AllByRecursion (MayPrecede request) ring × AreInOrder ring
 
--- the page owed to a call that isn't newer is the page's content
-abbrev pub IsContent : List ℕ → List ℕ → Page → CallState → Type 0
-IsContent content page p (Reading q newest via how newer since) = newer ≡ false → page ≡ content
-IsContent content page p _ = Unit {0}
+-- the page owed to a call is the bytes of the entry that it keeps, newer or not
+abbrev pub IsContent : History → List ℕ → Page → CallState → Type 0
+IsContent H page p (Reading q newest via how newer since) = IsOut H p newest × (page ≡ bytes_of H newest)
+IsContent H page p _ = Unit {0}
 
 -- a link owes one page for each read of its ring, in order
-abbrev pub AreOwed : List ℕ → History → Calls → List Request → List (List ℕ) → Type 0
-AreOwed z H calls [] [] = Unit {0}
-AreOwed z H calls [] (page ∷ pages) = ⊥
-AreOwed z H calls (Query slab ∷ ring) pages = AreOwed z H calls ring pages
-AreOwed z H calls (Borrow slab ∷ ring) pages = AreOwed z H calls ring pages
-AreOwed z H calls (Write p entry ∷ ring) pages = AreOwed z H calls ring pages
-AreOwed z H calls (Read caller p ∷ ring) [] = ⊥
-AreOwed z H calls (Read caller p ∷ ring) (page ∷ pages) = IsContent (array z H p) page p (state_of calls caller) × AreOwed z H calls ring pages
+abbrev pub AreOwed : History → Calls → List Request → List (List ℕ) → Type 0
+AreOwed H calls [] [] = Unit {0}
+AreOwed H calls [] (page ∷ pages) = ⊥
+AreOwed H calls (Query slab ∷ ring) pages = AreOwed H calls ring pages
+AreOwed H calls (Borrow slab ∷ ring) pages = AreOwed H calls ring pages
+AreOwed H calls (Write p entry ∷ ring) pages = AreOwed H calls ring pages
+AreOwed H calls (Read caller p ∷ ring) [] = ⊥
+AreOwed H calls (Read caller p ∷ ring) (page ∷ pages) = IsContent H page p (state_of calls caller) × AreOwed H calls ring pages
 
-pub record OwesReads (owes : Owing) (z : List ℕ) (H : History) (calls : Calls) (l : Lender) (ring : List Request) : Type 0 where
+pub record OwesReads (owes : Owing) (H : History) (calls : Calls) (l : Lender) (ring : List Request) : Type 0 where
   pub pages : List (List ℕ)
   pub owed : owes l pages
-  pub reads : AreOwed z H calls ring pages
+  pub reads : AreOwed H calls ring pages
 
 -- a link: one that is down has nothing under way; one that is up leads to a lender and owes its reads' pages
 pub record LinkFits (owes : Owing) (s : Sizes) (lenders : ℕ) (H : History) (calls : Calls) (states : List SlabState) (l : Lender) (link : LinkState) : Type 0 where
@@ -137,7 +137,7 @@ pub record LinkFits (owes : Owing) (s : Sizes) (lenders : ℕ) (H : History) (ca
   pub lender : link.up ≡ true → l.0 < lenders
   pub awaited : AllByRecursion (IsAwaited s H calls states l) link.ring
   pub ordered : AreInOrder link.ring
-  pub owed : link.up ≡ true → OwesReads owes (zeros s) H calls l link.ring
+  pub owed : link.up ≡ true → OwesReads owes H calls l link.ring
 
 -- a slab: its lender's link is up, and so many requests for its pages are under way there
 abbrev pub SlabFits : Sizes → List LinkState → Slab → SlabState → Type 0

@@ -2,6 +2,7 @@
 #![tactic(auto)]
 
 ghost use Rattle.swap_table.specs.Laws.{EachCallKeeps, NewAgrees};
+ghost use Rattle.swap_table.specs.Promises.{FollowsItsMoves, Promises};
 
 use swap_base::{Caller, EntryNo, Lender, Page, Via};
 use swap_disk::DiskPort;
@@ -71,9 +72,17 @@ pub enum LinkStep {
     Lied,
 }
 
+/// What any disk and any fabric promise of their moves.
+pub fn ports_promise<D: DiskPort, F: Fabric>()
+    ensures disk { FollowsItsMoves D.DiskPort }
+    ensures fabric { Promises F.Fabric }
+{}
+
 /// Whatever disk and fabric answer, what a device, its disk and its fabric agree on holds after each call where it
 /// held before. Any disk and any fabric may stand below.
 pub fn calls_keep<D: DiskPort, F: Fabric>()
-    ensures each { EachCallKeeps D.means D.moves F.of F.moves F.keeps F.owes F.answers }
-    ensures new { NewAgrees D.means D.moves F.of F.moves F.keeps F.owes F.answers }
-{}
+    ensures each { EachCallKeeps D.DiskPort F.Fabric }
+    ensures new { NewAgrees D.DiskPort F.Fabric }
+{
+    ports_promise::<D, F>();
+}
