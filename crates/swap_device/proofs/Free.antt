@@ -15,7 +15,7 @@ use Rattle.swap_table.specs.Device.{Device, source}
 use Rattle.swap_table.specs.Fits.{FitsDisk, IsExpected}
 use Rattle.swap_table.proofs.Lists.{All-implies}
 use Rattle.swap_table.proofs.Agree.{other_read, other_write}
-use Rattle.swap_table.proofs.Calls.{may_read_waits}
+use Rattle.swap_table.proofs.Waits.{may_read_waits}
 
 find_none : {X : Type 0} (p : X → Bool) (xs : List X) → AllByRecursion (λ x. p x ≡ false) xs → find p xs ≡ None
 find_none p [] all = refl

@@ -1,5 +1,5 @@
 -- The oldest request of a link has what waits for its answer.
-use Rattle.std.proofs.Common.{◌≡◌, ℕ, ◌+◌, ◌<◌, true, List, ◌∷◌, refl, sym, ap, ◌∙◌, subst, arith, Option, None, Some}
+use Rattle.std.proofs.Common.{true, false, ◌≡◌, ℕ, ◌+◌, ◌<◌, List, ◌∷◌, refl, sym, ap, ◌∙◌, subst, arith, Option, None, Some}
 use Rattle.std.proofs.lemmas.Bool.{eq-eqb}
 use Rattle.std.specs.List.{AllByRecursion}
 use Rattle.swap_base.specs.declared.Page.{Page}
@@ -7,8 +7,6 @@ use Rattle.swap_base.specs.declared.Lender.{Lender}
 use Rattle.swap_base.specs.declared.Via.TheVariants as via
 use Rattle.swap_base.specs.Sizes.{Sizes, pages_of, slab_of}
 use Rattle.swap_wire.specs.declared.Msg.{Msg}
-use Rattle.swap_wire.specs.declared.Msg.TheVariants as msg
-use Rattle.swap_wire.specs.Fabric.{parcel_of}
 use Rattle.swap_calls.specs.Calls.{state_of, is_waiting}
 use Rattle.swap_calls.specs.declared.Arrived.TheVariants as arrived
 use Rattle.swap_calls.specs.declared.CallState.{CallState}
@@ -20,14 +18,18 @@ use Rattle.swap_rings.specs.Rings.{ring_of, oldest}
 use Rattle.swap_rings.specs.declared.Request.{Request}
 use Rattle.swap_rings.specs.declared.Request.TheVariants as request
 use Rattle.swap_remote.specs.Remote.{slab_for, state_for}
-use Rattle.swap_table.specs.Device.{Device, heard}
+use Rattle.swap_table.specs.Device.{Device, lost, understood}
 use Rattle.swap_table.specs.Serves.{Keeping, Owing, is_for_slab, flying_for, IsMappedTo, WaitsFrom, IsAwaited, SlabFits, Serves}
 use Rattle.swap_table.proofs.Lists.{one_if}
 use Rattle.swap_table.proofs.Links.{flying-cons}
 use Rattle.swap_table.proofs.Sends.{slab_within}
 use Rattle.swap_table.proofs.Returns.{Mapping, mapping_of}
-use Rattle.swap_table.proofs.Calls.{Front, front_of}
-use Rattle.swap_device.specs.State.{IsServed, heard_of}
+use Rattle.swap_table.proofs.Waits.{Front, front_of}
+use Rattle.swap_disk.specs.Port.{DiskCall, DiskAnswer}
+use Rattle.swap_wire.specs.Fabric.{FabricCall, FabricAnswer, End}
+use Rattle.swap_table.specs.Ports.{Along}
+use Rattle.swap_table.specs.declared.LinkStep.{LinkStep}
+use Rattle.swap_device.specs.State.{IsServed, IsHeard}
 
 waits_is : (l : Lender) (p : Page) (state : CallState) → WaitsFrom l p state → is_waiting state ≡ true
 waits_is l p Idle w = absurd w
@@ -67,23 +69,8 @@ served keeps owes n d l k = go (oldest (ring_of d.remote.links l)) refl
         let a = awaited (request.Read c p) f in
         (a.0, a.1, flies_one keeps owes n d l p (request.Read c p) f.rest k a.1 a.2 f.is (eq-eqb (slab_of d.sizes p.0) (slab_of d.sizes p.0) refl), waits_is l p (state_of d.calls c) a.3)
 
--- a message is heard with its own page
-pub heard_is : (d : Device) (l : Lender) (m : Msg) (bytes : List ℕ) (o : Option Request) → heard d l (parcel_of m bytes) o ≡ heard_of d l m bytes o
-heard_is d l m bytes None = refl
-heard_is d l m bytes (Some (request.Query slab)) = refl
-heard_is d l m bytes (Some (request.Borrow slab)) = refl
-heard_is d l m bytes (Some (request.Write p e)) = refl
-heard_is d l (msg.Hello v b n) bytes (Some (request.Read c p)) = refl
-heard_is d l (msg.Query t) bytes (Some (request.Read c p)) = refl
-heard_is d l (msg.Borrow t) bytes (Some (request.Read c p)) = refl
-heard_is d l (msg.Write k i) bytes (Some (request.Read c p)) = refl
-heard_is d l (msg.Read k i) bytes (Some (request.Read c p)) = refl
-heard_is d l (msg.Rates k v) bytes (Some (request.Read c p)) = refl
-heard_is d l (msg.Done k) bytes (Some (request.Read c p)) = refl
-heard_is d l (msg.Room t f) bytes (Some (request.Read c p)) = refl
-heard_is d l (msg.Lent t k) bytes (Some (request.Read c p)) = refl
-heard_is d l (msg.Refused t) bytes (Some (request.Read c p)) = refl
-heard_is d l (msg.Wrote k i) bytes (Some (request.Read c p)) = refl
-heard_is d l (msg.PageIs k i) bytes (Some (request.Read c p)) = refl
-heard_is d l (msg.AskRates k) bytes (Some (request.Read c p)) = refl
-heard_is d l (msg.Evict k) bytes (Some (request.Read c p)) = refl
+-- a message that isn't heard ends its link
+module _ {D F : Type 0} (disk_moves : D → (c : DiskCall) → DiskAnswer c → D → Type 0) (moves : F → (c : FabricCall) → FabricAnswer c → F → Type 0) where
+  pub unheard : (k : D) (f f' : F) (d now : Device) (l : Lender) (m : Msg) (o : Option Device) → IsHeard o d now false → moves f (End l) tt f' → Along disk_moves moves (understood d l m o) k f k f' (lost now l, LinkStep.Lied)
+  unheard k f f' d now l m None h ended = (tt, f', ended, (refl, refl, ap (λ (x : Device). (lost x l, LinkStep.Lied)) h.1))
+  unheard k f f' d now l m (Some x) h ended = absurd (let no : false ≡ true = h.0 in cc)

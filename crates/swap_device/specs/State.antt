@@ -17,13 +17,13 @@ use Rattle.swap_calls.specs.Calls.{CallTable, state_of, is_waiting}
 use Rattle.swap_calls.specs.declared.Arrived.TheVariants as arrived
 use Rattle.swap_calls.specs.declared.CallState.{CallState}
 use Rattle.swap_calls.specs.declared.CallState.TheVariants.{Reading}
-use Rattle.swap_disk.specs.Port.{Port}
+use Rattle.swap_disk.specs.Port.{DiskCall, DiskAnswer}
 use Rattle.swap_table.specs.declared.InStep.{InStep}
 use Rattle.swap_table.specs.declared.InStep.TheVariants as ins
 use Rattle.swap_table.specs.declared.Step.{Step}
 use Rattle.swap_table.specs.declared.Step.TheVariants as steps
 use Rattle.swap_table.specs.Device.{Device, Core, borrow_reply, write_reply, read_reply, borrow_answered, write_answered, read_answered}
-use Rattle.swap_wire.specs.Fabric.{FabricOf}
+use Rattle.swap_wire.specs.Fabric.{FabricCall, FabricAnswer}
 use Rattle.swap_base.specs.declared.Lender.{Lender}
 use Rattle.swap_base.specs.declared.Lease.{Lease}
 use Rattle.swap_slabs.specs.Slabs.{is_mapped, flying_of}
@@ -35,8 +35,10 @@ use Rattle.swap_rings.specs.declared.Request.{Request}
 use Rattle.swap_rings.specs.declared.Request.TheVariants as request
 use Rattle.swap_rings.specs.Rings.{ring_of}
 use Rattle.swap_remote.specs.Remote.{Table, Remote, state_for}
-use Rattle.swap_table.specs.Serves.{Keeping, Owing}
-use Rattle.swap_table.specs.Fits.{Fits}
+use Rattle.swap_table.specs.Ports.{Prog, Along}
+use Rattle.swap_table.specs.Laws.{AgreeWith}
+use Rattle.swap_disk.specs.declared.port.DiskPort.{Ghosts as DiskMeaning}
+use Rattle.swap_wire.specs.declared.fabric.Fabric.{Ghosts as FabricMeaning}
 
 -- a device without its ports, and the entries that its history has room for
 pub record Standing : Type 0 where
@@ -56,29 +58,36 @@ pub record AreTables (s : Sizes) (book : Book) (queue : Backlog) (calls : CallTa
   pub newest_len : length newest ≡ pages_of s
   pub newest_is : IsNewest (pages_of s) newest book.history
 
--- the device, its disk and its fabric agree, the fabric is of the device, and there is room for a page on its way
-pub record IsDevice (answers : List ℕ → List ℕ → Type 0) (keeps : Keeping) (owes : Owing) (of : FabricOf) (p : Port) (d : Device) (page : List ℕ) : Type 0 where
-  pub fits : Fits (is_some p.blocks) answers keeps owes of.lenders d p
-  pub fabric : of.sizes ≡ d.sizes
-  pub page_len : length page ≡ d.sizes.page_bytes
+-- a device, its disk and its fabric agree, and the fabric is of the device
+abbrev pub Agree : {D F : Type 0} → DiskMeaning D → FabricMeaning F → Core D F → Type 0
+Agree disk fabric core = AgreeWith disk fabric (is_some (disk.means core.disk).blocks) core.device core.disk core.fabric
 
--- an answered page-in gives the bytes that its entry keeps
-abbrev pub GivesBytes : Op → List ℕ → List ℕ → Type 0
-GivesBytes PageOut bytes given = Unit {0}
-GivesBytes (PageIn named from) bytes given = given ≡ bytes
-GivesBytes (Failed kind since at) bytes given = Unit {0}
+-- they agree, and there is room for a page on its way
+pub record IsDevice {D F : Type 0} (disk : DiskMeaning D) (fabric : FabricMeaning F) (core : Core D F) (page : List ℕ) : Type 0 where
+  pub agree : Agree disk fabric core
+  pub page_len : length page ≡ core.device.sizes.page_bytes
 
-abbrev pub GivesLast : History → List ℕ → Type 0
-GivesLast [] given = Unit {0}
-GivesLast (row ∷ H) given = GivesBytes row.entry.op row.bytes given
+-- a call went along its program: disk and fabric did what it asked, and the device is what it gave, with its answer
+abbrev pub Went : {D F R : Type 0} → (D → (c : DiskCall) → DiskAnswer c → D → Type 0) → (F → (c : FabricCall) → FabricAnswer c → F → Type 0) → (Device → Prog (Device × R)) → Core D F → Core D F → R → Type 0
+Went disk_moves moves program before now answer = Along disk_moves moves (program before.device) before.disk before.fabric now.disk now.fabric (now.device, answer)
 
-abbrev pub GivesIn : InStep → History → List ℕ → Type 0
-GivesIn (ins.Done entry) H given = GivesLast H given
-GivesIn (ins.Wait via) H given = Unit {0}
+-- an answered page-in gives the bytes that its entry keeps; else the buffer is as it was
+abbrev pub GivesBytes : Op → List ℕ → List ℕ → List ℕ → Type 0
+GivesBytes PageOut bytes before given = given ≡ before
+GivesBytes (PageIn named from) bytes before given = given ≡ bytes
+GivesBytes (Failed kind since at) bytes before given = given ≡ before
 
-abbrev pub GivesStep : Step → History → List ℕ → Type 0
-GivesStep (steps.Done entry sent) H given = GivesLast H given
-GivesStep _ H given = Unit {0}
+abbrev pub GivesLast : History → List ℕ → List ℕ → Type 0
+GivesLast [] before given = given ≡ before
+GivesLast (row ∷ H) before given = GivesBytes row.entry.op row.bytes before given
+
+abbrev pub GivesIn : InStep → History → List ℕ → List ℕ → Type 0
+GivesIn (ins.Done entry) H before given = GivesLast H before given
+GivesIn (ins.Wait via) H before given = given ≡ before
+
+abbrev pub GivesStep : Step → History → List ℕ → List ℕ → Type 0
+GivesStep (steps.Done entry sent) H before given = GivesLast H before given
+GivesStep _ H before given = given ≡ before
 
 -- each entry takes one from the room for entries
 abbrev pub KeepsRoom : {D F : Type 0} → Core D F → Core D F → Type 0

@@ -8,13 +8,12 @@ ghost use Rattle.swap_calls.specs.Calls.{state_of, is_idle};
 ghost use Rattle.swap_slabs.specs.Slabs as slabs;
 ghost use Rattle.swap_slabs.specs.declared.TheConstants.{MOST_LENDERS};
 ghost use Rattle.swap_rings.specs.Rings as rings;
-ghost use Rattle.swap_table.specs.Ports.{Along};
 ghost use Rattle.swap_table.specs.Device.{new, out, read, finish, disk_start, disk_take, took, link_take, map, connect};
-ghost use Rattle.swap_table.specs.Fits.{Fits, IsBlank};
-ghost use Rattle.swap_device.specs.State.{KeepsRoom, GivesIn, GivesStep, WritesBack, ReadsBack};
+ghost use Rattle.swap_table.specs.Fits.{IsBlank};
+ghost use Rattle.swap_device.specs.State.{Agree, Went, KeepsRoom, GivesIn, GivesStep, WritesBack, ReadsBack};
 
+use crate::machine::Machine;
 use crate::state::State;
-use crate::{links, steps};
 use std::alloc::Global;
 use std::marker::Model;
 use swap_base::{Caller, DiskWhich, EntryNo, Geometry, Lender, Link, NoMemory, Page, Slab};
@@ -23,15 +22,13 @@ use swap_disk::{DiskDone, DiskPort};
 use swap_queue::Failed;
 use swap_record::{Record, ReserveRefused};
 use swap_slabs::MOST_LENDERS;
-use swap_table::{DiskStep, InStep, LinkStep, OutStep, Step, calls_keep};
+use swap_table::{DiskStep, InStep, LinkStep, OutStep, Step, calls_keep, ports_promise};
 use swap_wire::{Fabric, Gave, Hosted};
 
 /// A paging device over its disk and its lenders' links.
 #[derive(Drop)]
 pub struct DeviceCore<D: DiskPort, F: Fabric> {
-    state: State,
-    disk: D,
-    fabric: F,
+    machine: Machine<D, F>,
     page: Vec<u8>,
 }
 
@@ -41,9 +38,9 @@ impl<D: DiskPort, F: Fabric> Model for DeviceCore<D, F> {
 
     ghost Value = { Core D F };
 
-    ghost view = { λ d. record { device = d.state.device; disk = d.disk; fabric = d.fabric; spare = d.state.spare } };
+    ghost view = { λ d. d.machine };
 
-    ghost invariant = { λ d. IsDevice F.answers (F.keeps d.fabric) (F.owes d.fabric) (F.of d.fabric) (D.means d.disk) d.state.device d.page.items };
+    ghost invariant = { λ d. IsDevice D.DiskPort F.Fabric d.machine d.page.items };
 }
 
 impl<D: DiskPort, F: Fabric> DeviceCore<D, F> {
@@ -55,7 +52,7 @@ impl<D: DiskPort, F: Fabric> DeviceCore<D, F> {
         requires bytes { length bytes.now ≡ self.old.device.sizes.page_bytes }
         requires idle { is_idle (state_of self.old.device.calls caller) ≡ true }
         requires spare { 0 < self.old.spare }
-        ensures moved { Along D.moves F.moves (out self.old.device caller page bytes.now) self.old.disk self.old.fabric self.new.disk self.new.fabric (self.new.device, result) }
+        ensures moved { Went D.moves F.moves (λ d. out d caller page bytes.now) self.old self.new result }
         ensures room { KeepsRoom self.old self.new }
     {
         self.page_out(caller, page, bytes)
@@ -68,18 +65,11 @@ impl<D: DiskPort, F: Fabric> DeviceCore<D, F> {
         requires bytes { length bytes.now ≡ self.old.device.sizes.page_bytes }
         requires idle { is_idle (state_of self.old.device.calls caller) ≡ true }
         requires spare { 0 < self.old.spare }
-        ensures moved { Along D.moves F.moves (out self.old.device caller page bytes.now) self.old.disk self.old.fabric self.new.disk self.new.fabric (self.new.device, result) }
+        ensures moved { Went D.moves F.moves (λ d. out d caller page bytes.now) self.old self.new result }
         ensures room { KeepsRoom self.old self.new }
     {
         calls_keep::<D, F>();
-        steps::out(
-            &mut self.state,
-            &mut self.disk,
-            &mut self.fabric,
-            caller,
-            page,
-            bytes,
-        )
+        self.machine.out(caller, page, bytes)
     }
 
     /// A page-in's first step. It answers `Wait` exactly where it started a read: where the page has a newest entry and
@@ -91,19 +81,12 @@ impl<D: DiskPort, F: Fabric> DeviceCore<D, F> {
         requires buf { length buf.old ≡ self.old.device.sizes.page_bytes }
         requires idle { is_idle (state_of self.old.device.calls caller) ≡ true }
         requires spare { 0 < self.old.spare }
-        ensures moved { Along D.moves F.moves (read self.old.device caller page) self.old.disk self.old.fabric self.new.disk self.new.fabric (self.new.device, result) }
+        ensures moved { Went D.moves F.moves (λ d. read d caller page) self.old self.new result }
         ensures room { KeepsRoom self.old self.new }
-        ensures gives { GivesIn result self.new.device.history buf.new }
+        ensures gives { GivesIn result self.new.device.history buf.old buf.new }
     {
         calls_keep::<D, F>();
-        steps::route(
-            &mut self.state,
-            &mut self.disk,
-            &mut self.fabric,
-            caller,
-            page,
-            buf,
-        )
+        self.machine.route(caller, page, buf)
     }
 
     /// A later step of a call. A page-out that waits answers `Room` exactly where the queue still has no room and no
@@ -117,49 +100,32 @@ impl<D: DiskPort, F: Fabric> DeviceCore<D, F> {
         requires buf { length buf.old ≡ self.old.device.sizes.page_bytes }
         requires busy { is_idle (state_of self.old.device.calls caller) ≡ false }
         requires spare { 0 < self.old.spare }
-        ensures moved { Along D.moves F.moves (finish self.old.device caller) self.old.disk self.old.fabric self.new.disk self.new.fabric (self.new.device, result) }
+        ensures moved { Went D.moves F.moves (λ d. finish d caller) self.old self.new result }
         ensures room { KeepsRoom self.old self.new }
-        ensures gives { GivesStep result self.new.device.history buf.new }
+        ensures gives { GivesStep result self.new.device.history buf.old buf.new }
     {
         calls_keep::<D, F>();
-        steps::finish(
-            &mut self.state,
-            &mut self.disk,
-            &mut self.fabric,
-            caller,
-            buf,
-            &mut self.page,
-        )
+        self.machine.finish(caller, buf, &mut self.page)
     }
 
     /// The copy at the front of the line goes to the disk. None exactly where the line is empty.
     pub fn disk_start(&mut self) -> Option<(Page, EntryNo)>
-        ensures moved { Along D.moves F.moves (disk_start self.old.device) self.old.disk self.old.fabric self.new.disk self.new.fabric (self.new.device, result) }
+        ensures moved { Went D.moves F.moves disk_start self.old self.new result }
         ensures room { KeepsRoom self.old self.new }
     {
         calls_keep::<D, F>();
-        steps::disk_start(
-            &mut self.state,
-            &mut self.disk,
-            &mut self.fabric,
-            &mut self.page,
-        )
+        self.machine.disk_start(&mut self.page)
     }
 
     /// Takes an operation that the disk has finished. `Nothing` comes exactly where the disk gave none.
     pub fn disk_take(&mut self) -> DiskStep
         requires writes { self.old.device.failed_writes + 1 < 2 ^ 64 }
         requires reads { self.old.device.failed_reads + 1 < 2 ^ 64 }
-        ensures moved { Along D.moves F.moves (disk_take self.old.device) self.old.disk self.old.fabric self.new.disk self.new.fabric (self.new.device, result) }
+        ensures moved { Went D.moves F.moves disk_take self.old self.new result }
         ensures room { KeepsRoom self.old self.new }
     {
         calls_keep::<D, F>();
-        steps::disk_take(
-            &mut self.state,
-            &mut self.disk,
-            &mut self.fabric,
-            &mut self.page,
-        )
+        self.machine.disk_take(&mut self.page)
     }
 
     /// Lets an operation of a disk in memory finish: the disk's answer, and nothing else of the device changes.
@@ -170,102 +136,90 @@ impl<D: DiskPort, F: Fabric> DeviceCore<D, F> {
         ensures spare { self.new.spare ≡ self.old.spare }
     {
         calls_keep::<D, F>();
-        self.disk.finish(which, ok)
+        self.machine.let_finish(which, ok)
     }
 
     /// Takes a message from a lender's link. `Nothing` comes exactly where the link is down or the fabric gave nothing,
     /// `Lost` where the fabric said that the link is lost, and `Lied` exactly where the message answers no request of
     /// the device's; the link is then ended.
     pub fn link_take(&mut self, lender: Lender) -> LinkStep
-        requires { lender.0 < (F.of self.old.fabric).lenders }
-        ensures moved { Along D.moves F.moves (link_take self.old.device lender) self.old.disk self.old.fabric self.new.disk self.new.fabric (self.new.device, result) }
+        requires { lender.0 < self.old.device.lenders }
+        ensures moved { Went D.moves F.moves (λ d. link_take d lender) self.old self.new result }
         ensures room { KeepsRoom self.old self.new }
     {
         calls_keep::<D, F>();
-        links::link_take(
-            &mut self.state,
-            &mut self.disk,
-            &mut self.fabric,
-            lender,
-            &mut self.page,
-        )
+        self.machine.link_take(lender, &mut self.page)
     }
 
     /// Asks a lender to lend a slab. False exactly where the slab isn't local or the link takes no request now; then
     /// nothing changes.
     pub fn map(&mut self, slab: Slab, lender: Lender) -> bool
         requires slab { slab.0 < self.old.device.sizes.slabs }
-        requires lender { lender.0 < (F.of self.old.fabric).lenders }
-        ensures moved { Along D.moves F.moves (map self.old.device slab lender) self.old.disk self.old.fabric self.new.disk self.new.fabric (self.new.device, result) }
+        requires lender { lender.0 < self.old.device.lenders }
+        ensures moved { Went D.moves F.moves (λ d. map d slab lender) self.old self.new result }
         ensures room { KeepsRoom self.old self.new }
     {
         calls_keep::<D, F>();
-        links::map(
-            &mut self.state,
-            &mut self.disk,
-            &mut self.fabric,
-            slab,
-            lender,
-        )
+        self.machine.map(slab, lender)
     }
 
     /// Makes a link to a lender, in place of the one that is up, and greets it. None exactly where 4,294,967,295 links
     /// were made; then nothing changes.
     pub fn connect(&mut self, lender: Lender) -> Option<Link>
-        requires { lender.0 < (F.of self.old.fabric).lenders }
-        ensures moved { Along D.moves F.moves (connect self.old.device lender) self.old.disk self.old.fabric self.new.disk self.new.fabric (self.new.device, result) }
+        requires { lender.0 < self.old.device.lenders }
+        ensures moved { Went D.moves F.moves (λ d. connect d lender) self.old self.new result }
         ensures room { KeepsRoom self.old self.new }
     {
         calls_keep::<D, F>();
-        links::connect(&mut self.state, &mut self.disk, &mut self.fabric, lender)
+        self.machine.connect(lender)
     }
 
     /// Lets a lender take the next message of its link: the fabric's answer, and nothing else of the device changes.
     pub fn give(&mut self, lender: Lender) -> Gave
-        requires { lender.0 < (F.of self.old.fabric).lenders }
+        requires { lender.0 < self.old.device.lenders }
         ensures device { self.new.device ≡ self.old.device }
         ensures disk { self.new.disk ≡ self.old.disk }
         ensures moved { F.moves self.old.fabric (Give lender) result self.new.fabric }
         ensures spare { self.new.spare ≡ self.old.spare }
     {
         calls_keep::<D, F>();
-        self.fabric.give(lender)
+        self.machine.give(lender)
     }
 
     /// Cuts a link in memory: the fabric's answer, and nothing else of the device changes.
     pub fn cut(&mut self, lender: Lender, to_lender: u32, to_device: u32) -> bool
-        requires { lender.0 < (F.of self.old.fabric).lenders }
+        requires { lender.0 < self.old.device.lenders }
         ensures device { self.new.device ≡ self.old.device }
         ensures disk { self.new.disk ≡ self.old.disk }
         ensures moved { F.moves self.old.fabric (Cut lender to_lender to_device) result self.new.fabric }
         ensures spare { self.new.spare ≡ self.old.spare }
     {
         calls_keep::<D, F>();
-        self.fabric.cut(lender, to_lender, to_device)
+        self.machine.cut(lender, to_lender, to_device)
     }
 
     /// Makes a lender in memory start anew: the fabric's answer, and nothing else of the device changes.
     pub fn crash(&mut self, lender: Lender) -> bool
-        requires { lender.0 < (F.of self.old.fabric).lenders }
+        requires { lender.0 < self.old.device.lenders }
         ensures device { self.new.device ≡ self.old.device }
         ensures disk { self.new.disk ≡ self.old.disk }
         ensures moved { F.moves self.old.fabric (Crash lender) result self.new.fabric }
         ensures spare { self.new.spare ≡ self.old.spare }
     {
         calls_keep::<D, F>();
-        self.fabric.crash(lender)
+        self.machine.crash(lender)
     }
 
     /// Tells a lender in memory how much its host uses: the fabric's answer, and nothing else of the device changes.
     pub fn host(&mut self, lender: Lender, used: u32, word: u64) -> Option<Hosted>
-        requires { lender.0 < (F.of self.old.fabric).lenders }
+        requires { lender.0 < self.old.device.lenders }
         ensures device { self.new.device ≡ self.old.device }
         ensures disk { self.new.disk ≡ self.old.disk }
         ensures moved { F.moves self.old.fabric (Host lender used word) result self.new.fabric }
         ensures spare { self.new.spare ≡ self.old.spare }
     {
         calls_keep::<D, F>();
-        self.fabric.host(lender, used, word)
+        self.machine.host(lender, used, word)
     }
 
     /// Makes room for `calls` more entries; after a refusal all is as before.
@@ -274,14 +228,14 @@ impl<D: DiskPort, F: Fabric> DeviceCore<D, F> {
         ensures err { OnErr result (self.new ≡ self.old) }
         ensures too_many { (result ≡ Err ReserveRefused.TooMany) ↔ (4_194_304 < length self.old.device.history + calls) }
     {
-        self.state.reserve(calls)
+        self.machine.state.reserve(calls)
     }
 
     /// The device's geometry.
     pub fn geometry(&self) -> Geometry
         ensures { result ≡ self.now.device.sizes }
     {
-        self.state.geometry()
+        self.machine.state.geometry()
     }
 
     /// The history of the answered calls.
@@ -290,7 +244,7 @@ impl<D: DiskPort, F: Fabric> DeviceCore<D, F> {
         ensures page { result.now.page_bytes ≡ self.now.device.sizes.page_bytes }
         ensures spare { result.now.spare ≡ self.now.spare }
     {
-        self.state.history()
+        self.machine.state.history()
     }
 
     /// The caller's call.
@@ -298,41 +252,40 @@ impl<D: DiskPort, F: Fabric> DeviceCore<D, F> {
         requires { caller.0 < self.now.device.sizes.callers }
         ensures { result ≡ state_of self.now.device.calls caller }
     {
-        self.state.call(caller)
+        self.machine.state.call(caller)
     }
 
     /// How many copies the write-behind queue has, of both kinds.
     pub fn copies(&self) -> u32
         ensures { result ≡ copies self.now.device.queue }
     {
-        self.state.copies()
+        self.machine.state.copies()
     }
 
     /// How many slabs are mapped.
     pub fn mapped(&self) -> u32
         ensures { result ≡ slabs.mapped self.now.device.remote.slabs }
     {
-        self.state.mapped()
+        self.machine.state.mapped()
     }
 
     /// The disk, for reading.
     pub fn disk(&self) -> &D
         ensures { result.now ≡ self.now.disk }
     {
-        &self.disk
+        &self.machine.disk
     }
 
     /// The fabric, for reading.
     pub fn fabric(&self) -> &F
         ensures { result.now ≡ self.now.fabric }
     {
-        &self.fabric
+        &self.machine.fabric
     }
 
     /// What the device, its disk and its fabric agree on.
     pub fn agrees(&self)
-        ensures fits { Fits (is_some (D.means self.now.disk).blocks) F.answers (F.keeps self.now.fabric) (F.owes self.now.fabric) (F.of self.now.fabric).lenders self.now.device (D.means self.now.disk) }
-        ensures of { (F.of self.now.fabric).sizes ≡ self.now.device.sizes }
+        ensures { Agree D.DiskPort F.Fabric self.now }
     {
         let _page = &self.page;
     }
@@ -351,26 +304,26 @@ impl<D: DiskPort + Drop, F: Fabric + Drop> DeviceCore<D, F> {
         requires disk { IsBlank geometry (D.means disk) }
         requires lenders { lenders ≤ MOST_LENDERS }
         requires fabric { F.fresh fabric (record { sizes = geometry; lenders = lenders }) }
-        ensures { IfOk result (λ core. core ≡ record { device = new geometry; disk = disk; fabric = fabric; spare = 0 }) }
+        ensures { IfOk result (λ core. core ≡ record { device = new geometry lenders; disk = disk; fabric = fabric; spare = 0 }) }
     {
         calls_keep::<D, F>();
-        let _lenders = lenders;
-        let state = State::make(alloc, geometry)?;
+        ports_promise::<D, F>();
+        let state = State::make(alloc, geometry, lenders)?;
         let Ok(page) = vec![in alloc; 0; geometry.page_bytes() as usize] else {
             return Err(NoMemory);
         };
-        Ok(DeviceCore {
+        let machine = Machine {
             state,
             disk,
             fabric,
-            page,
-        })
+        };
+        Ok(DeviceCore { machine, page })
     }
 
     /// Gives up the ports, as they are.
     pub fn ports(self) -> (D, F)
         ensures { result ≡ (self.disk, self.fabric) }
     {
-        (self.disk, self.fabric)
+        (self.machine.disk, self.machine.fabric)
     }
 }

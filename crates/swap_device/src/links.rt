@@ -7,19 +7,120 @@ ghost use Rattle.swap_slabs.specs.declared.TheConstants.{MOST_LENDERS};
 ghost use Rattle.swap_remote.specs.Remote.{state_for};
 ghost use Rattle.swap_rings.specs.Rings as rings;
 ghost use Rattle.swap_wire.specs.Fabric.{Parcel};
-ghost use Rattle.swap_table.specs.Ports.{Along};
 ghost use Rattle.swap_table.specs.Device.{borrow_reply, write_reply, read_reply, borrow_answered, write_answered, read_answered, heard, understood, link_take, map, connect_on, connect};
-ghost use Rattle.swap_table.specs.Fits.{Fits};
 ghost use Rattle.swap_table.specs.declared.TheConstants.{MOST_LINKS, WIRE_VERSION};
 ghost use Rattle.swap_wire.specs.Fabric.{parcel_of};
-ghost use Rattle.swap_device.specs.State.{IsHeard, IsServed, heard_of};
+ghost use Rattle.swap_device.specs.State.{Agree, Went, IsHeard, IsServed, heard_of};
 
+use crate::machine::Machine;
 use crate::state::State;
 use swap_base::{Caller, EntryNo, Lease, Lender, Link, Page, Slab};
 use swap_disk::DiskPort;
 use swap_rings::Request;
 use swap_table::{LinkStep, MOST_LINKS, WIRE_VERSION};
 use swap_wire::{Fabric, Msg, Sent, Took};
+
+impl<D: DiskPort, F: Fabric> Machine<D, F> {
+    // What a message does: it is heard, or its link is ended and lost.
+    fn understand(&mut self, lender: Lender, msg: Msg, bytes: &[u8]) -> LinkStep
+        requires few { lender.0 < MOST_LENDERS }
+        requires lender { lender.0 < (F.of self.old.fabric).lenders }
+        requires bytes { length bytes.now ≡ self.old.device.sizes.page_bytes }
+        requires front { IsServed self.old.device lender (rings.oldest (rings.ring_of self.old.device.remote.links lender)) }
+        ensures moved { Went D.moves F.moves (λ d. understood d lender msg (heard_of self.old.device lender msg bytes.now (rings.oldest (rings.ring_of self.old.device.remote.links lender)))) self.old self.new result }
+        ensures spare { self.new.spare ≡ self.old.spare }
+        ensures history { self.new.device.history ≡ self.old.device.history }
+    {
+        if hear(&mut self.state, lender, &msg, bytes) {
+            return LinkStep::Got(msg);
+        }
+        self.fabric.end(lender);
+        self.state.lost(lender);
+        LinkStep::Lied
+    }
+
+    /// Takes a message from a link that is up; its page stands in `page` on its way.
+    pub fn link_take(&mut self, lender: Lender, page: &mut [u8]) -> LinkStep
+        requires lender { lender.0 < (F.of self.old.fabric).lenders }
+        requires page { length page.old ≡ self.old.device.sizes.page_bytes }
+        requires agree { Agree D.DiskPort F.Fabric self.old }
+        ensures moved { Went D.moves F.moves (λ d. link_take d lender) self.old self.new result }
+        ensures spare { self.new.spare ≡ self.old.spare }
+        ensures history { self.new.device.history ≡ self.old.device.history }
+    {
+        if !self.state.is_up(lender) {
+            return LinkStep::Nothing;
+        }
+        match self.fabric.take(lender, page) {
+            Took::Nothing => LinkStep::Nothing,
+            Took::Lost => {
+                self.state.lost(lender);
+                LinkStep::Lost
+            }
+            Took::Got(msg) => self.understand(lender, msg, page),
+        }
+    }
+
+    /// Asks a lender to lend a slab.
+    pub fn map(&mut self, slab: Slab, lender: Lender) -> bool
+        requires slab { slab.0 < self.old.device.sizes.slabs }
+        requires few { lender.0 < MOST_LENDERS }
+        requires lender { lender.0 < (F.of self.old.fabric).lenders }
+        ensures moved { Went D.moves F.moves (λ d. map d slab lender) self.old self.new result }
+        ensures spare { self.new.spare ≡ self.old.spare }
+        ensures history { self.new.device.history ≡ self.old.device.history }
+    {
+        if !self.state.may_map(slab, lender) {
+            return false;
+        }
+        match self.fabric.send(lender, &Msg::Borrow { slab }, &[]) {
+            Sent::Sent => self.state.borrow_sent(slab, lender),
+            Sent::Down => self.state.lost(lender),
+        }
+        true
+    }
+
+    // Makes a link to a lender that none leads to, and greets it.
+    fn open_link(&mut self, lender: Lender) -> Option<Link>
+        requires few { lender.0 < MOST_LENDERS }
+        requires lender { lender.0 < (F.of self.old.fabric).lenders }
+        requires links { self.old.device.links_made < MOST_LINKS }
+        ensures moved { Went D.moves F.moves (λ d. connect_on d lender) self.old self.new result }
+        ensures spare { self.new.spare ≡ self.old.spare }
+        ensures history { self.new.device.history ≡ self.old.device.history }
+    {
+        let link = Link(self.state.links_made());
+        let geometry = self.state.geometry();
+        self.fabric.connect(lender, link);
+        self.state.raised(lender);
+        let hello = Msg::Hello {
+            version: WIRE_VERSION,
+            page_bytes: geometry.page_bytes(),
+            pages_per_slab: geometry.pages_per_slab(),
+        };
+        if let Sent::Down = self.fabric.send(lender, &hello, &[]) {
+            self.state.lost(lender);
+        }
+        Some(link)
+    }
+
+    /// Makes a link to a lender, in place of the one that is up.
+    pub fn connect(&mut self, lender: Lender) -> Option<Link>
+        requires few { lender.0 < MOST_LENDERS }
+        requires lender { lender.0 < (F.of self.old.fabric).lenders }
+        ensures moved { Went D.moves F.moves (λ d. connect d lender) self.old self.new result }
+        ensures spare { self.new.spare ≡ self.old.spare }
+        ensures history { self.new.device.history ≡ self.old.device.history }
+    {
+        if self.state.links_made() == MOST_LINKS {
+            return None;
+        }
+        if self.state.is_up(lender) {
+            self.state.lost(lender);
+        }
+        self.open_link(lender)
+    }
+}
 
 // The slab that a message lends or refuses, with its lease where it was lent.
 fn borrow_reply(msg: &Msg) -> Option<(Slab, Option<Lease>)>
@@ -143,137 +244,4 @@ fn hear(state: &mut State, lender: Lender, msg: &Msg, bytes: &[u8]) -> bool
             hear_read(state, lender, caller, page, msg, bytes)
         }
     }
-}
-
-// What a message does: it is heard, or its link is ended and lost.
-fn understand<D: DiskPort, F: Fabric>(
-    state: &mut State,
-    disk: &mut D,
-    fabric: &mut F,
-    lender: Lender,
-    msg: Msg,
-    bytes: &[u8],
-) -> LinkStep
-    requires few { lender.0 < MOST_LENDERS }
-    requires lender { lender.0 < (F.of fabric.old).lenders }
-    requires bytes { length bytes.now ≡ state.old.device.sizes.page_bytes }
-    requires front { IsServed state.old.device lender (rings.oldest (rings.ring_of state.old.device.remote.links lender)) }
-    ensures moved { Along D.moves F.moves (understood state.old.device lender msg (heard_of state.old.device lender msg bytes.now (rings.oldest (rings.ring_of state.old.device.remote.links lender)))) disk.old fabric.old disk.new fabric.new (state.new.device, result) }
-    ensures spare { state.new.spare ≡ state.old.spare }
-    ensures history { state.new.device.history ≡ state.old.device.history }
-{
-    let _disk = &disk;
-    if hear(state, lender, &msg, bytes) {
-        return LinkStep::Got(msg);
-    }
-    fabric.end(lender);
-    state.lost(lender);
-    LinkStep::Lied
-}
-
-/// Takes a message from a link that is up; its page stands in `page` on its way.
-pub fn link_take<D: DiskPort, F: Fabric>(
-    state: &mut State,
-    disk: &mut D,
-    fabric: &mut F,
-    lender: Lender,
-    page: &mut [u8],
-) -> LinkStep
-    requires lender { lender.0 < (F.of fabric.old).lenders }
-    requires page { length page.old ≡ state.old.device.sizes.page_bytes }
-    requires fits { Fits (is_some (D.means disk.old).blocks) F.answers (F.keeps fabric.old) (F.owes fabric.old) (F.of fabric.old).lenders state.old.device (D.means disk.old) }
-    requires of { (F.of fabric.old).sizes ≡ state.old.device.sizes }
-    ensures moved { Along D.moves F.moves (link_take state.old.device lender) disk.old fabric.old disk.new fabric.new (state.new.device, result) }
-    ensures spare { state.new.spare ≡ state.old.spare }
-    ensures history { state.new.device.history ≡ state.old.device.history }
-{
-    if !state.is_up(lender) {
-        return LinkStep::Nothing;
-    }
-    match fabric.take(lender, page) {
-        Took::Nothing => LinkStep::Nothing,
-        Took::Lost => {
-            state.lost(lender);
-            LinkStep::Lost
-        }
-        Took::Got(msg) => understand(state, disk, fabric, lender, msg, page),
-    }
-}
-
-/// Asks a lender to lend a slab.
-pub fn map<D: DiskPort, F: Fabric>(
-    state: &mut State,
-    disk: &mut D,
-    fabric: &mut F,
-    slab: Slab,
-    lender: Lender,
-) -> bool
-    requires slab { slab.0 < state.old.device.sizes.slabs }
-    requires few { lender.0 < MOST_LENDERS }
-    requires lender { lender.0 < (F.of fabric.old).lenders }
-    ensures moved { Along D.moves F.moves (map state.old.device slab lender) disk.old fabric.old disk.new fabric.new (state.new.device, result) }
-    ensures spare { state.new.spare ≡ state.old.spare }
-    ensures history { state.new.device.history ≡ state.old.device.history }
-{
-    let _disk = &disk;
-    if !state.may_map(slab, lender) {
-        return false;
-    }
-    match fabric.send(lender, &Msg::Borrow { slab }, &[]) {
-        Sent::Sent => state.borrow_sent(slab, lender),
-        Sent::Down => state.lost(lender),
-    }
-    true
-}
-
-// Makes a link to a lender that none leads to, and greets it.
-fn open_link<D: DiskPort, F: Fabric>(
-    state: &mut State,
-    disk: &mut D,
-    fabric: &mut F,
-    lender: Lender,
-) -> Option<Link>
-    requires few { lender.0 < MOST_LENDERS }
-    requires lender { lender.0 < (F.of fabric.old).lenders }
-    requires links { state.old.device.links_made < MOST_LINKS }
-    ensures moved { Along D.moves F.moves (connect_on state.old.device lender) disk.old fabric.old disk.new fabric.new (state.new.device, result) }
-    ensures spare { state.new.spare ≡ state.old.spare }
-    ensures history { state.new.device.history ≡ state.old.device.history }
-{
-    let _disk = &disk;
-    let link = Link(state.links_made());
-    let geometry = state.geometry();
-    fabric.connect(lender, link);
-    state.raised(lender);
-    let hello = Msg::Hello {
-        version: WIRE_VERSION,
-        page_bytes: geometry.page_bytes(),
-        pages_per_slab: geometry.pages_per_slab(),
-    };
-    if let Sent::Down = fabric.send(lender, &hello, &[]) {
-        state.lost(lender);
-    }
-    Some(link)
-}
-
-/// Makes a link to a lender, in place of the one that is up.
-pub fn connect<D: DiskPort, F: Fabric>(
-    state: &mut State,
-    disk: &mut D,
-    fabric: &mut F,
-    lender: Lender,
-) -> Option<Link>
-    requires few { lender.0 < MOST_LENDERS }
-    requires lender { lender.0 < (F.of fabric.old).lenders }
-    ensures moved { Along D.moves F.moves (connect state.old.device lender) disk.old fabric.old disk.new fabric.new (state.new.device, result) }
-    ensures spare { state.new.spare ≡ state.old.spare }
-    ensures history { state.new.device.history ≡ state.old.device.history }
-{
-    if state.links_made() == MOST_LINKS {
-        return None;
-    }
-    if state.is_up(lender) {
-        state.lost(lender);
-    }
-    open_link(state, disk, fabric, lender)
 }

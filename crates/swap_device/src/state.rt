@@ -39,6 +39,7 @@ pub(crate) struct State {
     failed_reads: u64,
     remote: Remote,
     links_made: u32,
+    lenders: u32,
 }
 
 impl Model for State {
@@ -49,6 +50,7 @@ impl Model for State {
     ghost view = { λ t. record {
       device = record {
         sizes = t.geometry;
+        lenders = t.lenders;
         history = t.entries.history;
         queue = t.queue.queue;
         calls = t.calls.calls;
@@ -93,8 +95,8 @@ fn enter(
 
 impl State {
     /// The tables of a device that nothing happened to.
-    pub fn make(alloc: Global, geometry: Geometry) -> Result<State, NoMemory>
-        ensures { IfOk result (λ t. t ≡ record { device = new geometry; spare = 0 }) }
+    pub fn make(alloc: Global, geometry: Geometry, lenders: u32) -> Result<State, NoMemory>
+        ensures { IfOk result (λ t. t ≡ record { device = new geometry lenders; spare = 0 }) }
     {
         let pages = geometry.pages() as usize;
         let entries = Record::make(alloc, geometry.page_bytes());
@@ -113,6 +115,7 @@ impl State {
             failed_reads: 0,
             remote: Remote::make(alloc, geometry)?,
             links_made: 0,
+            lenders,
         })
     }
 

@@ -13,12 +13,12 @@ ghost use Rattle.swap_calls.specs.Calls.{call_of, state_of, is_idle, may_read};
 ghost use Rattle.swap_rings.specs.Rings as rings;
 ghost use Rattle.swap_remote.specs.Remote as remote;
 ghost use Rattle.swap_wire.specs.Fabric.{parcel_of};
-ghost use Rattle.swap_table.specs.Ports.{Along, answering};
+ghost use Rattle.swap_table.specs.Ports.{answering};
 ghost use Rattle.swap_disk.specs.Disk.{bytes_given};
 ghost use Rattle.swap_table.specs.Device.{out, finish, disk_start, disk_take, took, write_to, accept, read_disk, read_at, route, routed_again, finish_out, give, fault, origin_of};
-ghost use Rattle.swap_table.specs.Fits.{Fits};
-ghost use Rattle.swap_device.specs.State.{MayGoTo, GivesIn, GivesStep, IsOutStep, CameFor, FailedFor, WritesBack, ReadsBack, Waits, EndsInOut};
+ghost use Rattle.swap_device.specs.State.{Agree, Went, KeepsRoom, MayGoTo, GivesIn, GivesStep, IsOutStep, CameFor, FailedFor, WritesBack, ReadsBack, Waits, EndsInOut};
 
+use crate::machine::Machine;
 use crate::state::State;
 use swap_base::{Caller, DiskWhich, EntryNo, Lease, Lender, Origin, Page, Via};
 use swap_calls::{Arrived, CallState};
@@ -27,248 +27,270 @@ use swap_queue::Failed;
 use swap_table::{DiskStep, InStep, OutStep, Step};
 use swap_wire::{Fabric, Msg, Sent};
 
-// A page goes to the lender of its slab, where there is one that takes it now.
-fn send_write<D: DiskPort, F: Fabric>(
-    state: &mut State,
-    disk: &mut D,
-    fabric: &mut F,
-    page: Page,
-    entry: EntryNo,
-    bytes: &[u8],
-    target: Option<(Lender, Lease)>,
-) -> Option<Lender>
-    requires page { page.0 < pages_of state.old.device.sizes }
-    requires target { MayGoTo state.old.device.sizes state.old.device.remote (F.of fabric.old).lenders page target }
-    requires bytes { length bytes.now ≡ (F.of fabric.old).sizes.page_bytes }
-    ensures moved { Along D.moves F.moves (write_to state.old.device page entry bytes.now target) disk.old fabric.old disk.new fabric.new (state.new.device, result) }
-    ensures spare { state.new.spare ≡ state.old.spare }
-    ensures history { state.new.device.history ≡ state.old.device.history }
-{
-    let (lender, lease) = target?;
-    let place = state.place(page);
-    match fabric.send(lender, &Msg::Write { lease, place }, bytes) {
-        Sent::Sent => {
-            state.write_sent(lender, page, entry);
-            Some(lender)
-        }
-        Sent::Down => {
-            state.lost(lender);
-            None
-        }
-    }
-}
-
-/// A page-out is accepted.
-pub fn accept<D: DiskPort, F: Fabric>(
-    state: &mut State,
-    disk: &mut D,
-    fabric: &mut F,
-    caller: Caller,
-    page: Page,
-    bytes: &[u8],
-) -> (EntryNo, Option<Lender>)
-    requires caller { caller.0 < state.old.device.sizes.callers }
-    requires page { page.0 < pages_of state.old.device.sizes }
-    requires bytes { length bytes.now ≡ state.old.device.sizes.page_bytes }
-    requires room { has_room state.old.device.queue page ≡ true }
-    requires spare { 0 < state.old.spare }
-    requires fits { Fits (is_some (D.means disk.old).blocks) F.answers (F.keeps fabric.old) (F.owes fabric.old) (F.of fabric.old).lenders state.old.device (D.means disk.old) }
-    requires of { (F.of fabric.old).sizes ≡ state.old.device.sizes }
-    ensures moved { Along D.moves F.moves (accept state.old.device caller page bytes.now) disk.old fabric.old disk.new fabric.new (state.new.device, result.1) }
-    ensures name { result.0 ≡ next_name state.old.device.history }
-    ensures room { length state.new.device.history + state.new.spare ≡ length state.old.device.history + state.old.spare }
-    ensures out { EndsInOut state.new.device.history }
-{
-    state.keeps_remote();
-    let target = state.target(page);
-    let entry = state.enter(caller, page, bytes);
-    let sent = send_write(state, disk, fabric, page, entry, bytes, target);
-    (entry, sent)
-}
-
-// A read of the disk begins.
-fn read_disk<D: DiskPort, F: Fabric>(
-    state: &mut State,
-    disk: &mut D,
-    fabric: &mut F,
-    caller: Caller,
-    page: Page,
-    newest: EntryNo,
-) -> InStep
-    requires caller { caller.0 < state.old.device.sizes.callers }
-    requires page { page.0 < pages_of state.old.device.sizes }
-    requires may_read { may_read (state_of state.old.device.calls caller) ≡ true }
-    requires sizes { (D.means disk.old).sizes ≡ state.old.device.sizes }
-    requires free { IsFree (D.means disk.old).flights (DiskWhich.Read caller) }
-    ensures moved { Along D.moves F.moves (read_disk state.old.device caller page newest) disk.old fabric.old disk.new fabric.new (state.new.device, result) }
-    ensures spare { state.new.spare ≡ state.old.spare }
-    ensures history { state.new.device.history ≡ state.old.device.history }
-    ensures waits { result ≡ InStep.Wait via.Disk }
-{
-    let _fabric = &fabric;
-    disk.start_read(caller, page);
-    state.wait_for_disk(caller, page, newest);
-    InStep::Wait { via: Via::Disk }
-}
-
-// A read of the lender that has the page begins, or one of the disk.
-fn read_at<D: DiskPort, F: Fabric>(
-    state: &mut State,
-    disk: &mut D,
-    fabric: &mut F,
-    caller: Caller,
-    page: Page,
-    newest: EntryNo,
-    source: Option<(Lender, Lease)>,
-) -> InStep
-    requires caller { caller.0 < state.old.device.sizes.callers }
-    requires page { page.0 < pages_of state.old.device.sizes }
-    requires may_read { may_read (state_of state.old.device.calls caller) ≡ true }
-    requires sizes { (D.means disk.old).sizes ≡ state.old.device.sizes }
-    requires free { IsFree (D.means disk.old).flights (DiskWhich.Read caller) }
-    requires source { MayGoTo state.old.device.sizes state.old.device.remote (F.of fabric.old).lenders page source }
-    ensures moved { Along D.moves F.moves (read_at state.old.device caller page newest source) disk.old fabric.old disk.new fabric.new (state.new.device, result) }
-    ensures spare { state.new.spare ≡ state.old.spare }
-    ensures history { state.new.device.history ≡ state.old.device.history }
-    ensures waits { Waits result }
-{
-    let Some((lender, lease)) = source else {
-        return read_disk(state, disk, fabric, caller, page, newest);
-    };
-    let place = state.place(page);
-    match fabric.send(lender, &Msg::Read { lease, place }, &[]) {
-        Sent::Sent => {
-            state.read_sent(lender, caller, page, newest);
-            InStep::Wait {
-                via: Via::Lender(lender),
+impl<D: DiskPort, F: Fabric> Machine<D, F> {
+    // A page goes to the lender of its slab, where there is one that takes it now.
+    fn send_write(
+        &mut self,
+        page: Page,
+        entry: EntryNo,
+        bytes: &[u8],
+        target: Option<(Lender, Lease)>,
+    ) -> Option<Lender>
+        requires page { page.0 < pages_of self.old.device.sizes }
+        requires target { MayGoTo self.old.device.sizes self.old.device.remote (F.of self.old.fabric).lenders page target }
+        requires bytes { length bytes.now ≡ (F.of self.old.fabric).sizes.page_bytes }
+        ensures moved { Went D.moves F.moves (λ d. write_to d page entry bytes.now target) self.old self.new result }
+        ensures spare { self.new.spare ≡ self.old.spare }
+        ensures history { self.new.device.history ≡ self.old.device.history }
+    {
+        let (lender, lease) = target?;
+        let place = self.state.place(page);
+        match self
+            .fabric
+            .send(lender, &Msg::Write { lease, place }, bytes)
+        {
+            Sent::Sent => {
+                self.state.write_sent(lender, page, entry);
+                Some(lender)
+            }
+            Sent::Down => {
+                self.state.lost(lender);
+                None
             }
         }
-        Sent::Down => {
-            state.lost(lender);
-            read_disk(state, disk, fabric, caller, page, newest)
+    }
+
+    /// A page-out is accepted.
+    pub fn accept(&mut self, caller: Caller, page: Page, bytes: &[u8]) -> (EntryNo, Option<Lender>)
+        requires caller { caller.0 < self.old.device.sizes.callers }
+        requires page { page.0 < pages_of self.old.device.sizes }
+        requires bytes { length bytes.now ≡ self.old.device.sizes.page_bytes }
+        requires room { has_room self.old.device.queue page ≡ true }
+        requires spare { 0 < self.old.spare }
+        requires agree { Agree D.DiskPort F.Fabric self.old }
+        ensures moved { Went D.moves F.moves (λ d. accept d caller page bytes.now) self.old self.new result.1 }
+        ensures name { result.0 ≡ next_name self.old.device.history }
+        ensures room { KeepsRoom self.old self.new }
+        ensures out { EndsInOut self.new.device.history }
+    {
+        self.state.keeps_remote();
+        let target = self.state.target(page);
+        let entry = self.state.enter(caller, page, bytes);
+        let sent = self.send_write(page, entry, bytes, target);
+        (entry, sent)
+    }
+
+    // A read of the disk begins.
+    fn read_disk(&mut self, caller: Caller, page: Page, newest: EntryNo) -> InStep
+        requires caller { caller.0 < self.old.device.sizes.callers }
+        requires page { page.0 < pages_of self.old.device.sizes }
+        requires may_read { may_read (state_of self.old.device.calls caller) ≡ true }
+        requires sizes { (D.means self.old.disk).sizes ≡ self.old.device.sizes }
+        requires free { IsFree (D.means self.old.disk).flights (DiskWhich.Read caller) }
+        ensures moved { Went D.moves F.moves (λ d. read_disk d caller page newest) self.old self.new result }
+        ensures spare { self.new.spare ≡ self.old.spare }
+        ensures history { self.new.device.history ≡ self.old.device.history }
+        ensures waits { result ≡ InStep.Wait via.Disk }
+    {
+        self.disk.start_read(caller, page);
+        self.state.wait_for_disk(caller, page, newest);
+        InStep::Wait { via: Via::Disk }
+    }
+
+    // A read of the lender that has the page begins, or one of the disk.
+    fn read_at(
+        &mut self,
+        caller: Caller,
+        page: Page,
+        newest: EntryNo,
+        source: Option<(Lender, Lease)>,
+    ) -> InStep
+        requires caller { caller.0 < self.old.device.sizes.callers }
+        requires page { page.0 < pages_of self.old.device.sizes }
+        requires may_read { may_read (state_of self.old.device.calls caller) ≡ true }
+        requires sizes { (D.means self.old.disk).sizes ≡ self.old.device.sizes }
+        requires free { IsFree (D.means self.old.disk).flights (DiskWhich.Read caller) }
+        requires source { MayGoTo self.old.device.sizes self.old.device.remote (F.of self.old.fabric).lenders page source }
+        ensures moved { Went D.moves F.moves (λ d. read_at d caller page newest source) self.old self.new result }
+        ensures spare { self.new.spare ≡ self.old.spare }
+        ensures history { self.new.device.history ≡ self.old.device.history }
+        ensures waits { Waits result }
+    {
+        let Some((lender, lease)) = source else {
+            return self.read_disk(caller, page, newest);
+        };
+        let place = self.state.place(page);
+        match self.fabric.send(lender, &Msg::Read { lease, place }, &[]) {
+            Sent::Sent => {
+                self.state.read_sent(lender, caller, page, newest);
+                InStep::Wait {
+                    via: Via::Lender(lender),
+                }
+            }
+            Sent::Down => {
+                self.state.lost(lender);
+                self.read_disk(caller, page, newest)
+            }
         }
     }
-}
 
-/// A page-out's first step: it is accepted, or kept for its caller until there is room.
-pub fn out<D: DiskPort, F: Fabric>(
-    state: &mut State,
-    disk: &mut D,
-    fabric: &mut F,
-    caller: Caller,
-    page: Page,
-    bytes: &[u8],
-) -> OutStep
-    requires caller { caller.0 < state.old.device.sizes.callers }
-    requires page { page.0 < pages_of state.old.device.sizes }
-    requires bytes { length bytes.now ≡ state.old.device.sizes.page_bytes }
-    requires idle { is_idle (state_of state.old.device.calls caller) ≡ true }
-    requires spare { 0 < state.old.spare }
-    requires fits { Fits (is_some (D.means disk.old).blocks) F.answers (F.keeps fabric.old) (F.owes fabric.old) (F.of fabric.old).lenders state.old.device (D.means disk.old) }
-    requires of { (F.of fabric.old).sizes ≡ state.old.device.sizes }
-    ensures moved { Along D.moves F.moves (out state.old.device caller page bytes.now) disk.old fabric.old disk.new fabric.new (state.new.device, result) }
-    ensures room { length state.new.device.history + state.new.spare ≡ length state.old.device.history + state.old.spare }
-{
-    if state.has_room(page) {
-        let (entry, sent) = accept(state, disk, fabric, caller, page, bytes);
-        OutStep::Done { entry, sent }
-    } else {
-        state.wait_for_room(caller, page, bytes);
-        OutStep::Room
+    /// A page-out's first step: it is accepted, or kept for its caller until there is room.
+    pub fn out(&mut self, caller: Caller, page: Page, bytes: &[u8]) -> OutStep
+        requires caller { caller.0 < self.old.device.sizes.callers }
+        requires page { page.0 < pages_of self.old.device.sizes }
+        requires bytes { length bytes.now ≡ self.old.device.sizes.page_bytes }
+        requires idle { is_idle (state_of self.old.device.calls caller) ≡ true }
+        requires spare { 0 < self.old.spare }
+        requires agree { Agree D.DiskPort F.Fabric self.old }
+        ensures moved { Went D.moves F.moves (λ d. out d caller page bytes.now) self.old self.new result }
+        ensures room { KeepsRoom self.old self.new }
+    {
+        if self.state.has_room(page) {
+            let (entry, sent) = self.accept(caller, page, bytes);
+            OutStep::Done { entry, sent }
+        } else {
+            self.state.wait_for_room(caller, page, bytes);
+            OutStep::Room
+        }
     }
-}
 
-/// A page is read where it is: nowhere, in the queue, in remote memory, or on the disk.
-pub fn route<D: DiskPort, F: Fabric>(
-    state: &mut State,
-    disk: &mut D,
-    fabric: &mut F,
-    caller: Caller,
-    page: Page,
-    buf: &mut [u8],
-) -> InStep
-    requires caller { caller.0 < state.old.device.sizes.callers }
-    requires page { page.0 < pages_of state.old.device.sizes }
-    requires buf { length buf.old ≡ state.old.device.sizes.page_bytes }
-    requires may_read { may_read (state_of state.old.device.calls caller) ≡ true }
-    requires spare { 0 < state.old.spare }
-    requires fits { Fits (is_some (D.means disk.old).blocks) F.answers (F.keeps fabric.old) (F.owes fabric.old) (F.of fabric.old).lenders state.old.device (D.means disk.old) }
-    ensures moved { Along D.moves F.moves (route state.old.device caller page) disk.old fabric.old disk.new fabric.new (state.new.device, result) }
-    ensures room { length state.new.device.history + state.new.spare ≡ length state.old.device.history + state.old.spare }
-    ensures gives { GivesIn result state.new.device.history buf.new }
-{
-    let Some(newest) = state.newest_entry(page) else {
-        clear(buf);
-        let entry = state.give(caller, page, None, Origin::Zero, buf);
-        return InStep::Done { entry };
-    };
-    if state.newest_copy(page, buf).is_some() {
-        let entry = state.give(caller, page, Some(newest), Origin::Queue, buf);
-        return InStep::Done { entry };
+    /// A page is read where it is: nowhere, in the queue, in remote memory, or on the disk.
+    pub fn route(&mut self, caller: Caller, page: Page, buf: &mut [u8]) -> InStep
+        requires caller { caller.0 < self.old.device.sizes.callers }
+        requires page { page.0 < pages_of self.old.device.sizes }
+        requires buf { length buf.old ≡ self.old.device.sizes.page_bytes }
+        requires may_read { may_read (state_of self.old.device.calls caller) ≡ true }
+        requires spare { 0 < self.old.spare }
+        requires agree { Agree D.DiskPort F.Fabric self.old }
+        ensures moved { Went D.moves F.moves (λ d. route d caller page) self.old self.new result }
+        ensures room { KeepsRoom self.old self.new }
+        ensures gives { GivesIn result self.new.device.history buf.old buf.new }
+    {
+        let Some(newest) = self.state.newest_entry(page) else {
+            clear(buf);
+            let entry = self.state.give(caller, page, None, Origin::Zero, buf);
+            return InStep::Done { entry };
+        };
+        if self.state.newest_copy(page, buf).is_some() {
+            let entry = self
+                .state
+                .give(caller, page, Some(newest), Origin::Queue, buf);
+            return InStep::Done { entry };
+        }
+        self.state.keeps_remote();
+        let source = self.state.source(page);
+        self.read_at(caller, page, newest, source)
     }
-    state.keeps_remote();
-    let source = state.source(page);
-    read_at(state, disk, fabric, caller, page, newest, source)
-}
 
-/// A page-in is routed again.
-pub fn route_again<D: DiskPort, F: Fabric>(
-    state: &mut State,
-    disk: &mut D,
-    fabric: &mut F,
-    caller: Caller,
-    page: Page,
-    buf: &mut [u8],
-) -> Step
-    requires caller { caller.0 < state.old.device.sizes.callers }
-    requires page { page.0 < pages_of state.old.device.sizes }
-    requires buf { length buf.old ≡ state.old.device.sizes.page_bytes }
-    requires may_read { may_read (state_of state.old.device.calls caller) ≡ true }
-    requires spare { 0 < state.old.spare }
-    requires fits { Fits (is_some (D.means disk.old).blocks) F.answers (F.keeps fabric.old) (F.owes fabric.old) (F.of fabric.old).lenders state.old.device (D.means disk.old) }
-    ensures moved { Along D.moves F.moves (answering routed_again (route state.old.device caller page)) disk.old fabric.old disk.new fabric.new (state.new.device, result) }
-    ensures room { length state.new.device.history + state.new.spare ≡ length state.old.device.history + state.old.spare }
-    ensures gives { GivesStep result state.new.device.history buf.new }
-{
-    match route(state, disk, fabric, caller, page, buf) {
-        InStep::Done { entry } => Step::Done { entry, sent: None },
-        InStep::Wait { via } => Step::Again { via },
+    /// A page-in is routed again.
+    pub fn route_again(&mut self, caller: Caller, page: Page, buf: &mut [u8]) -> Step
+        requires caller { caller.0 < self.old.device.sizes.callers }
+        requires page { page.0 < pages_of self.old.device.sizes }
+        requires buf { length buf.old ≡ self.old.device.sizes.page_bytes }
+        requires may_read { may_read (state_of self.old.device.calls caller) ≡ true }
+        requires spare { 0 < self.old.spare }
+        requires agree { Agree D.DiskPort F.Fabric self.old }
+        ensures moved { Went D.moves F.moves (λ d. answering routed_again (route d caller page)) self.old self.new result }
+        ensures room { KeepsRoom self.old self.new }
+        ensures gives { GivesStep result self.new.device.history buf.old buf.new }
+    {
+        match self.route(caller, page, buf) {
+            InStep::Done { entry } => Step::Done { entry, sent: None },
+            InStep::Wait { via } => Step::Again { via },
+        }
     }
-}
 
-/// A page-out that waits for room: it is accepted where there is some, and fails where a disk write failed since its
-/// first step. Its page is kept in `kept` on its way.
-pub fn finish_out<D: DiskPort, F: Fabric>(
-    state: &mut State,
-    disk: &mut D,
-    fabric: &mut F,
-    caller: Caller,
-    page: Page,
-    since: u64,
-    kept: &mut [u8],
-) -> Step
-    requires caller { caller.0 < state.old.device.sizes.callers }
-    requires page { page.0 < pages_of state.old.device.sizes }
-    requires kept { length kept.old ≡ state.old.device.sizes.page_bytes }
-    requires call { state_of state.old.device.calls caller ≡ CallState.Room page since }
-    requires spare { 0 < state.old.spare }
-    requires fits { Fits (is_some (D.means disk.old).blocks) F.answers (F.keeps fabric.old) (F.owes fabric.old) (F.of fabric.old).lenders state.old.device (D.means disk.old) }
-    requires of { (F.of fabric.old).sizes ≡ state.old.device.sizes }
-    ensures moved { Along D.moves F.moves (finish_out state.old.device caller page since (call_of state.old.device.calls caller).bytes) disk.old fabric.old disk.new fabric.new (state.new.device, result) }
-    ensures room { length state.new.device.history + state.new.spare ≡ length state.old.device.history + state.old.spare }
-    ensures out { IsOutStep result state.new.device.history }
-{
-    if state.has_room(page) {
-        kept.copy_from_slice(state.kept(caller));
-        let (entry, sent) = accept(state, disk, fabric, caller, page, kept);
-        return Step::Done { entry, sent };
+    /// A page-out that waits for room: it is accepted where there is some, and fails where a disk write failed since its
+    /// first step. Its page is kept in `kept` on its way.
+    pub fn finish_out(&mut self, caller: Caller, page: Page, since: u64, kept: &mut [u8]) -> Step
+        requires caller { caller.0 < self.old.device.sizes.callers }
+        requires page { page.0 < pages_of self.old.device.sizes }
+        requires kept { length kept.old ≡ self.old.device.sizes.page_bytes }
+        requires call { state_of self.old.device.calls caller ≡ CallState.Room page since }
+        requires spare { 0 < self.old.spare }
+        requires agree { Agree D.DiskPort F.Fabric self.old }
+        ensures moved { Went D.moves F.moves (λ d. finish_out d caller page since (call_of self.old.device.calls caller).bytes) self.old self.new result }
+        ensures room { KeepsRoom self.old self.new }
+        ensures out { IsOutStep result self.new.device.history }
+    {
+        if self.state.has_room(page) {
+            kept.copy_from_slice(self.state.kept(caller));
+            let (entry, sent) = self.accept(caller, page, kept);
+            return Step::Done { entry, sent };
+        }
+        let at = self.state.failed_writes();
+        if since < at {
+            let entry = self.state.fault_out(caller, page, since);
+            return Step::Fault { entry, since, at };
+        }
+        Step::Room
     }
-    let at = state.failed_writes();
-    if since < at {
-        let entry = state.fault_out(caller, page, since);
-        return Step::Fault { entry, since, at };
+
+    /// A later step of a call. A page that waited for room is kept in `kept` on its way.
+    pub fn finish(&mut self, caller: Caller, buf: &mut [u8], kept: &mut [u8]) -> Step
+        requires caller { caller.0 < self.old.device.sizes.callers }
+        requires buf { length buf.old ≡ self.old.device.sizes.page_bytes }
+        requires kept { length kept.old ≡ self.old.device.sizes.page_bytes }
+        requires busy { is_idle (state_of self.old.device.calls caller) ≡ false }
+        requires spare { 0 < self.old.spare }
+        requires agree { Agree D.DiskPort F.Fabric self.old }
+        ensures moved { Went D.moves F.moves (λ d. finish d caller) self.old self.new result }
+        ensures room { KeepsRoom self.old self.new }
+        ensures gives { GivesStep result self.new.device.history buf.old buf.new }
+    {
+        match self.state.call(caller) {
+            CallState::Idle => Step::Room,
+            CallState::Room { page, since } => { self.finish_out(caller, page, since, kept) }
+            CallState::Reading {
+                page,
+                newest,
+                via,
+                arrived,
+                newer,
+                since,
+            } => match (arrived, newer) {
+                (Arrived::Waiting, _) => Step::Wait { via },
+                (Arrived::Came, false) => finish_in(
+                    &mut self.state,
+                    caller,
+                    page,
+                    newest,
+                    via,
+                    buf,
+                ),
+                (Arrived::Failed, false) => fault_in(&mut self.state, caller, page, since, kept),
+                _ => self.route_again(caller, page, buf),
+            },
+        }
     }
-    Step::Room
+
+    /// The copy at the front of the line goes to the disk, with its page in `page` on its way.
+    pub fn disk_start(&mut self, page: &mut [u8]) -> Option<(Page, EntryNo)>
+        requires page { length page.old ≡ self.old.device.sizes.page_bytes }
+        requires agree { Agree D.DiskPort F.Fabric self.old }
+        ensures moved { Went D.moves F.moves (λ d. disk_start d) self.old self.new result }
+        ensures room { KeepsRoom self.old self.new }
+    {
+        let (of, entry) = self.state.start(page)?;
+        self.state.keeps_queue();
+        self.disk.start_write(of, page);
+        Some((of, entry))
+    }
+
+    /// Takes an operation that the disk has finished, with its page in `page` on its way.
+    pub fn disk_take(&mut self, page: &mut [u8]) -> DiskStep
+        requires page { length page.old ≡ self.old.device.sizes.page_bytes }
+        requires writes { self.old.device.failed_writes + 1 < 2 ^ 64 }
+        requires reads { self.old.device.failed_reads + 1 < 2 ^ 64 }
+        requires agree { Agree D.DiskPort F.Fabric self.old }
+        ensures moved { Went D.moves F.moves (λ d. disk_take d) self.old self.new result }
+        ensures room { KeepsRoom self.old self.new }
+    {
+        match self.disk.take(page) {
+            None => DiskStep::Nothing,
+            Some(done) => take_back(&mut self.state, done, page),
+        }
+    }
 }
 
 /// A page-in whose page came.
@@ -309,87 +331,6 @@ pub fn fault_in(state: &mut State, caller: Caller, page: Page, since: u64, blank
     let at = state.failed_reads();
     let entry = state.fault_in(caller, page, since, blank);
     Step::Fault { entry, since, at }
-}
-
-/// A later step of a call. A page that waited for room is kept in `kept` on its way.
-pub fn finish<D: DiskPort, F: Fabric>(
-    state: &mut State,
-    disk: &mut D,
-    fabric: &mut F,
-    caller: Caller,
-    buf: &mut [u8],
-    kept: &mut [u8],
-) -> Step
-    requires caller { caller.0 < state.old.device.sizes.callers }
-    requires buf { length buf.old ≡ state.old.device.sizes.page_bytes }
-    requires kept { length kept.old ≡ state.old.device.sizes.page_bytes }
-    requires busy { is_idle (state_of state.old.device.calls caller) ≡ false }
-    requires spare { 0 < state.old.spare }
-    requires fits { Fits (is_some (D.means disk.old).blocks) F.answers (F.keeps fabric.old) (F.owes fabric.old) (F.of fabric.old).lenders state.old.device (D.means disk.old) }
-    requires of { (F.of fabric.old).sizes ≡ state.old.device.sizes }
-    ensures moved { Along D.moves F.moves (finish state.old.device caller) disk.old fabric.old disk.new fabric.new (state.new.device, result) }
-    ensures room { length state.new.device.history + state.new.spare ≡ length state.old.device.history + state.old.spare }
-    ensures gives { GivesStep result state.new.device.history buf.new }
-{
-    match state.call(caller) {
-        CallState::Idle => Step::Room,
-        CallState::Room { page, since } => {
-            finish_out(state, disk, fabric, caller, page, since, kept)
-        }
-        CallState::Reading {
-            page,
-            newest,
-            via,
-            arrived,
-            newer,
-            since,
-        } => match (arrived, newer) {
-            (Arrived::Waiting, _) => Step::Wait { via },
-            (Arrived::Came, false) => finish_in(state, caller, page, newest, via, buf),
-            (Arrived::Failed, false) => fault_in(state, caller, page, since, kept),
-            _ => route_again(state, disk, fabric, caller, page, buf),
-        },
-    }
-}
-
-/// The copy at the front of the line goes to the disk, with its page in `page` on its way.
-pub fn disk_start<D: DiskPort, F: Fabric>(
-    state: &mut State,
-    disk: &mut D,
-    fabric: &mut F,
-    page: &mut [u8],
-) -> Option<(Page, EntryNo)>
-    requires page { length page.old ≡ state.old.device.sizes.page_bytes }
-    requires fits { Fits (is_some (D.means disk.old).blocks) F.answers (F.keeps fabric.old) (F.owes fabric.old) (F.of fabric.old).lenders state.old.device (D.means disk.old) }
-    ensures moved { Along D.moves F.moves (disk_start state.old.device) disk.old fabric.old disk.new fabric.new (state.new.device, result) }
-    ensures room { length state.new.device.history + state.new.spare ≡ length state.old.device.history + state.old.spare }
-{
-    let _fabric = &fabric;
-    let (of, entry) = state.start(page)?;
-    state.keeps_queue();
-    disk.start_write(of, page);
-    Some((of, entry))
-}
-
-/// Takes an operation that the disk has finished, with its page in `page` on its way.
-pub fn disk_take<D: DiskPort, F: Fabric>(
-    state: &mut State,
-    disk: &mut D,
-    fabric: &mut F,
-    page: &mut [u8],
-) -> DiskStep
-    requires page { length page.old ≡ state.old.device.sizes.page_bytes }
-    requires writes { state.old.device.failed_writes + 1 < 2 ^ 64 }
-    requires reads { state.old.device.failed_reads + 1 < 2 ^ 64 }
-    requires fits { Fits (is_some (D.means disk.old).blocks) F.answers (F.keeps fabric.old) (F.owes fabric.old) (F.of fabric.old).lenders state.old.device (D.means disk.old) }
-    ensures moved { Along D.moves F.moves (disk_take state.old.device) disk.old fabric.old disk.new fabric.new (state.new.device, result) }
-    ensures room { length state.new.device.history + state.new.spare ≡ length state.old.device.history + state.old.spare }
-{
-    let _fabric = &fabric;
-    match disk.take(page) {
-        None => DiskStep::Nothing,
-        Some(done) => take_back(state, done, page),
-    }
 }
 
 // What the disk gave back: a write ends its copy's flight, and a read its caller's wait.

@@ -1,8 +1,7 @@
-use Rattle.std.proofs.Common.{refl, sym, ap, ◌∙◌, length}
+use Rattle.std.proofs.Common.{sym, ap, ◌∙◌, length}
+use Rattle.swap_table.specs.Device.{disk_start}
 use Rattle.swap_device.proofs.Held.{held_along, length-lent}
 use Rattle.swap_device.proofs.device.DeviceCore.disk_start.Goals as goal
 
 pub invariant_of-self : goal.invariant_of-self
-invariant_of-self g c =
-    let v = c.deref_mut.ensures in
-    held_along g.D.DiskPort.means g.D.DiskPort.moves g.F.Fabric.of g.F.Fabric.moves g.F.Fabric.keeps g.F.Fabric.owes g.F.Fabric.answers _ _ _ _ _ _ _ _ _ _ c.self.invariant (c.calls_keep.ensures.each.disk_start _ _ _ _ _ (c.self.invariant.fits, refl)) c.disk_start.ensures.moved (length-lent _ _ _ (c.disk_start.auto.page ∙ v.len) (ap length (sym v.value) ∙ v.len))
+invariant_of-self g c = let v = c.deref_mut.ensures in held_along g.D.DiskPort g.F.Fabric _ disk_start _ _ _ _ _ c.self.invariant (c.calls_keep.ensures.each.disk_start _ _ _ _ c.self.invariant.agree) c.disk_start.ensures.moved (length-lent _ _ _ (c.disk_start.auto.page ∙ v.len) (ap length (sym v.value) ∙ v.len))
