@@ -1,59 +1,41 @@
 -- Each caller's calls are answered once, in order, whatever disk and fabric do.
-use Rattle.std.proofs.Common.{◌≡◌, ℕ, ◌<◌, Bool, true, false, cond, ◌&&◌, not, nat_lt, ◌==◌, List, [], ◌∷◌, get_or, set, length, replicate, zero, suc, refl, sym, ap, ◌∙◌, subst, get_or-set_same, get_or-set_other, is_none, Option, None, Some}
+use Rattle.std.proofs.Common.{◌≡◌, ℕ, ◌<◌, Bool, true, false, cond, ◌&&◌, not, ◌==◌, List, [], ◌∷◌, set, length, refl, sym, ap, ◌∙◌, subst, get_or-set_same, get_or-set_other, Option, None, Some, get_or, replicate, zero, suc}
 use Rattle.std.proofs.lemmas.Bool.{eq-eqb}
 use Rattle.std.proofs.lemmas.List.{length-map}
 use Rattle.swap_base.specs.declared.Page.{Page}
 use Rattle.swap_base.specs.declared.Caller.{Caller}
 use Rattle.swap_base.specs.declared.EntryNo.{EntryNo}
-use Rattle.swap_base.specs.declared.Slab.{Slab}
 use Rattle.swap_base.specs.declared.Lender.{Lender}
-use Rattle.swap_base.specs.declared.Link.{Link}
-use Rattle.swap_base.specs.declared.Lease.{Lease}
-use Rattle.swap_base.specs.declared.Via.TheVariants as via
+use Rattle.swap_base.specs.declared.Via.{Via}
 use Rattle.swap_base.specs.declared.DiskWhich.{DiskWhich}
-use Rattle.swap_base.specs.declared.DiskWhich.TheVariants as which
-use Rattle.swap_base.specs.Sizes.{Sizes}
 use Rattle.swap_wire.specs.Input.{Input}
 use Rattle.swap_wire.specs.declared.Event.{Event}
-use Rattle.swap_wire.specs.declared.Event.TheVariants as event
 use Rattle.swap_wire.specs.declared.Seen.{Seen}
-use Rattle.swap_wire.specs.declared.Seen.TheVariants as seen
 use Rattle.swap_record.specs.declared.Op.{Op}
-use Rattle.swap_record.specs.declared.Op.TheVariants as op
-use Rattle.swap_record.specs.History.{History, Row, pushed, row_of, last, entries_of}
-use Rattle.swap_queue.specs.Queue as queue
+use Rattle.swap_record.specs.History.{History, Row, pushed, row_of, entries_of}
 use Rattle.swap_queue.specs.Queue.{Copy}
 use Rattle.swap_disk.specs.Disk.{Taken}
-use Rattle.swap_disk.specs.Port.{DiskCall, DiskAnswer}
-use Rattle.swap_wire.specs.declared.Msg.{Msg}
-use Rattle.swap_wire.specs.declared.fabric.Sent.{Sent}
-use Rattle.swap_wire.specs.declared.fabric.Sent.TheVariants as sent
-use Rattle.swap_wire.specs.Fabric.{Parcel, Handed, Brought, NothingCame, LinkLost, FabricCall, FabricAnswer}
-use Rattle.swap_slabs.specs.Slabs as slabs
-use Rattle.swap_rings.specs.Rings as rings
-use Rattle.swap_rings.specs.declared.Request.{Request}
-use Rattle.swap_rings.specs.declared.Request.TheVariants as request
-use Rattle.swap_remote.specs.Remote as remote
-use Rattle.swap_calls.specs.Calls as calls
 use Rattle.swap_calls.specs.Calls.{Call, Calls, state_of, call_of, idle, is_idle}
 use Rattle.swap_calls.specs.declared.Arrived.{Arrived}
-use Rattle.swap_calls.specs.declared.Arrived.TheVariants as arrived
 use Rattle.swap_calls.specs.declared.CallState.{CallState}
 use Rattle.swap_calls.specs.declared.CallState.TheVariants.{Idle, Room, Reading}
-use Rattle.swap_table.specs.Ports.{Prog, answering, Leads}
-use Rattle.swap_table.specs.Device as device
-use Rattle.swap_table.specs.Device.{Device, new, enter, lost, after_write, write_to, accept, accepted, accepted_late, read_disk, after_read, read_at, source, route, route_by, routed_again, out, finish, finish_by, disk_start, start_front, start_copy, disk_take, took, took_back, wrote, borrow_reply, write_reply, read_reply, lent_or_refused, borrow_answered, write_answered, read_answered, heard, understood, took_from, link_take, after_borrow, may_map, raised, after_hello, connect_on, without_link, connect, give_to}
-use Rattle.swap_table.specs.declared.TheConstants.{MOST_LINKS}
-use Rattle.swap_table.specs.declared.LinkStep.{LinkStep}
-use Rattle.swap_table.specs.declared.OutStep.{OutStep}
-use Rattle.swap_table.specs.declared.InStep.{InStep}
-use Rattle.swap_table.specs.declared.InStep.TheVariants as ins
-use Rattle.swap_table.specs.declared.Step.{Step}
-use Rattle.swap_table.proofs.Lists.{chosen, by_caller, not_eqb}
+use Rattle.swap_table.specs.Device.{Device, new, enter, give, fault, wait_for_room, lost, took, took_back, wrote}
+use Rattle.swap_table.proofs.Lists.{by_caller, not_eqb}
 use Rattle.swap_table.proofs.Agree.{get_or-map_idle}
-use Rattle.swap_table.proofs.Programs.{Leads-answering, Leads-implies}
-use Rattle.swap_world.specs.Answered.{is_call_of, is_busy, with_call, calls_of, Answers, AnswersEach, AnswersAll, AreAnsweredOnce, IsInOrFault, IsOutOrFault}
-use Rattle.swap_world.specs.World.{happens, seen_by, taken_if, see_out, see_in, see_step, see_start, see_disk, see_map, see_link, see_gave, see_take}
+use Rattle.swap_world.specs.Answered.{is_call_of, is_busy, with_call, Answers, AnswersEach, IsInOrFault, IsOutOrFault, calls_of, AnswersAll, AreAnsweredOnce}
+use Rattle.swap_table.specs.Moves.{full, unread}
+use Rattle.swap_table.specs.Comes.{Linked, is_new, begins_out, goes_on_out, begins_in, goes_on_in, Comes, refuses, rests, accepts, gives_page, fails, keeps_page, reads, starts_write, takes_back, links, brings}
+use Rattle.swap_table.proofs.Comings.{linked_keep}
+use Rattle.swap_base.specs.Sizes.{Sizes}
+use Rattle.swap_base.specs.declared.Via.TheVariants as via
+use Rattle.swap_base.specs.declared.DiskWhich.TheVariants as which
+use Rattle.swap_wire.specs.declared.Event.TheVariants as event
+use Rattle.swap_wire.specs.declared.Seen.TheVariants as seen
+use Rattle.swap_record.specs.declared.Op.TheVariants as op
+use Rattle.swap_queue.specs.Queue as queue
+use Rattle.swap_calls.specs.Calls as calls
+use Rattle.swap_calls.specs.declared.Arrived.TheVariants as arrived
+use Rattle.swap_base.specs.declared.CallKind.TheVariants as kind
 
 -- the event that a call answers, while the call is under way
 abbrev pub OpensOut : Page → List ℕ → List ℕ → Event → Type 0
@@ -77,6 +59,11 @@ OpenCall call is rows = Open call.state call.bytes is rows
 abbrev pub OpenAt : Caller → Device → List Input → Type 0
 OpenAt c d is = OpenCall (call_of d.calls c) is (entries_of c d.history)
 
+pub set-idle : (cs : Calls) (i : ℕ) → get_or (set cs i idle) i idle ≡ idle
+set-idle [] i = refl
+set-idle (x ∷ cs) zero = refl
+set-idle (x ∷ cs) (suc i) = set-idle cs i
+
 -- what a caller has, where its call and its entries are these
 open_as : (call call' : Call) (is : List Input) (rows rows' : List Row) → call' ≡ call → rows' ≡ rows → OpenCall call is rows → OpenCall call' is rows'
 open_as call call' is rows rows' ec er h =
@@ -94,11 +81,6 @@ entries-other c e H p o bytes ne = ap (λ b. cond b (row_of H e p o bytes ∷ en
 
 entries-own : (c : Caller) (H : History) (p : Page) (o : Op) (bytes : List ℕ) → entries_of c (pushed H c p o bytes) ≡ row_of H c p o bytes ∷ entries_of c H
 entries-own c H p o bytes = ap (λ b. cond b (row_of H c p o bytes ∷ entries_of c H) (entries_of c H)) (eq-eqb c.0 c.0 refl)
-
-pub set-idle : (cs : Calls) (i : ℕ) → get_or (set cs i idle) i idle ≡ idle
-set-idle [] i = refl
-set-idle (x ∷ cs) zero = refl
-set-idle (x ∷ cs) (suc i) = set-idle cs i
 
 -- another caller's entry and call change nothing for this one
 push_other : (c e : Caller) (H : History) (cs : Calls) (p : Page) (o : Op) (bytes : List ℕ) (is : List Input) → (c.0 ≡ e.0 → ⊥) → OpenCall (call_of cs c) is (entries_of c H) → OpenCall (call_of (calls.ended cs e) c) is (entries_of c (pushed H e p o bytes))
@@ -153,18 +135,6 @@ idle_open Idle own is rows e h = h
 idle_open (Room p since) own is rows e h = cc
 idle_open (Reading p n v how newer since) own is rows e h = cc
 
-pub answers_all : (state : CallState) (own : List ℕ) (is : List Input) (rows : List Row) → Open state own is rows → AnswersAll (is_idle state) is rows
-answers_all Idle own is rows h = h
-answers_all (Room p since) own [] rows h = h
-answers_all (Room p since) own (i ∷ is) rows h = h.1
-answers_all (Reading p n v how newer since) own [] rows h = h
-answers_all (Reading p n v how newer since) own (i ∷ is) rows h = h.1
-
-pub idle_at : (n i : ℕ) → get_or (replicate n idle) i idle ≡ idle
-idle_at zero i = refl
-idle_at (suc n) zero = refl
-idle_at (suc n) (suc i) = idle_at n i
-
 enter_other : (c e : Caller) (d : Device) (p : Page) (bytes : List ℕ) (is : List Input) → (c.0 ≡ e.0 → ⊥) → OpenAt c d is → OpenAt c (enter d e p bytes) is
 enter_other c e d p bytes is ne h = push_other c e d.history (calls.paged_out d.calls p) p op.PageOut bytes is ne (marked c d.history d.calls p is h)
 
@@ -186,53 +156,6 @@ lost_open : (c : Caller) (d : Device) (l : Lender) (is : List Input) → OpenAt 
 lost_open c d l is h =
     open_as (calls.with_state (calls.lost_if_through l) (call_of d.calls c)) _ is (entries_of c d.history) _ (get_or-map_idle (calls.with_state (calls.lost_if_through l)) d.calls c.0 refl) refl (lost_state l (state_of d.calls c) (call_of d.calls c).bytes is (entries_of c d.history) h)
 
-lost_within : (c : Caller) (d : Device) (l : Lender) → c.0 < length d.calls → c.0 < length (lost d l).calls
-lost_within c d l within = subst (λ n. c.0 < n) (sym (length-map d.calls (calls.with_state (calls.lost_if_through l)))) within
-
-after_write_open : (c : Caller) (d : Device) (l : Lender) (p : Page) (e : EntryNo) (r : Sent) (is : List Input) → OpenAt c d is → OpenAt c (after_write d l p e r).0 is
-after_write_open c d l p e sent.Sent is h = h
-after_write_open c d l p e sent.Down is h = lost_open c d l is h
-
--- what came over a link: a message is heard, a slab is asked for, a link is made
-abbrev pub OpenSome : Caller → List Input → Option Device → Type 0
-OpenSome c is None = Unit {0}
-OpenSome c is (Some d) = OpenAt c d is
-
-lent_open : (c : Caller) (d : Device) (l : Lender) (slab : Slab) (lease : Option Lease) (is : List Input) → OpenAt c d is → OpenSome c is (lent_or_refused d l slab lease)
-lent_open c d l slab None is h = h
-lent_open c d l slab (Some lease) is h = chosen (OpenSome c is) (is_none (slabs.by_lease d.remote.slabs l lease)) _ _ (λ _. h) (λ _. tt)
-
-borrow_open : (c : Caller) (d : Device) (l : Lender) (slab : Slab) (reply : Option (Slab × Option Lease)) (is : List Input) → OpenAt c d is → OpenSome c is (borrow_answered d l slab reply)
-borrow_open c d l slab None is h = tt
-borrow_open c d l slab (Some reply) is h = chosen (OpenSome c is) (reply.0.0 == slab.0) _ _ (λ _. lent_open c d l slab reply.1 is h) (λ _. tt)
-
-written_open : (c : Caller) (d : Device) (l : Lender) (p : Page) (e : EntryNo) (reply : Option (Lease × ℕ)) (is : List Input) → OpenAt c d is → OpenSome c is (write_answered d l p e reply)
-written_open c d l p e None is h = tt
-written_open c d l p e (Some at) is h = chosen (OpenSome c is) (remote.names_page d.sizes d.remote l p at.0 at.1) _ _ (λ _. h) (λ _. tt)
-
-brought_open : (c e : Caller) (d : Device) (l : Lender) (p : Page) (bytes : List ℕ) (reply : Option (Lease × ℕ)) (is : List Input) → c.0 < length d.calls → OpenAt c d is → OpenSome c is (read_answered d l e p bytes reply)
-brought_open c e d l p bytes None is within h = tt
-brought_open c e d l p bytes (Some at) is within h =
-    chosen (OpenSome c is) (remote.names_page d.sizes d.remote l p at.0 at.1) _ _ (λ _. arrived_open c e d.history d.calls arrived.Came bytes is within h) (λ _. tt)
-
-heard_open : (c : Caller) (d : Device) (l : Lender) (parcel : Parcel) (oldest : Option Request) (is : List Input) → c.0 < length d.calls → OpenAt c d is → OpenSome c is (heard d l parcel oldest)
-heard_open c d l parcel None is within h = tt
-heard_open c d l parcel (Some (request.Query slab)) is within h = tt
-heard_open c d l parcel (Some (request.Borrow slab)) is within h = borrow_open c d l slab (borrow_reply parcel.msg) is h
-heard_open c d l parcel (Some (request.Write p e)) is within h = written_open c d l p e (write_reply parcel.msg) is h
-heard_open c d l parcel (Some (request.Read e p)) is within h = brought_open c e d l p parcel.page (read_reply parcel.msg) is within h
-
-borrowed_open : (c : Caller) (d : Device) (slab : Slab) (l : Lender) (r : Sent) (is : List Input) → OpenAt c d is → OpenAt c (after_borrow d slab l r).0 is
-borrowed_open c d slab l sent.Sent is h = h
-borrowed_open c d slab l sent.Down is h = lost_open c d l is h
-
-greeted_open : (c : Caller) (d : Device) (l : Lender) (r : Sent) (is : List Input) → OpenAt c d is → OpenAt c (after_hello d l r) is
-greeted_open c d l sent.Sent is h = h
-greeted_open c d l sent.Down is h = lost_open c d l is h
-
-without_link_open : (c : Caller) (d : Device) (l : Lender) (is : List Input) → OpenAt c d is → OpenAt c (without_link d l) is
-without_link_open c d l is h = chosen (λ (x : Device). OpenAt c x is) (rings.is_up d.remote.links l) _ _ (λ _. lost_open c d l is h) (λ _. h)
-
 wrote_open : (c : Caller) (d : Device) (p : Page) (copy : Option Copy) (ok : Bool) (is : List Input) → OpenAt c d is → OpenAt c (wrote d p copy ok).0 is
 wrote_open c d p None ok is h = h
 wrote_open c d p (Some copy) true is h = h
@@ -243,18 +166,9 @@ took_open c d (which.Write q) p ok bytes is within h = wrote_open c d p (queue.f
 took_open c d (which.Read e) p true bytes is within h = arrived_open c e d.history d.calls arrived.Came bytes is within h
 took_open c d (which.Read e) p false bytes is within h = arrived_open c e d.history d.calls arrived.Failed [] is within h
 
-took_back_open : (c : Caller) (d : Device) (taken : Option Taken) (is : List Input) → c.0 < length d.calls → OpenAt c d is → OpenAt c (took_back d taken).0 is
+pub took_back_open : (c : Caller) (d : Device) (taken : Option Taken) (is : List Input) → c.0 < length d.calls → OpenAt c d is → OpenAt c (took_back d taken).0 is
 took_back_open c d None is within h = h
 took_back_open c d (Some t) is within h = took_open c d t.done.which t.done.page t.done.ok t.bytes is within h
-
--- none of these is Busy
-not_busy_out : (a : OutStep) → is_busy (see_out a) ≡ false
-not_busy_out (OutStep.Done entry sent) = refl
-not_busy_out OutStep.Room = refl
-
-not_busy_in : (a : InStep) → is_busy (see_in a) ≡ false
-not_busy_in (ins.Done entry) = refl
-not_busy_in (ins.Wait via) = refl
 
 -- the calls after an event of this caller, and after one of another
 listed_own : (c : Caller) (d : Device) (i : Input) (s : Seen) (is : List Input) → is_call_of c i.event ≡ true → is_busy s ≡ false → OpenAt c d (i ∷ is) → OpenAt c d (with_call c i s is)
@@ -270,196 +184,124 @@ busy_same c d i is h = go (is_call_of c i.event)
     go true = h
     go false = h
 
--- whatever disk and fabric do
-module _ {D F : Type 0} (disk_moves : D → (c : DiskCall) → DiskAnswer c → D → Type 0) (moves : F → (c : FabricCall) → FabricAnswer c → F → Type 0) where
-  -- what a program leaves is open as this
-  abbrev pub Opens : {R : Type 0} → Caller → List Input → Prog (Device × R) → D → F → Type 0
-  Opens c is p disk f = Leads disk_moves moves p disk f (λ a _ _. OpenAt c a.0 is)
+-- of the call that an event is a step of: it is open once the event is listed, where it wasn't answered before
+module _ (c : Caller) (d : Device) (is : List Input) (within : c.0 < length d.calls) (h : OpenAt c d is) where
+  used : (x y : Device) (js : List Input) → Linked x y → OpenAt c x js → OpenAt c y js
+  used x y js linked k = linked_keep (λ z. OpenAt c z js) (λ z r made k. k) (λ z l k. lost_open c z l js k) x y linked k
 
-  write_to_opens : (c : Caller) (d : Device) (disk : D) (f : F) (p : Page) (e : EntryNo) (bytes : List ℕ) (at : Option (Lender × Lease)) (is : List Input) → OpenAt c d is → Opens c is (write_to d p e bytes at) disk f
-  write_to_opens c d disk f p e bytes None is h = h
-  write_to_opens c d disk f p e bytes (Some at) is h = λ r mid moved. after_write_open c d at.0 p e r is h
+  used_within : (x : Device) → Linked d x → c.0 < length x.calls
+  used_within x linked = linked_keep (λ z. c.0 < length z.calls) (λ z r made k. k) (λ z l k. subst (λ n. c.0 < n) (sym (length-map z.calls (calls.with_state (calls.lost_if_through l)))) k) d x linked within
 
-  accept_other : (c e : Caller) (d : Device) (disk : D) (f : F) (p : Page) (bytes : List ℕ) (is : List Input) → (c.0 ≡ e.0 → ⊥) → OpenAt c d is → Opens c is (accept d e p bytes) disk f
-  accept_other c e d disk f p bytes is ne h = write_to_opens c (enter d e p bytes) disk f p _ bytes (remote.target d.sizes d.remote p) is (enter_other c e d p bytes is ne h)
+  used_entries : (x : Device) → Linked d x → entries_of c x.history ≡ entries_of c d.history
+  used_entries x linked = linked_keep (λ z. entries_of c z.history ≡ entries_of c d.history) (λ z r made k. k) (λ z l k. k) d x linked refl
 
-  accept_own : (c : Caller) (d : Device) (disk : D) (f : F) (p : Page) (bytes : List ℕ) (i : Input) (is : List Input) → OpensOut p bytes i.page i.event → AnswersEach is (entries_of c d.history) → Opens c (i ∷ is) (accept d c p bytes) disk f
-  accept_own c d disk f p bytes i is o rest = write_to_opens c (enter d c p bytes) disk f p _ bytes (remote.target d.sizes d.remote p) (i ∷ is) (enter_own c d p bytes i is o rest)
+  rest_lists : (e : Event) (page : List ℕ) (s : Seen) → is_new e ≡ false → OpenAt c d (with_call c (record { event = e; page = page }) s is)
+  rest_lists (event.PageOut a p) page s new = cc
+  rest_lists (event.PageIn a p) page s new = cc
+  rest_lists e page s new = h
 
-  after_read_other : (c e : Caller) (d : Device) (disk : D) (f : F) (l : Lender) (p : Page) (n : EntryNo) (r : Sent) (is : List Input) → (c.0 ≡ e.0 → ⊥) → OpenAt c d is → Opens c is (after_read d l e p n r) disk f
-  after_read_other c e d disk f l p n sent.Sent is ne h = call_other c e d.history d.calls _ is ne h
-  after_read_other c e d disk f l p n sent.Down is ne h = λ r mid moved. call_other c e d.history (lost d l).calls _ is ne (lost_open c d l is h)
+  link_lists : (e : Event) (page : List ℕ) (s : Seen) (d' : Device) → is_new e ≡ false → OpenAt c d' is → OpenAt c d' (with_call c (record { event = e; page = page }) s is)
+  link_lists (event.PageOut a p) page s d' new k = cc
+  link_lists (event.PageIn a p) page s d' new k = cc
+  link_lists e page s d' new k = k
 
-  read_at_other : (c e : Caller) (d : Device) (disk : D) (f : F) (p : Page) (n : EntryNo) (at : Option (Lender × Lease)) (is : List Input) → (c.0 ≡ e.0 → ⊥) → OpenAt c d is → Opens c is (read_at d e p n at) disk f
-  read_at_other c e d disk f p n None is ne h = λ r mid moved. call_other c e d.history d.calls _ is ne h
-  read_at_other c e d disk f p n (Some at) is ne h = λ r mid moved. after_read_other c e d disk mid at.0 p n r is ne h
+  -- a call that begins, its caller's or another's
+  begins_by : (a : Caller) (i : Input) (s : Seen) (d' : Caller → Device) → ((x : Caller) → is_call_of x i.event ≡ (a.0 == x.0)) → is_busy s ≡ false → (c.0 ≡ a.0 → OpenAt c (d' c) (i ∷ is)) → ((c.0 ≡ a.0 → ⊥) → OpenAt c (d' a) is) → OpenAt c (d' a) (with_call c i s is)
+  begins_by a i s d' of busy_ own other =
+      by_caller_of (λ same. subst (λ n. OpenAt c (d' (record { 0 = n })) (with_call c i s is)) same (listed_own c (d' c) i s is (of c ∙ eq-eqb a.0 c.0 (sym same)) busy_ (own same)))
+      (λ ne. listed_other c (d' a) i s is (of c ∙ not_eqb a.0 c.0 (λ e. ne (sym e))) (other ne))
+    where
+      by_caller_of : {T : Type 0} → (c.0 ≡ a.0 → T) → ((c.0 ≡ a.0 → ⊥) → T) → T
+      by_caller_of {T} same other = by_caller (λ x. (c.0 ≡ x.0 → T) → ((c.0 ≡ x.0 → ⊥) → T) → T) c a (λ f g. f refl) (λ ne f g. g (λ e. ne (sym e))) same other
 
-  after_read_own : (c : Caller) (d : Device) (disk : D) (f : F) (l : Lender) (p : Page) (n : EntryNo) (r : Sent) (i : Input) (is : List Input) → c.0 < length d.calls → OpensIn p i.event → AnswersEach is (entries_of c d.history) → Opens c (i ∷ is) (after_read d l c p n r) disk f
-  after_read_own c d disk f l p n sent.Sent i is within o rest = call_own c d.history d.calls _ (i ∷ is) within (o, rest)
-  after_read_own c d disk f l p n sent.Down i is within o rest = λ r mid moved. call_own c d.history (lost d l).calls _ (i ∷ is) (lost_within c d l within) (o, rest)
+  -- a call that goes on: what it opened with
+  room_opens : (a : Caller) (p : Page) (since : ℕ) → c.0 ≡ a.0 → state_of d.calls a ≡ Room p since → Open (Room p since) (call_of d.calls a).bytes is (entries_of c d.history)
+  room_opens a p since same at =
+      let P : CallState → Type 0 = λ x. Open x (call_of d.calls a).bytes is (entries_of c d.history) in
+      subst P at (subst (λ n. OpenCall (call_of d.calls (record { 0 = n })) is (entries_of c d.history)) same h)
 
-  read_at_own : (c : Caller) (d : Device) (disk : D) (f : F) (p : Page) (n : EntryNo) (at : Option (Lender × Lease)) (i : Input) (is : List Input) → c.0 < length d.calls → OpensIn p i.event → AnswersEach is (entries_of c d.history) → Opens c (i ∷ is) (read_at d c p n at) disk f
-  read_at_own c d disk f p n None i is within o rest = λ r mid moved. call_own c d.history d.calls _ (i ∷ is) within (o, rest)
-  read_at_own c d disk f p n (Some at) i is within o rest = λ r mid moved. after_read_own c d disk mid at.0 p n r i is within o rest
+  read_opens : (a : Caller) (p : Page) (n : EntryNo) (v : Via) (how : Arrived) (newer : Bool) (since : ℕ) → c.0 ≡ a.0 → state_of d.calls a ≡ Reading p n v how newer since → Open (Reading p n v how newer since) (call_of d.calls a).bytes is (entries_of c d.history)
+  read_opens a p n v how newer since same at =
+      let P : CallState → Type 0 = λ x. Open x (call_of d.calls a).bytes is (entries_of c d.history) in
+      subst P at (subst (λ m. OpenCall (call_of d.calls (record { 0 = m })) is (entries_of c d.history)) same h)
 
-  route_by_other : (c e : Caller) (d : Device) (disk : D) (f : F) (p : Page) (named : Option EntryNo) (copy : Option Copy) (is : List Input) → (c.0 ≡ e.0 → ⊥) → OpenAt c d is → Opens c is (route_by d e p named copy) disk f
-  route_by_other c e d disk f p None copy is ne h = push_other c e d.history d.calls p _ _ is ne h
-  route_by_other c e d disk f p (Some n) (Some copy) is ne h = push_other c e d.history d.calls p _ _ is ne h
-  route_by_other c e d disk f p (Some n) None is ne h = read_at_other c e d disk f p n (source d p) is ne h
+  idle_answers : (a : Caller) → c.0 ≡ a.0 → is_idle (state_of d.calls a) ≡ true → AnswersEach is (entries_of c d.history)
+  idle_answers a same at = idle_open (state_of d.calls c) _ is _ (subst (λ n. is_idle (state_of d.calls (record { 0 = n })) ≡ true) (sym same) at) h
 
-  route_other : (c e : Caller) (d : Device) (disk : D) (f : F) (p : Page) (is : List Input) → (c.0 ≡ e.0 → ⊥) → OpenAt c d is → Opens c is (route d e p) disk f
-  route_other c e d disk f p is ne h = route_by_other c e d disk f p (last d.history p) (queue.newest d.queue p) is ne h
+  goes_by : (a : Caller) (d' : Caller → Device) → (c.0 ≡ a.0 → OpenAt c (d' c) is) → ((c.0 ≡ a.0 → ⊥) → OpenAt c (d' a) is) → OpenAt c (d' a) is
+  goes_by a d' own other = by_caller (λ x. (c.0 ≡ x.0 → OpenAt c (d' c) is) → ((c.0 ≡ x.0 → ⊥) → OpenAt c (d' x) is) → OpenAt c (d' x) is) c a (λ f g. f refl) (λ ne f g. g (λ e. ne (sym e))) own other
 
-  again : (c : Caller) (is : List Input) (a : Device × InStep) → OpenAt c a.0 is → OpenAt c (routed_again a).0 is
-  again c is (d, ins.Done entry) h = h
-  again c is (d, ins.Wait via) h = h
+  gave_other : (a : Caller) (p : Page) (o : Op) (bytes : List ℕ) → (c.0 ≡ a.0 → ⊥) → OpenCall (call_of (calls.ended d.calls a) c) is (entries_of c (pushed d.history a p o bytes))
+  gave_other a p o bytes ne = push_other c a d.history d.calls p o bytes is ne h
 
-  routed_again_opens : (c : Caller) (is : List Input) (p : Prog (Device × InStep)) (disk : D) (f : F) → Opens c is p disk f → Opens c is (answering routed_again p) disk f
-  routed_again_opens c is p disk f h = Leads-answering disk_moves moves routed_again p disk f _ (Leads-implies disk_moves moves p disk f _ _ (λ a e g k. again c is a k) h)
+-- an entry, or a wait, of a call that goes on
+enter_room : (c : Caller) (d : Device) (p : Page) (since : ℕ) (own : List ℕ) (is : List Input) → Open (Room p since) own is (entries_of c d.history) → OpenAt c (enter d c p own) is
+enter_room c d p since own [] k = absurd k
+enter_room c d p since own (i ∷ is) k = enter_own c d p own i is k.0 k.1
 
-  out_other : (c e : Caller) (d : Device) (disk : D) (f : F) (p : Page) (bytes : List ℕ) (is : List Input) → (c.0 ≡ e.0 → ⊥) → OpenAt c d is → Opens c is (out d e p bytes) disk f
-  out_other c e d disk f p bytes is ne h =
-      chosen (λ (x : Prog (Device × OutStep)). Opens c is x disk f) (queue.has_room d.queue p) _ _ (λ _. Leads-answering disk_moves moves (accepted _) (accept d e p bytes) disk f _ (accept_other c e d disk f p bytes is ne h)) (λ _. call_other c e d.history d.calls _ is ne h)
+push_room : (c : Caller) (d : Device) (p : Page) (since at : ℕ) (own : List ℕ) (is : List Input) → Open (Room p since) own is (entries_of c d.history) → OpenAt c (fault d c p kind.PageOut since at own) is
+push_room c d p since at own [] k = absurd k
+push_room c d p since at own (i ∷ is) k = push_own c d.history d.calls p _ own i is (opens_out p own i _ k.0 refl tt refl) k.1
 
-  finish_by_other : (c e : Caller) (d : Device) (disk : D) (f : F) (bytes : List ℕ) (state : CallState) (is : List Input) → (c.0 ≡ e.0 → ⊥) → OpenAt c d is → Opens c is (finish_by d e bytes state) disk f
-  finish_by_other c e d disk f bytes Idle is ne h = h
-  finish_by_other c e d disk f bytes (Room p since) is ne h =
-      chosen (λ (x : Prog (Device × Step)). Opens c is x disk f) (queue.has_room d.queue p) _ _ (λ _. Leads-answering disk_moves moves (accepted_late _) (accept d e p bytes) disk f _ (accept_other c e d disk f p bytes is ne h)) (λ _.
-      chosen (λ (x : Prog (Device × Step)). Opens c is x disk f) (nat_lt since d.failed_writes) _ _ (λ _. push_other c e d.history d.calls p _ bytes is ne h) (λ _. h))
-  finish_by_other c e d disk f bytes (Reading p n v arrived.Waiting newer since) is ne h = h
-  finish_by_other c e d disk f bytes (Reading p n v arrived.Came false since) is ne h = push_other c e d.history d.calls p _ _ is ne h
-  finish_by_other c e d disk f bytes (Reading p n v arrived.Came true since) is ne h = routed_again_opens c is (route d e p) disk f (route_other c e d disk f p is ne h)
-  finish_by_other c e d disk f bytes (Reading p n v arrived.Failed false since) is ne h = push_other c e d.history d.calls p _ _ is ne h
-  finish_by_other c e d disk f bytes (Reading p n v arrived.Failed true since) is ne h = routed_again_opens c is (route d e p) disk f (route_other c e d disk f p is ne h)
-  finish_by_other c e d disk f bytes (Reading p n v arrived.Lost newer since) is ne h = routed_again_opens c is (route d e p) disk f (route_other c e d disk f p is ne h)
+push_read : (c : Caller) (d : Device) (p : Page) (n : EntryNo) (v : Via) (how : Arrived) (newer : Bool) (since : ℕ) (own bytes : List ℕ) (o : Op) (is : List Input) → IsInOrFault o → Open (Reading p n v how newer since) own is (entries_of c d.history) → OpenCall (call_of (calls.ended d.calls c) c) is (entries_of c (pushed d.history c p o bytes))
+push_read c d p n v how newer since own bytes o [] is_in k = absurd k
+push_read c d p n v how newer since own bytes o (i ∷ is) is_in k = push_own c d.history d.calls p o bytes i is (opens_in p i _ k.0 refl is_in) k.1
 
-  route_by_own : (c : Caller) (d : Device) (disk : D) (f : F) (p : Page) (named : Option EntryNo) (copy : Option Copy) (i : Input) (is : List Input) → c.0 < length d.calls → OpensIn p i.event → AnswersEach is (entries_of c d.history) → Opens c (i ∷ is) (route_by d c p named copy) disk f
-  route_by_own c d disk f p None copy i is within o rest = push_own c d.history d.calls p _ _ i is (opens_in p i _ o refl tt) rest
-  route_by_own c d disk f p (Some n) (Some copy) i is within o rest = push_own c d.history d.calls p _ _ i is (opens_in p i _ o refl tt) rest
-  route_by_own c d disk f p (Some n) None i is within o rest = read_at_own c d disk f p n (source d p) i is within o rest
+read_read : (c : Caller) (H : History) (cs : Calls) (p : Page) (n m : EntryNo) (v w : Via) (how : Arrived) (newer : Bool) (since at : ℕ) (own : List ℕ) (is : List Input) → c.0 < length cs → Open (Reading p n v how newer since) own is (entries_of c H) → OpenCall (call_of (calls.reads cs c p m w at) c) is (entries_of c H)
+read_read c H cs p n m v w how newer since at own [] within k = absurd k
+read_read c H cs p n m v w how newer since at own (i ∷ is) within k = call_own c H cs _ (i ∷ is) within k
 
-  route_own : (c : Caller) (d : Device) (disk : D) (f : F) (p : Page) (i : Input) (is : List Input) → c.0 < length d.calls → OpensIn p i.event → AnswersEach is (entries_of c d.history) → Opens c (i ∷ is) (route d c p) disk f
-  route_own c d disk f p i is within o rest = route_by_own c d disk f p (last d.history p) (queue.newest d.queue p) i is within o rest
-
-  out_own : (c : Caller) (d : Device) (disk : D) (f : F) (p : Page) (i : Input) (is : List Input) → c.0 < length d.calls → OpensOut p i.page i.page i.event → AnswersEach is (entries_of c d.history) → Opens c (i ∷ is) (out d c p i.page) disk f
-  out_own c d disk f p i is within o rest =
-      chosen (λ (x : Prog (Device × OutStep)). Opens c (i ∷ is) x disk f) (queue.has_room d.queue p) _ _ (λ _. Leads-answering disk_moves moves (accepted _) (accept d c p i.page) disk f _ (accept_own c d disk f p i.page i is o rest)) (λ _. call_own c d.history d.calls _ (i ∷ is) within (o, rest))
-
-  finish_by_own : (c : Caller) (d : Device) (disk : D) (f : F) (state : CallState) (own : List ℕ) (is : List Input) → c.0 < length d.calls → Open state own is (entries_of c d.history) → OpenAt c d is → Opens c is (finish_by d c own state) disk f
-  finish_by_own c d disk f Idle own is within h same = same
-  finish_by_own c d disk f (Room p since) own [] within h same = absurd h
-  finish_by_own c d disk f (Room p since) own (i ∷ is) within h same =
-      chosen (λ (x : Prog (Device × Step)). Opens c (i ∷ is) x disk f) (queue.has_room d.queue p) _ _ (λ _. Leads-answering disk_moves moves (accepted_late _) (accept d c p own) disk f _ (accept_own c d disk f p own i is h.0 h.1)) (λ _.
-      chosen (λ (x : Prog (Device × Step)). Opens c (i ∷ is) x disk f) (nat_lt since d.failed_writes) _ _ (λ _. push_own c d.history d.calls p _ own i is (opens_out p own i _ h.0 refl tt refl) h.1) (λ _. same))
-  finish_by_own c d disk f (Reading p n v how newer since) own [] within h same = absurd h
-  finish_by_own c d disk f (Reading p n v arrived.Waiting newer since) own (i ∷ is) within h same = same
-  finish_by_own c d disk f (Reading p n v arrived.Came false since) own (i ∷ is) within h same = push_own c d.history d.calls p _ _ i is (opens_in p i _ h.0 refl tt) h.1
-  finish_by_own c d disk f (Reading p n v arrived.Came true since) own (i ∷ is) within h same = routed_again_opens c (i ∷ is) (route d c p) disk f (route_own c d disk f p i is within h.0 h.1)
-  finish_by_own c d disk f (Reading p n v arrived.Failed false since) own (i ∷ is) within h same = push_own c d.history d.calls p _ _ i is (opens_in p i _ h.0 refl tt) h.1
-  finish_by_own c d disk f (Reading p n v arrived.Failed true since) own (i ∷ is) within h same = routed_again_opens c (i ∷ is) (route d c p) disk f (route_own c d disk f p i is within h.0 h.1)
-  finish_by_own c d disk f (Reading p n v arrived.Lost newer since) own (i ∷ is) within h same = routed_again_opens c (i ∷ is) (route d c p) disk f (route_own c d disk f p i is within h.0 h.1)
-
-  finish_opens : (c e : Caller) (d : Device) (disk : D) (f : F) (is : List Input) → c.0 < length d.calls → OpenAt c d is → Opens c is (finish d e) disk f
-  finish_opens c e d disk f is within h =
-      by_caller (λ e. Opens c is (finish d e) disk f) c e (finish_by_own c d disk f (state_of d.calls c) (call_of d.calls c).bytes is within h h) (λ ne. finish_by_other c e d disk f _ (state_of d.calls e) is (λ same. ne (sym same)) h)
-
-  start_copy_opens : (c : Caller) (d : Device) (disk : D) (f : F) (p : Page) (copy : Option Copy) (is : List Input) → OpenAt c d is → Opens c is (start_copy d p copy) disk f
-  start_copy_opens c d disk f p None is h = h
-  start_copy_opens c d disk f p (Some copy) is h = λ r mid moved. h
-
-  start_front_opens : (c : Caller) (d : Device) (disk : D) (f : F) (line : List Page) (is : List Input) → OpenAt c d is → Opens c is (start_front d line) disk f
-  start_front_opens c d disk f [] is h = h
-  start_front_opens c d disk f (p ∷ line) is h = start_copy_opens c d disk f p (queue.next d.queue p) is h
-
-  pub disk_take_opens : (c : Caller) (d : Device) (disk : D) (f : F) (is : List Input) → c.0 < length d.calls → OpenAt c d is → Opens c is (disk_take d) disk f
-  disk_take_opens c d disk f is within h = λ taken mid moved. took_back_open c d taken is within h
-
-  understood_opens : (c : Caller) (d : Device) (disk : D) (f : F) (l : Lender) (m : Msg) (after : Option Device) (is : List Input) → OpenSome c is after → OpenAt c d is → Opens c is (understood d l m after) disk f
-  understood_opens c d disk f l m (Some d') is heard h = heard
-  understood_opens c d disk f l m None is heard h = λ r mid moved. lost_open c d l is h
-
-  took_from_opens : (c : Caller) (d : Device) (disk : D) (f : F) (l : Lender) (handed : Handed) (is : List Input) → c.0 < length d.calls → OpenAt c d is → Opens c is (took_from d l handed) disk f
-  took_from_opens c d disk f l (Brought parcel) is within h = understood_opens c d disk f l parcel.msg (heard d l parcel (rings.oldest (rings.ring_of d.remote.links l))) is (heard_open c d l parcel (rings.oldest (rings.ring_of d.remote.links l)) is within h) h
-  took_from_opens c d disk f l NothingCame is within h = h
-  took_from_opens c d disk f l LinkLost is within h = lost_open c d l is h
-
-  link_take_opens : (c : Caller) (d : Device) (disk : D) (f : F) (l : Lender) (is : List Input) → c.0 < length d.calls → OpenAt c d is → Opens c is (link_take d l) disk f
-  link_take_opens c d disk f l is within h =
-      chosen (λ (x : Prog (Device × LinkStep)). Opens c is x disk f) (rings.is_up d.remote.links l) _ _ (λ _ r mid moved. took_from_opens c d disk mid l r is within h) (λ _. h)
-
-  map_opens : (c : Caller) (d : Device) (disk : D) (f : F) (slab : Slab) (l : Lender) (is : List Input) → OpenAt c d is → Opens c is (device.map d slab l) disk f
-  map_opens c d disk f slab l is h = chosen (λ (x : Prog (Device × Bool)). Opens c is x disk f) (may_map d slab l) _ _ (λ _ r mid moved. borrowed_open c d slab l r is h) (λ _. h)
-
-  connect_opens : (c : Caller) (d : Device) (disk : D) (f : F) (l : Lender) (is : List Input) → OpenAt c d is → Opens c is (connect d l) disk f
-  connect_opens c d disk f l is h =
-      chosen (λ (x : Prog (Device × Option Link)). Opens c is x disk f) (nat_lt d.links_made MOST_LINKS) _ _ (λ _ a mid connected r g moved. greeted_open c (raised (without_link d l) l) l r is (without_link_open c d l is h)) (λ _. h)
-
-  -- an event that is no call of this caller's
-  abbrev pub Lists : Caller → List Input → Input → Prog (Device × Seen) → D → F → Type 0
-  Lists c is i p disk f = Leads disk_moves moves p disk f (λ a _ _. OpenAt c a.0 (with_call c i a.1 is))
-
-  listed_by : {R : Type 0} (c : Caller) (is : List Input) (i : Input) (see : R → Seen) (p : Prog (Device × R)) (disk : D) (f : F) → is_call_of c i.event ≡ false → Opens c is p disk f → Lists c is i (seen_by see p) disk f
-  listed_by c is i see p disk f other h = Leads-answering disk_moves moves _ p disk f _ (Leads-implies disk_moves moves p disk f _ _ (λ a e g k. listed_other c a.0 i (see a.1) is other k) h)
-
-  own_by : {R : Type 0} (c : Caller) (is : List Input) (i : Input) (see : R → Seen) (p : Prog (Device × R)) (disk : D) (f : F) → is_call_of c i.event ≡ true → ((a : R) → is_busy (see a) ≡ false) → Opens c (i ∷ is) p disk f → Lists c is i (seen_by see p) disk f
-  own_by c is i see p disk f own not_busy h = Leads-answering disk_moves moves _ p disk f _ (Leads-implies disk_moves moves p disk f _ _ (λ a e g k. listed_own c a.0 i (see a.1) is own (not_busy a.1) k) h)
-
-  out_event : (c e : Caller) (d : Device) (disk : D) (f : F) (p : Page) (page : List ℕ) (is : List Input) → c.0 < length d.calls → OpenAt c d is
-      → Lists c is (record { event = event.PageOut e p; page = page }) (happens d page (event.PageOut e p)) disk f
-  out_event c e d disk f p page is within h =
-      by_caller (λ e. Lists c is (record { event = event.PageOut e p; page = page }) (happens d page (event.PageOut e p)) disk f) c e
-      (chosen (λ (x : Prog (Device × Seen)). Lists c is (record { event = event.PageOut c p; page = page }) x disk f) (is_idle (state_of d.calls c)) _ _
-      (λ idles. own_by c is (record { event = event.PageOut c p; page = page }) see_out (out d c p page) disk f (eq-eqb c.0 c.0 refl) not_busy_out
-      (out_own c d disk f p (record { event = event.PageOut c p; page = page }) is within (refl, refl) (idle_open (state_of d.calls c) _ is _ idles h)))
-      (λ busy. busy_same c d (record { event = event.PageOut c p; page = page }) is h))
-      (λ ne.
-      chosen (λ (x : Prog (Device × Seen)). Lists c is (record { event = event.PageOut e p; page = page }) x disk f) (is_idle (state_of d.calls e)) _ _
-      (λ idles. listed_by c is (record { event = event.PageOut e p; page = page }) see_out (out d e p page) disk f (not_eqb e.0 c.0 ne) (out_other c e d disk f p page is (λ same. ne (sym same)) h))
-      (λ busy. busy_same c d (record { event = event.PageOut e p; page = page }) is h))
-
-  in_event : (c e : Caller) (d : Device) (disk : D) (f : F) (p : Page) (page : List ℕ) (is : List Input) → c.0 < length d.calls → OpenAt c d is
-      → Lists c is (record { event = event.PageIn e p; page = page }) (happens d page (event.PageIn e p)) disk f
-  in_event c e d disk f p page is within h =
-      by_caller (λ e. Lists c is (record { event = event.PageIn e p; page = page }) (happens d page (event.PageIn e p)) disk f) c e
-      (chosen (λ (x : Prog (Device × Seen)). Lists c is (record { event = event.PageIn c p; page = page }) x disk f) (is_idle (state_of d.calls c)) _ _
-      (λ idles. own_by c is (record { event = event.PageIn c p; page = page }) see_in (route d c p) disk f (eq-eqb c.0 c.0 refl) not_busy_in
-      (route_own c d disk f p (record { event = event.PageIn c p; page = page }) is within refl (idle_open (state_of d.calls c) _ is _ idles h)))
-      (λ busy. busy_same c d (record { event = event.PageIn c p; page = page }) is h))
-      (λ ne.
-      chosen (λ (x : Prog (Device × Seen)). Lists c is (record { event = event.PageIn e p; page = page }) x disk f) (is_idle (state_of d.calls e)) _ _
-      (λ idles. listed_by c is (record { event = event.PageIn e p; page = page }) see_in (route d e p) disk f (not_eqb e.0 c.0 ne) (route_other c e d disk f p is (λ same. ne (sym same)) h))
-      (λ busy. busy_same c d (record { event = event.PageIn e p; page = page }) is h))
-
-  finish_event : (c e : Caller) (d : Device) (disk : D) (f : F) (page : List ℕ) (is : List Input) → c.0 < length d.calls → OpenAt c d is
-      → Lists c is (record { event = event.Finish e; page = page }) (happens d page (event.Finish e)) disk f
-  finish_event c e d disk f page is within h =
-      chosen (λ (x : Prog (Device × Seen)). Lists c is (record { event = event.Finish e; page = page }) x disk f) (is_idle (state_of d.calls e)) _ _
-      (λ idles. h)
-      (λ busy. listed_by c is (record { event = event.Finish e; page = page }) see_step (finish d e) disk f refl (finish_opens c e d disk f is within h))
-
-  taken_event : (c : Caller) (d : Device) (disk : D) (f : F) (i : Input) (is : List Input) (done : Bool) → is_call_of c i.event ≡ false → c.0 < length d.calls → OpenAt c d is → Lists c is i (taken_if d done) disk f
-  taken_event c d disk f i is true other within h = listed_by c is i see_disk (disk_take d) disk f other (disk_take_opens c d disk f is within h)
-  taken_event c d disk f i is false other within h = listed_other c d i seen.Nothing is other h
-
+module _ (c : Caller) (d : Device) (is : List Input) (within : c.0 < length d.calls) (h : OpenAt c d is) where
   -- an event, and the caller's calls after it
-  pub once : (c : Caller) (d : Device) (disk : D) (f : F) (page : List ℕ) (e : Event) (is : List Input) → c.0 < length d.calls → OpenAt c d is → Lists c is (record { event = e; page = page }) (happens d page e) disk f
-  once c d disk f page (event.PageOut e p) is within h = out_event c e d disk f p page is within h
-  once c d disk f page (event.PageIn e p) is within h = in_event c e d disk f p page is within h
-  once c d disk f page (event.Finish e) is within h = finish_event c e d disk f page is within h
-  once c d disk f page event.Start is within h = listed_by c is (record { event = event.Start; page = page }) see_start (disk_start d) disk f refl (start_front_opens c d disk f d.queue.line is h)
-  once c d disk f page (event.Disk which_ ok) is within h = λ done mid moved. taken_event c d mid f (record { event = event.Disk which_ ok; page = page }) is done refl within h
-  once c d disk f page (event.Tick word) is within h = h
-  once c d disk f page (event.Map s l) is within h = listed_by c is (record { event = event.Map s l; page = page }) see_map (device.map d s l) disk f refl (map_opens c d disk f s l is h)
-  once c d disk f page (event.Connect l) is within h = listed_by c is (record { event = event.Connect l; page = page }) see_link (connect d l) disk f refl (connect_opens c d disk f l is h)
-  once c d disk f page (event.Give l) is within h = listed_by c is (record { event = event.Give l; page = page }) see_gave (give_to d l) disk f refl (λ r mid moved. h)
-  once c d disk f page (event.Take l) is within h = listed_by c is (record { event = event.Take l; page = page }) see_take (link_take d l) disk f refl (link_take_opens c d disk f l is within h)
-  once c d disk f page (event.Cut l a b) is within h = h
-  once c d disk f page (event.Crash l) is within h = h
-  once c d disk f page (event.Host l u word) is within h = h
-  once c d disk f page (event.Round word) is within h = h
+  pub comes_once : (page : List ℕ) (e : Event) (d' : Device) (s : Seen) → Comes d page e d' s → OpenAt c d' (with_call c (record { event = e; page = page }) s is)
+  comes_once page e d' s (refuses new) = busy_same c d (record { event = e; page = page }) is h
+  comes_once page e d' s (rests new rest) = rest_lists c d is within h e page s new
+  comes_once page e d' s (accepts {c = a} {p = p} (begins_out at) linked) =
+      let i : Input = record { event = event.PageOut a p; page = page } in
+      used c d is within h (enter d a p page) d' (with_call c i s is) linked
+      (begins_by c d is within h a i s (λ x. enter d x p page) (λ x. refl) refl (λ same. enter_own c d p page i is (refl, refl) (idle_answers c d is within h a same at)) (λ ne. enter_other c a d p page is ne h))
+  comes_once page e d' s (accepts {c = a} {p = p} (goes_on_out {since = since} at) linked) =
+      used c d is within h (enter d a p (call_of d.calls a).bytes) d' is linked
+      (goes_by c d is within h a (λ x. enter d x p (call_of d.calls a).bytes) (λ same. enter_room c d p since _ is (room_opens c d is within h a p since same at)) (λ ne. enter_other c a d p _ is ne h))
+  comes_once page e d' s (gives_page {c = a} {p = p} {named = named} {from = from} {bytes = bytes} (begins_in at)) =
+      let i : Input = record { event = event.PageIn a p; page = page } in
+      begins_by c d is within h a i s (λ x. give d x p named from bytes) (λ x. refl) refl (λ same. push_own c d.history d.calls p (op.PageIn named from) bytes i is (opens_in p i (row_of d.history c p (op.PageIn named from) bytes) refl refl tt) (idle_answers c d is within h a same at)) (λ ne. gave_other c d is within h a p _ bytes ne)
+  comes_once page e d' s (gives_page {c = a} {p = p} {named = named} {from = from} {bytes = bytes} (goes_on_in {n = n} {v = v} {how = how} {newer = newer} {since = since} at)) =
+      goes_by c d is within h a (λ x. give d x p named from bytes) (λ same. push_read c d p n v how newer since (call_of d.calls a).bytes bytes (op.PageIn named from) is tt (read_opens c d is within h a p n v how newer since same at)) (λ ne. gave_other c d is within h a p _ bytes ne)
+  comes_once page e d' s (fails {c = a} {p = p} {k = k} {since = since} {at = now} {bytes = bytes} (full at less)) =
+      goes_by c d is within h a (λ x. fault d x p kind.PageOut since d.failed_writes (call_of d.calls a).bytes) (λ same. push_room c d p since d.failed_writes _ is (room_opens c d is within h a p since same at)) (λ ne. gave_other c d is within h a p _ _ ne)
+  comes_once page e d' s (fails {c = a} {p = p} {since = since} {bytes = bytes} (unread {n = n} {v = v} at)) =
+      goes_by c d is within h a (λ x. fault d x p kind.PageIn since d.failed_reads bytes) (λ same. push_read c d p n v arrived.Failed false since (call_of d.calls a).bytes bytes (op.Failed kind.PageIn since d.failed_reads) is tt (read_opens c d is within h a p n v arrived.Failed false since same at)) (λ ne. gave_other c d is within h a p _ _ ne)
+  comes_once page e d' s (keeps_page {c = a} {p = p} at) =
+      let i : Input = record { event = event.PageOut a p; page = page } in
+      begins_by c d is within h a i s (λ x. wait_for_room d x p page) (λ x. refl) refl (λ same. call_own c d.history d.calls _ (i ∷ is) within ((refl, refl), idle_answers c d is within h a same at)) (λ ne. call_other c a d.history d.calls _ is ne h)
+  comes_once page e d' s (reads {c = a} {p = p} {n = n} {d' = x} v (begins_in at) newest linked) =
+      let i : Input = record { event = event.PageIn a p; page = page } in
+      begins_by c d is within h a i s (λ y. record x { calls = calls.reads x.calls y p n v x.failed_reads }) (λ y. refl) refl (λ same. call_own c x.history x.calls _ (i ∷ is) (used_within c d is within h x linked) (refl, subst (λ rows. AnswersEach is rows) (sym (used_entries c d is within h x linked)) (idle_answers c d is within h a same at)))
+      (λ ne. call_other c a x.history x.calls _ is ne (used c d is within h d x is linked h))
+  comes_once page e d' s (reads {c = a} {p = p} {n = n} {d' = x} v (goes_on_in {n = m} {v = w} {how = how} {newer = newer} {since = since} at) newest linked) =
+      goes_by c d is within h a (λ y. record x { calls = calls.reads x.calls y p n v x.failed_reads })
+      (λ same. read_read c x.history x.calls p m n w v how newer since x.failed_reads (call_of d.calls a).bytes is (used_within c d is within h x linked) (subst (λ rows. Open (Reading p m w how newer since) (call_of d.calls a).bytes is rows) (sym (used_entries c d is within h x linked)) (read_opens c d is within h a p m w how newer since same at)))
+      (λ ne. call_other c a x.history x.calls _ is ne (used c d is within h d x is linked h))
+  comes_once page e d' s starts_write = h
+  comes_once page e d' s (takes_back taken) = took_back_open c d taken is within h
+  comes_once page e d' s (links new of_link linked) = link_lists c d is within h e page s d' new (used c d is within h d d' is linked h)
+  comes_once page e d' s (brings {d' = x} a bytes linked) = arrived_open c a x.history x.calls arrived.Came bytes is (used_within c d is within h x linked) (used c d is within h d x is linked h)
 
-pub starts_once : (s : Sizes) (c : Caller) → OpenAt c (new s) []
-starts_once s c = open_as idle _ [] [] _ (idle_at s.callers c.0) refl tt
+pub answers_all : (state : CallState) (own : List ℕ) (is : List Input) (rows : List Row) → Open state own is rows → AnswersAll (is_idle state) is rows
+answers_all Idle own is rows h = h
+answers_all (Room p since) own [] rows h = h
+answers_all (Room p since) own (i ∷ is) rows h = h.1
+answers_all (Reading p n v how newer since) own [] rows h = h
+answers_all (Reading p n v how newer since) own (i ∷ is) rows h = h.1
+
+pub idle_at : (n i : ℕ) → get_or (replicate n idle) i idle ≡ idle
+idle_at zero i = refl
+idle_at (suc n) zero = refl
+idle_at (suc n) (suc i) = idle_at n i
+
+pub starts_once : (s : Sizes) (n : ℕ) (c : Caller) → OpenAt c (new s n) []
+starts_once s n c = open_as idle _ [] [] _ (idle_at s.callers c.0) refl tt
 
 -- what is open says that each call was answered once
 pub answered_once : (c : Caller) (d : Device) (made : List (Input × Seen)) → OpenAt c d (calls_of c made) → AreAnsweredOnce c made d

@@ -6,9 +6,9 @@ use Rattle.swap_base.specs.declared.geometry.LenderSpec.{LenderSpec}
 use Rattle.swap_base.specs.Sizes.{Sizes, zeros}
 use Rattle.swap_wire.specs.declared.Seen.{Seen}
 use Rattle.swap_wire.specs.Input.{Input}
-use Rattle.swap_wire.specs.Fabric.{FabricCall, FabricAnswer, FabricOf}
+use Rattle.swap_wire.specs.declared.fabric.Fabric.{Ghosts as FabricMeaning}
 use Rattle.swap_record.specs.History.{IsOrdered, IsLegal}
-use Rattle.swap_disk.specs.Port.{Port, DiskCall, DiskAnswer}
+use Rattle.swap_disk.specs.declared.port.DiskPort.{Ghosts as DiskMeaning}
 use Rattle.swap_disk.specs.Drive as drive
 use Rattle.swap_disk.specs.Drive.{Drive}
 use Rattle.swap_slabs.specs.declared.TheConstants.{MOST_LENDERS}
@@ -16,7 +16,7 @@ use Rattle.swap_link.specs.Harbor as harbor
 use Rattle.swap_link.specs.Harbor.{Harbor}
 use Rattle.swap_table.specs.Device.{Device, new}
 use Rattle.swap_table.specs.Fits.{Fits, IsFaithfulOver, IsBlank}
-use Rattle.swap_table.specs.Serves.{Keeping, Owing}
+use Rattle.swap_table.specs.Laws.{AgreeWith}
 use Rattle.swap_world.specs.Answered.{AreAnsweredOnce}
 use Rattle.swap_world.specs.Failures.{HoldsEntriesSeen}
 use Rattle.swap_world.specs.Runs.{IsRun, IsInput, GoesOn}
@@ -40,25 +40,31 @@ pub record Holds (told : Bool) (answers : List ℕ → List ℕ → Type 0) (s :
   pub once : (c : Caller) → c.0 < s.callers → AreAnsweredOnce c made d
   pub entries : HoldsEntriesSeen made d.history
 
--- it holds after every run over a disk that was blank and a fabric of these sizes
-abbrev pub HoldsAfterEach : {D F : Type 0} → (D → Port) → (D → (c : DiskCall) → DiskAnswer c → D → Type 0) → (F → FabricOf) → (F → (c : FabricCall) → FabricAnswer c → F → Type 0) → (List ℕ → List ℕ → Type 0) → Type 0
-HoldsAfterEach {D} {F} means disk_moves of moves answers =
-    (s : Sizes) (n : ℕ) (first : D) (fabric : F) (made : List (Input × Seen)) (d : Device) (disk : D) (f : F) → IsBlank s (means first) → of fabric ≡ record { sizes = s; lenders = n } → n ≤ MOST_LENDERS → IsRun disk_moves moves n (new s) first fabric made d disk f
-    → Holds (is_some (means first).blocks) answers s made d
+-- a run over a disk that was blank and a fabric of these sizes and so many lenders
+pub record Began {D F : Type 0} (disk : DiskMeaning D) (fabric : FabricMeaning F) (s : Sizes) (n : ℕ) (first : D) (first_fabric : F) : Type 0 where
+  pub blank : IsBlank s (disk.means first)
+  pub is_of : fabric.of first_fabric ≡ record { sizes = s; lenders = n }
+  pub few : n ≤ MOST_LENDERS
+
+-- it holds after every such run
+abbrev pub HoldsAfterEach : {D F : Type 0} → DiskMeaning D → FabricMeaning F → Type 0
+HoldsAfterEach {D} {F} disk fabric =
+    (s : Sizes) (n : ℕ) (first : D) (first_fabric : F) (made : List (Input × Seen)) (d : Device) (k : D) (f : F) → Began disk fabric s n first first_fabric → IsRun disk.moves fabric.moves (new s n) first first_fabric made d k f
+    → Holds (is_some (disk.means first).blocks) fabric.answers s made d
 
 -- and the device, its disk and its fabric agree: on the queue and the disk, on each link's requests and what it owes, and
 -- on what the lenders keep of the mapped slabs
-abbrev pub AgreesAfterEach : {D F : Type 0} → (D → Port) → (D → (c : DiskCall) → DiskAnswer c → D → Type 0) → (F → FabricOf) → (F → (c : FabricCall) → FabricAnswer c → F → Type 0) → (F → Keeping) → (F → Owing) → (List ℕ → List ℕ → Type 0) → Type 0
-AgreesAfterEach {D} {F} means disk_moves of moves keeps owes answers =
-    (s : Sizes) (n : ℕ) (first : D) (fabric : F) (made : List (Input × Seen)) (d : Device) (disk : D) (f : F) → IsBlank s (means first) → of fabric ≡ record { sizes = s; lenders = n } → n ≤ MOST_LENDERS → IsRun disk_moves moves n (new s) first fabric made d disk f
-    → Fits (is_some (means first).blocks) answers (keeps f) (owes f) n d (means disk)
+abbrev pub AgreesAfterEach : {D F : Type 0} → DiskMeaning D → FabricMeaning F → Type 0
+AgreesAfterEach {D} {F} disk fabric =
+    (s : Sizes) (n : ℕ) (first : D) (first_fabric : F) (made : List (Input × Seen)) (d : Device) (k : D) (f : F) → Began disk fabric s n first first_fabric → IsRun disk.moves fabric.moves (new s n) first first_fabric made d k f
+    → AgreeWith disk fabric (is_some (disk.means first).blocks) d k f
 
 -- over the disk and the lenders in memory: a page that answers is the page that was owed
-abbrev pub Agrees : ℕ → World → Type 0
-Agrees n w = Fits true (λ page given. page ≡ given) (harbor.KeepsAt w.harbor) (harbor.OwesAt w.harbor) n w.device (drive.port_of w.drive)
+abbrev pub Agrees : World → Type 0
+Agrees w = Fits true (λ page given. page ≡ given) (harbor.KeepsAt w.harbor) (harbor.OwesAt w.harbor) w.device (drive.port_of w.drive)
 
 abbrev pub AlwaysAgrees : Type 0
-AlwaysAgrees = (s : Sizes) (specs : List LenderSpec) (is : List Input) → length specs ≤ MOST_LENDERS → AreInputs s specs is → Agrees (length specs) (reach (start s specs) is)
+AlwaysAgrees = (s : Sizes) (specs : List LenderSpec) (is : List Input) → length specs ≤ MOST_LENDERS → AreInputs s specs is → Agrees (reach (start s specs) is)
 
 -- one event over the disk and the lenders in memory leads to the next world
 abbrev pub StepsAreNext : Type 0

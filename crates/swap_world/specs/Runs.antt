@@ -7,20 +7,27 @@ use Rattle.swap_wire.specs.declared.Event.{Event}
 use Rattle.swap_wire.specs.declared.Event.TheVariants as event
 use Rattle.swap_wire.specs.declared.Seen.{Seen}
 use Rattle.swap_wire.specs.declared.Seen.TheVariants as seen
-use Rattle.swap_record.specs.History.{History}
+use Rattle.swap_record.specs.History.{History, Row, next_name}
 use Rattle.swap_base.specs.declared.DiskWhich.TheVariants as which
 use Rattle.swap_disk.specs.Disk.{Taken}
-use Rattle.swap_wire.specs.Fabric.{FabricCall, FabricAnswer, FabricOf}
+use Rattle.swap_wire.specs.Fabric.{FabricCall, FabricAnswer}
+use Rattle.swap_disk.specs.declared.port.DiskPort.{Ghosts as DiskMeaning}
+use Rattle.swap_wire.specs.declared.fabric.Fabric.{Ghosts as FabricMeaning}
 use Rattle.swap_slabs.specs.declared.TheConstants.{MOST_LENDERS}
-use Rattle.swap_disk.specs.Port.{Port, DiskCall, DiskAnswer, TakeDone}
-use Rattle.swap_calls.specs.Calls.{Call, is_idle, state_of}
+use Rattle.swap_disk.specs.Port.{DiskCall, DiskAnswer, TakeDone}
+use Rattle.swap_base.specs.declared.Caller.{Caller}
+use Rattle.swap_calls.specs.Calls.{Call, is_idle, state_of, call_of}
+use Rattle.swap_calls.specs.declared.CallState.{CallState}
+use Rattle.swap_calls.specs.declared.CallState.TheVariants.{Idle, Room, Reading}
 use Rattle.swap_table.specs.Ports.{Along}
 use Rattle.swap_table.specs.declared.DiskStep.{DiskStep}
 use Rattle.swap_table.specs.declared.DiskStep.TheVariants as ends
 use Rattle.swap_table.specs.Device.{Device, Core, new, disk_take, took_back}
 use Rattle.swap_table.specs.Fits.{IsBlank}
 use Rattle.swap_device.specs.State.{GivesLast}
-use Rattle.swap_world.specs.World.{IsStep, see_disk}
+use Rattle.swap_table.specs.Happens.{see_disk}
+use Rattle.swap_world.specs.Answered.{Answers, IsOutOrFault, IsInOrFault, is_call_of}
+use Rattle.swap_world.specs.World.{IsStep}
 
 -- an event has an effect unless nothing is seen of it, or a caller is told to wait on
 abbrev pub has_effect : Event → Seen → Bool
@@ -57,17 +64,17 @@ IsPaged s e page = Unit {0}
 abbrev pub IsInput : Sizes → ℕ → Input → Type 0
 IsInput s lenders i = IsInRange s lenders i.event × IsPaged s i.event i.page
 
--- A run from a device, its disk and its fabric of so many lenders, with the events that had an effect and what was seen
+-- A run from a device, its disk and its fabric, with the events that had an effect and what was seen
 -- of each, the newest first. Events without an effect leave the device as it was, and disk and fabric where they are in
 -- memory. A disk that ends its operations by itself is polled; what it ended counts as an event.
-pub data IsRun {D F : Type 0} (disk_moves : D → (c : DiskCall) → DiskAnswer c → D → Type 0) (moves : F → (c : FabricCall) → FabricAnswer c → F → Type 0) (lenders : ℕ) (first : Device) (disk : D) (fabric : F) : List (Input × Seen) → Device → D → F → Type 0 where
-  begin : IsRun disk_moves moves lenders first disk fabric [] first disk fabric
+pub data IsRun {D F : Type 0} (disk_moves : D → (c : DiskCall) → DiskAnswer c → D → Type 0) (moves : F → (c : FabricCall) → FabricAnswer c → F → Type 0) (first : Device) (disk : D) (fabric : F) : List (Input × Seen) → Device → D → F → Type 0 where
+  begin : IsRun disk_moves moves first disk fabric [] first disk fabric
   effect : {made : List (Input × Seen)} {d : Device} {k : D} {f : F} (i : Input) (s : Seen) (d' : Device) (k' : D) (f' : F)
-      → IsRun disk_moves moves lenders first disk fabric made d k f → IsInRange first.sizes lenders i.event → IsStep disk_moves moves d k f i s d' k' f' → has_effect i.event s ≡ true → IsRun disk_moves moves lenders first disk fabric ((i, s) ∷ made) d' k' f'
+      → IsRun disk_moves moves first disk fabric made d k f → IsInRange first.sizes first.lenders i.event → IsStep disk_moves moves d k f i s d' k' f' → has_effect i.event s ≡ true → IsRun disk_moves moves first disk fabric ((i, s) ∷ made) d' k' f'
   without : {made : List (Input × Seen)} {d : Device} {k : D} {f : F} (i : Input) (s : Seen) (k' : D) (f' : F)
-      → IsRun disk_moves moves lenders first disk fabric made d k f → IsInRange first.sizes lenders i.event → IsStep disk_moves moves d k f i s d k' f' → has_effect i.event s ≡ false → IsRun disk_moves moves lenders first disk fabric made d k' f'
+      → IsRun disk_moves moves first disk fabric made d k f → IsInRange first.sizes first.lenders i.event → IsStep disk_moves moves d k f i s d k' f' → has_effect i.event s ≡ false → IsRun disk_moves moves first disk fabric made d k' f'
   polled : {made : List (Input × Seen)} {d : Device} {k : D} {f : F} (step : DiskStep) (d' : Device) (k' : D) (f' : F)
-      → IsRun disk_moves moves lenders first disk fabric made d k f → Along disk_moves moves (disk_take d) k f k' f' (d', step) → IsRun disk_moves moves lenders first disk fabric (with_polled step made) d' k' f'
+      → IsRun disk_moves moves first disk fabric made d k f → Along disk_moves moves (disk_take d) k f k' f' (d', step) → IsRun disk_moves moves first disk fabric (with_polled step made) d' k' f'
 
 -- a device over its ports, its events that had an effect with what was seen of each, the oldest first, and for how
 -- many more there is room
@@ -80,17 +87,18 @@ abbrev pub logged_of : List (Input × Seen) → List (Event × Seen)
 logged_of [] = []
 logged_of ((i, s) ∷ made) = logged_of made ++ (i.event, s) ∷ []
 
--- a world's device, disk and fabric were reached by the events of its log
-pub record IsReached {D F : Type 0} (means : D → Port) (disk_moves : D → (c : DiskCall) → DiskAnswer c → D → Type 0) (of : F → FabricOf) (moves : F → (c : FabricCall) → FabricAnswer c → F → Type 0) (core : Core D F) (log : List (Event × Seen)) : Type 0 where
+-- A world's device, disk and fabric were reached by the events of its log, from a device that nothing had happened to,
+-- over a disk that was blank and a fabric as it is made.
+pub record IsReached {D F : Type 0} (disk : DiskMeaning D) (fabric : FabricMeaning F) (core : Core D F) (log : List (Event × Seen)) : Type 0 where
   pub sizes : Sizes
   pub lenders : ℕ
   pub few : lenders ≤ MOST_LENDERS
   pub first : D
   pub first_fabric : F
   pub made : List (Input × Seen)
-  pub blank : IsBlank sizes (means first)
-  pub is_of : of first_fabric ≡ record { sizes = sizes; lenders = lenders }
-  pub run : IsRun disk_moves moves lenders (new sizes) first first_fabric made core.device core.disk core.fabric
+  pub blank : IsBlank sizes (disk.means first)
+  pub fresh : fabric.fresh first_fabric (record { sizes = sizes; lenders = lenders })
+  pub run : IsRun disk.moves fabric.moves (new sizes lenders) first first_fabric made core.device core.disk core.fabric
   pub logged : log ≡ logged_of made
 
 -- the log after a poll
@@ -126,11 +134,11 @@ HasSpare d (event.PageIn c p) spare = is_idle (state_of d.calls c) ≡ true → 
 HasSpare d (event.Finish c) spare = is_idle (state_of d.calls c) ≡ false → 0 < spare
 HasSpare d e spare = Unit {0}
 
--- after a page-in was answered the buffer holds its page
-abbrev pub GivesPage : Event → Seen → History → List ℕ → Type 0
-GivesPage (event.PageIn c p) (seen.Done entry sent) H given = GivesLast H given
-GivesPage (event.Finish c) (seen.Done entry sent) H given = GivesLast H given
-GivesPage e s H given = Unit {0}
+-- after a page-in was answered the buffer holds its page; else it is as it was
+abbrev pub GivesPage : Event → Seen → History → List ℕ → List ℕ → Type 0
+GivesPage (event.PageIn c p) (seen.Done entry sent) H before given = GivesLast H before given
+GivesPage (event.Finish c) (seen.Done entry sent) H before given = GivesLast H before given
+GivesPage e s H before given = given ≡ before
 
 -- the entry that was seen, where there is one
 abbrev pub entry_seen : Seen → Option EntryNo
@@ -145,6 +153,34 @@ StandsIn H s = MatchOption (entry_seen s) (Unit {0}) (λ (e : EntryNo). e.0 < le
 -- a history goes on
 abbrev pub GoesOn : History → History → Type 0
 GoesOn before now = (later : History) × (now ≡ later ++ before)
+
+abbrev pub AnswersState : CallState → List ℕ → Row → Type 0
+AnswersState Idle bytes row = ⊥
+AnswersState (Room page since) bytes row = (row.entry.page ≡ page) × IsOutOrFault row.entry.op × (row.bytes ≡ bytes)
+AnswersState (Reading page newest via how newer since) bytes row = (row.entry.page ≡ page) × IsInOrFault row.entry.op
+
+-- an entry answers the call that is under way
+abbrev pub AnswersUnderWay : Call → Row → Type 0
+AnswersUnderWay call row = AnswersState call.state call.bytes row
+
+abbrev pub AnswersEvent : Device → List ℕ → Event → Row → Type 0
+AnswersEvent d page (event.PageOut c p) row = (row.entry.caller ≡ c) × Answers page (event.PageOut c p) row
+AnswersEvent d page (event.PageIn c p) row = (row.entry.caller ≡ c) × Answers page (event.PageIn c p) row
+AnswersEvent d page (event.Finish c) row = (row.entry.caller ≡ c) × AnswersUnderWay (call_of d.calls c) row
+AnswersEvent d page e row = ⊥
+
+-- an entry answers the call of this event: the call that it makes, or the one under way that it goes on with
+abbrev pub AnswersCall : Device → Input → Row → Type 0
+AnswersCall d i row = AnswersEvent d i.page i.event row
+
+-- an event adds nothing to the history, or the one entry that is seen, which answers the event's call
+pub data Adds (d : Device) (i : Input) (s : Seen) (H : History) : Type 0 where
+  nothing : entry_seen s ≡ None → H ≡ d.history → Adds d i s H
+  one : (row : Row) → entry_seen s ≡ Some (next_name d.history) → H ≡ row ∷ d.history → AnswersCall d i row → Adds d i s H
+
+-- a caller that is idle stays so, but by a call of its own
+abbrev pub StaysIdle : Device → Event → Device → Type 0
+StaysIdle d e d' = (c : Caller) → c.0 < d.sizes.callers → is_idle (state_of d.calls c) ≡ true → is_call_of c e ≡ false → is_idle (state_of d'.calls c) ≡ true
 
 -- how many callers have a call that isn't answered
 abbrev pub is_busy_call : Call → Bool
@@ -161,3 +197,12 @@ is_new_call e = 0
 -- the entries and the calls under way grow by no more than the new calls
 abbrev pub GrowsByCalls : Event → Device → Device → Type 0
 GrowsByCalls e before now = length now.history + busy_callers now ≤ length before.history + busy_callers before + is_new_call e
+
+-- an event with an effect takes one from the log's room, and stands there with what was seen of it
+pub record IsLogged {D F : Type 0} (e : Event) (s : Seen) (before now : WorldOf D F) : Type 0 where
+  pub log : now.log ≡ logged_if (has_effect e s) before.log e s
+  pub room : now.log_spare ≡ one_less_if (has_effect e s) before.log_spare
+
+-- one event of a world: its device, disk and fabric went from one to the other
+abbrev pub Steps : {D F : Type 0} → (D → (c : DiskCall) → DiskAnswer c → D → Type 0) → (F → (c : FabricCall) → FabricAnswer c → F → Type 0) → Input → Core D F → Core D F → Seen → Type 0
+Steps disk_moves moves i before now s = IsStep disk_moves moves before.device before.disk before.fabric i s now.device now.disk now.fabric

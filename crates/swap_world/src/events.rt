@@ -1,11 +1,10 @@
 ghost use Rattle.std.specs.Prelude.{◌≡◌, ◌+◌, ◌<◌, ◌^◌, length, true, false, []};
 ghost use Rattle.swap_base.specs.Sizes.{pages_of};
 ghost use Rattle.swap_calls.specs.Calls.{is_idle, state_of};
-ghost use Rattle.swap_table.specs.Ports.{Along};
-ghost use Rattle.swap_device.specs.State.{KeepsRoom};
+ghost use Rattle.swap_table.specs.Happens.{happens};
+ghost use Rattle.swap_device.specs.State.{KeepsRoom, Went};
 ghost use Rattle.swap_wire.specs.Input.{IsInRange};
-ghost use Rattle.swap_world.specs.World.{IsStep, happens};
-ghost use Rattle.swap_world.specs.Runs.{HasSpare, GivesPage};
+ghost use Rattle.swap_world.specs.Runs.{HasSpare, GivesPage, Steps};
 
 use crate::world::{
     see_disk, see_gave, see_in, see_link, see_map, see_out, see_start, see_step, see_take,
@@ -35,7 +34,7 @@ fn page_out<D: DiskPort, F: Fabric>(
     requires page { page.0 < pages_of device.old.device.sizes }
     requires bytes { length bytes.now ≡ device.old.device.sizes.page_bytes }
     requires spare { is_idle (state_of device.old.device.calls caller) ≡ true → 0 < device.old.spare }
-    ensures step { Along D.moves F.moves (happens device.old.device bytes.now (Event.PageOut caller page)) device.old.disk device.old.fabric device.new.disk device.new.fabric (device.new.device, result) }
+    ensures step { Went D.moves F.moves (λ d. happens d bytes.now (Event.PageOut caller page)) device.old device.new result }
     ensures room { KeepsRoom device.old device.new }
 {
     if !is_idle(device.state(caller)) {
@@ -54,9 +53,9 @@ fn page_in<D: DiskPort, F: Fabric>(
     requires page { page.0 < pages_of device.old.device.sizes }
     requires buf { length buf.old ≡ device.old.device.sizes.page_bytes }
     requires spare { is_idle (state_of device.old.device.calls caller) ≡ true → 0 < device.old.spare }
-    ensures step { Along D.moves F.moves (happens device.old.device buf.old (Event.PageIn caller page)) device.old.disk device.old.fabric device.new.disk device.new.fabric (device.new.device, result) }
+    ensures step { Went D.moves F.moves (λ d. happens d buf.old (Event.PageIn caller page)) device.old device.new result }
     ensures room { KeepsRoom device.old device.new }
-    ensures gives { GivesPage (Event.PageIn caller page) result device.new.device.history buf.new }
+    ensures gives { GivesPage (Event.PageIn caller page) result device.new.device.history buf.old buf.new }
 {
     if !is_idle(device.state(caller)) {
         return Seen::Busy;
@@ -72,9 +71,9 @@ fn finish<D: DiskPort, F: Fabric>(
     requires caller { caller.0 < device.old.device.sizes.callers }
     requires buf { length buf.old ≡ device.old.device.sizes.page_bytes }
     requires spare { is_idle (state_of device.old.device.calls caller) ≡ false → 0 < device.old.spare }
-    ensures step { Along D.moves F.moves (happens device.old.device buf.old (Event.Finish caller)) device.old.disk device.old.fabric device.new.disk device.new.fabric (device.new.device, result) }
+    ensures step { Went D.moves F.moves (λ d. happens d buf.old (Event.Finish caller)) device.old device.new result }
     ensures room { KeepsRoom device.old device.new }
-    ensures gives { GivesPage (Event.Finish caller) result device.new.device.history buf.new }
+    ensures gives { GivesPage (Event.Finish caller) result device.new.device.history buf.old buf.new }
 {
     if is_idle(device.state(caller)) {
         return Seen::Idle;
@@ -90,7 +89,7 @@ fn disk_event<D: DiskPort, F: Fabric>(
 ) -> Seen
     requires writes { device.old.device.failed_writes + 1 < 2 ^ 64 }
     requires reads { device.old.device.failed_reads + 1 < 2 ^ 64 }
-    ensures step { Along D.moves F.moves (happens device.old.device page.now (Event.Disk which ok)) device.old.disk device.old.fabric device.new.disk device.new.fabric (device.new.device, result) }
+    ensures step { Went D.moves F.moves (λ d. happens d page.now (Event.Disk which ok)) device.old device.new result }
     ensures room { KeepsRoom device.old device.new }
 {
     if !device.disk_finish(which, ok) {
@@ -100,8 +99,8 @@ fn disk_event<D: DiskPort, F: Fabric>(
 }
 
 fn give_event<D: DiskPort, F: Fabric>(device: &mut DeviceCore<D, F>, lender: Lender) -> Seen
-    requires { lender.0 < (F.of device.old.fabric).lenders }
-    ensures step { Along D.moves F.moves (happens device.old.device [] (Event.Give lender)) device.old.disk device.old.fabric device.new.disk device.new.fabric (device.new.device, result) }
+    requires { lender.0 < device.old.device.lenders }
+    ensures step { Went D.moves F.moves (λ d. happens d [] (Event.Give lender)) device.old device.new result }
     ensures room { KeepsRoom device.old device.new }
 {
     see_gave(device.give(lender))
@@ -113,14 +112,14 @@ pub fn happen<D: DiskPort, F: Fabric>(
     event: &Event,
     page: &mut [u8],
 ) -> Seen
-    requires range { IsInRange device.old.device.sizes (F.of device.old.fabric).lenders event.now }
+    requires range { IsInRange device.old.device.sizes device.old.device.lenders event.now }
     requires page { length page.old ≡ device.old.device.sizes.page_bytes }
     requires spare { HasSpare device.old.device event.now device.old.spare }
     requires writes { device.old.device.failed_writes + 1 < 2 ^ 64 }
     requires reads { device.old.device.failed_reads + 1 < 2 ^ 64 }
-    ensures step { IsStep D.moves F.moves device.old.device device.old.disk device.old.fabric (record { event = event.now; page = page.old }) result device.new.device device.new.disk device.new.fabric }
+    ensures step { Steps D.moves F.moves (record { event = event.now; page = page.old }) device.old device.new result }
     ensures room { KeepsRoom device.old device.new }
-    ensures gives { GivesPage event.now result device.new.device.history page.new }
+    ensures gives { GivesPage event.now result device.new.device.history page.old page.new }
 {
     match *event {
         Event::PageOut { caller, page: of } => page_out(device, caller, of, page),

@@ -8,6 +8,7 @@ mod events;
 mod world;
 
 use swap_disk::DiskPort;
+use swap_table::ports_promise;
 use swap_wire::Fabric;
 pub use world::World;
 
@@ -29,15 +30,19 @@ pub fn each_call_once()
 /// are the failed writes, or reads, before its last start and before the step that ended it, the first below the
 /// second; and a page-in fails by its own read alone, with no page-out of its page accepted since that read began.
 pub fn over_any_ports<D: DiskPort, F: Fabric>()
-    ensures { HoldsAfterEach D.means D.moves F.of F.moves F.answers }
-{}
+    ensures { HoldsAfterEach D.DiskPort F.Fabric }
+{
+    ports_promise::<D, F>();
+}
 
 /// Over any disk that was blank and any fabric, after every list of events, the device, its disk and its links agree: on
 /// the newest copies, on the requests under way and what their answers bring, and on the pages that the lenders keep of
 /// the mapped slabs, each page with a set bit and its content among them.
 pub fn agrees_over_any_ports<D: DiskPort, F: Fabric>()
-    ensures { AgreesAfterEach D.means D.moves F.of F.moves F.keeps F.owes F.answers }
-{}
+    ensures { AgreesAfterEach D.DiskPort F.Fabric }
+{
+    ports_promise::<D, F>();
+}
 
 /// So they do over the disk and the lenders in memory.
 pub fn always_agrees()

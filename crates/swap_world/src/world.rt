@@ -1,11 +1,13 @@
 ghost use Rattle.std.specs.Prelude.{◌≡◌, ◌+◌, ◌<◌, ◌≤◌, ◌^◌, ◌↔◌, length, max, IfOk, OnOk, OnErr, false, true, [], slice_get, Some, Err, vec_len, vec_capacity};
+ghost use Rattle.swap_base.specs.declared.Caller.{Caller};
 ghost use Rattle.swap_wire.specs.Input.{IsInRange};
-ghost use Rattle.swap_table.specs.Device.{new};
+ghost use Rattle.swap_calls.specs.Calls.{state_of, is_idle};
+ghost use Rattle.swap_table.specs.Device.{of_device, new};
+ghost use Rattle.swap_table.specs.Happens.{see_out, see_in, see_step, see_start, see_disk, see_map, see_link, see_gave, see_take};
 ghost use Rattle.swap_table.specs.Fits.{IsBlank};
 ghost use Rattle.swap_device.specs.State.{KeepsRoom};
 ghost use Rattle.swap_slabs.specs.declared.TheConstants.{MOST_LENDERS};
-ghost use Rattle.swap_world.specs.World.{IsStep, see_out, see_in, see_step, see_start, see_disk, see_map, see_link, see_gave, see_take};
-ghost use Rattle.swap_world.specs.Runs.{has_effect, event_of, logged_if, logged_polled, IsPolled, one_less_if, HasSpare, GivesPage, GoesOn, StandsIn, GrowsByCalls};
+ghost use Rattle.swap_world.specs.Runs.{has_effect, event_of, logged_if, logged_polled, IsReached, IsPolled, HasSpare, Steps, Adds, IsLogged, GivesPage, StaysIdle, GrowsByCalls};
 
 use crate::events::happen;
 use std::alloc::Global;
@@ -15,7 +17,7 @@ use swap_device::DeviceCore;
 use swap_disk::DiskPort;
 use swap_record::ReserveRefused;
 use swap_slabs::MOST_LENDERS;
-use swap_table::{DiskStep, InStep, LinkStep, OutStep, Step};
+use swap_table::{DiskStep, InStep, LinkStep, OutStep, Step, ports_promise};
 use swap_wire::{Event, Fabric, Gave, Seen};
 
 /// The machine: a device over its disk and its lenders' links, with the log of its events.
@@ -33,7 +35,7 @@ impl<D: DiskPort, F: Fabric> Model for World<D, F> {
 
     ghost view = { λ w. record { core = w.device; log = w.log.items; log_spare = vec_capacity w.log - length w.log.items } };
 
-    ghost invariant = { λ w. IsReached D.means D.moves F.of F.moves w.device w.log.items };
+    ghost invariant = { λ w. IsReached D.DiskPort F.Fabric w.device w.log.items };
 }
 
 impl<D: DiskPort, F: Fabric> World<D, F> {
@@ -44,6 +46,8 @@ impl<D: DiskPort, F: Fabric> World<D, F> {
         ensures disk { self.new.core.disk ≡ self.old.core.disk }
         ensures fabric { self.new.core.fabric ≡ self.old.core.fabric }
         ensures log { self.new.log ≡ self.old.log }
+        ensures no_less { self.old.core.spare ≤ self.new.core.spare }
+        ensures no_less_log { self.old.log_spare ≤ self.new.log_spare }
         ensures spare { OnOk result (self.new.core.spare ≡ max self.old.core.spare calls) }
         ensures log_spare { OnOk result (events ≤ self.new.log_spare) }
         ensures too_many { (result ≡ Err ReserveRefused.TooMany) ↔ (4_194_304 < length self.old.core.device.history + calls) }
@@ -55,25 +59,24 @@ impl<D: DiskPort, F: Fabric> World<D, F> {
         Ok(())
     }
 
-    /// Makes one event. A page-out's page is handed in; after a page-in's `Done` the buffer holds the page. An event
-    /// with an effect is logged; one without leaves the device as it was.
+    /// Makes one event. A page-out's page is handed in; after a page-in's `Done` the buffer holds the page, and else it
+    /// is as it was. An event with an effect is logged; one without leaves the device as it was.
     pub fn step(&mut self, event: &Event, page: &mut [u8]) -> Seen
-        requires range { IsInRange self.old.core.device.sizes (F.of self.old.core.fabric).lenders event.now }
+        requires range { IsInRange self.old.core.device.sizes self.old.core.device.lenders event.now }
         requires page { length page.old ≡ self.old.core.device.sizes.page_bytes }
         requires spare { HasSpare self.old.core.device event.now self.old.core.spare }
         requires log_spare { 0 < self.old.log_spare }
-        ensures step { IsStep D.moves F.moves self.old.core.device self.old.core.disk self.old.core.fabric (record { event = event.now; page = page.old }) result self.new.core.device self.new.core.disk self.new.core.fabric }
-        ensures unchanged { has_effect event.now result ≡ false → self.new.core.device ≡ self.old.core.device }
-        ensures log { self.new.log ≡ logged_if (has_effect event.now result) self.old.log event.now result }
-        ensures log_room { self.new.log_spare ≡ one_less_if (has_effect event.now result) self.old.log_spare }
+        ensures step { Steps D.moves F.moves (record { event = event.now; page = page.old }) self.old.core self.new.core result }
+        ensures adds { Adds self.old.core.device (record { event = event.now; page = page.old }) result self.new.core.device.history }
+        ensures log { IsLogged event.now result self.old self.new }
         ensures room { KeepsRoom self.old.core self.new.core }
-        ensures sizes { self.new.core.device.sizes ≡ self.old.core.device.sizes }
-        ensures lenders { F.of self.new.core.fabric ≡ F.of self.old.core.fabric }
-        ensures goes_on { GoesOn self.old.core.device.history self.new.core.device.history }
-        ensures stands { StandsIn self.new.core.device.history result }
         ensures grows { GrowsByCalls event.now self.old.core.device self.new.core.device }
-        ensures gives { GivesPage event.now result self.new.core.device.history page.new }
+        ensures idle { StaysIdle self.old.core.device event.now self.new.core.device }
+        ensures of { of_device self.new.core.device ≡ of_device self.old.core.device }
+        ensures page { GivesPage event.now result self.new.core.device.history page.old page.new }
+        ensures unchanged { has_effect event.now result ≡ false → self.new.core.device ≡ self.old.core.device }
     {
+        ports_promise::<D, F>();
         let _len = self.log.len();
         let _capacity = self.log.capacity();
         let seen = happen(&mut self.device, event, page);
@@ -87,8 +90,13 @@ impl<D: DiskPort, F: Fabric> World<D, F> {
         requires log_spare { 0 < self.old.log_spare }
         ensures polled { IsPolled D.moves self.old.core.device self.old.core.disk self.old.log result self.new.core.device self.new.core.disk self.new.log }
         ensures fabric { self.new.core.fabric ≡ self.old.core.fabric }
-        ensures room { KeepsRoom self.old.core self.new.core }
+        ensures history { self.new.core.device.history ≡ self.old.core.device.history }
+        ensures spare { self.new.core.spare ≡ self.old.core.spare }
+        ensures log_room { length self.new.log + self.new.log_spare ≡ length self.old.log + self.old.log_spare }
+        ensures of { of_device self.new.core.device ≡ of_device self.old.core.device }
+        ensures idle { (c : Caller) → is_idle (state_of self.new.core.device.calls c) ≡ is_idle (state_of self.old.core.device.calls c) }
     {
+        ports_promise::<D, F>();
         let _len = self.log.len();
         let _capacity = self.log.capacity();
         let step = self.device.disk_take();
@@ -108,6 +116,14 @@ impl<D: DiskPort, F: Fabric> World<D, F> {
         ensures { result ≡ self.now.log_spare }
     {
         self.log.capacity() - self.log.len()
+    }
+
+    /// How the world was reached: by the events of its log, from a device that nothing had happened to, over a disk
+    /// that was blank and a fabric as it is made. So every law over any ports holds of it.
+    pub fn reached(&self)
+        ensures { IsReached D.DiskPort F.Fabric self.now.core self.now.log }
+    {
+        let _len = self.log.len();
     }
 
     /// The device.
@@ -146,7 +162,7 @@ impl<D: DiskPort + Drop, F: Fabric + Drop> World<D, F> {
         requires disk { IsBlank geometry (D.means disk) }
         requires lenders { lenders ≤ MOST_LENDERS }
         requires fabric { F.fresh fabric (record { sizes = geometry; lenders = lenders }) }
-        ensures core { IfOk result (λ w. w.core ≡ record { device = new geometry; disk = disk; fabric = fabric; spare = 0 }) }
+        ensures core { IfOk result (λ w. w.core ≡ record { device = new geometry lenders; disk = disk; fabric = fabric; spare = 0 }) }
         ensures log { IfOk result (λ w. w.log ≡ []) }
     {
         Ok(World {

@@ -6,7 +6,7 @@ use Rattle.swap_table.proofs.Lists.{chosen}
 use Rattle.swap_table.proofs.Programs.{Along-answering}
 use Rattle.swap_calls.specs.Calls.{is_idle, state_of}
 use Rattle.swap_wire.specs.declared.Seen.{Seen}
-use Rattle.swap_world.specs.World.{see_step}
+use Rattle.swap_table.specs.Happens.{see_step}
 use Rattle.swap_world.proofs.events.finish.Goals as goal
 
 pub returns-clause-step : goal.returns-clause-step

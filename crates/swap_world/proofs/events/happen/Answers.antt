@@ -1,7 +1,13 @@
 use Rattle.swap_table.specs.Device as device
+use Rattle.swap_table.specs.Happens.{see_take}
 use Rattle.swap_table.proofs.Programs.{Along-answering}
-use Rattle.swap_world.specs.World.{see_take}
 use Rattle.swap_world.proofs.events.happen.Goals as goal
+
+pub returns-in-PageOut-clause-step : goal.returns-in-PageOut-clause-step
+returns-in-PageOut-clause-step g c = rw c.in-PageOut.is c.page_out.ensures.step
+
+pub returns-in-Finish-clause-step : goal.returns-in-Finish-clause-step
+returns-in-Finish-clause-step g c = rw c.in-Finish.is c.finish.ensures.step
 
 pub returns-in-Take-clause-step : goal.returns-in-Take-clause-step
 returns-in-Take-clause-step g c =
