@@ -1,5 +1,5 @@
 -- One more event is printed.
-use Rattle.std.proofs.Common.{◌≡◌, ℕ, ◌+◌, ◌≤◌, min, Bool, true, false, cond, OnErr, OnOk, Result, Ok, Err, List, [], ◌∷◌, ◌++◌, length, take, drop, refl, sym, ap, ◌∙◌, subst, arith, append_assoc, append-nil, zero-add, length-append, Option, None, Some}
+use Rattle.std.proofs.Common.{◌<◌, MatchOption, ◌≡◌, ℕ, ◌+◌, ◌≤◌, min, Bool, true, false, cond, OnErr, OnOk, Result, Ok, Err, List, [], ◌∷◌, ◌++◌, length, take, drop, refl, sym, ap, ◌∙◌, subst, arith, append_assoc, append-nil, zero-add, length-append, Option, None, Some}
 use Rattle.std.proofs.lemmas.Grind.{flat_map-append}
 use Rattle.std.proofs.lemmas.List.Concat.{flat_map-cons}
 use Rattle.std.proofs.lemmas.List.{take-append-le, take_min}
@@ -14,17 +14,19 @@ use Rattle.swap_wire.specs.declared.Event.{Event}
 use Rattle.swap_wire.specs.declared.Event.TheVariants as event
 use Rattle.swap_wire.specs.declared.Seen.{Seen}
 use Rattle.swap_wire.specs.declared.Seen.TheVariants as seen
+use Rattle.swap_base.specs.declared.EntryNo.{EntryNo}
 use Rattle.swap_record.specs.History.{History}
 use Rattle.swap_disk.specs.Drive as drive
 use Rattle.swap_disk.specs.Drive.{Drive}
 use Rattle.swap_link.specs.Harbor as harbor
-use Rattle.swap_link.specs.Harbor.{Harbor, of_harbor}
+use Rattle.swap_link.specs.Harbor.{Harbor}
 use Rattle.swap_table.specs.Ports.{run}
-use Rattle.swap_table.specs.Device.{Device}
+use Rattle.swap_table.specs.Device.{Device, of_device}
 use Rattle.swap_device.specs.State.{KeepsRoom}
 use Rattle.swap_world.specs.Laws.{StepsAreNext, HistoriesGoOn}
-use Rattle.swap_world.specs.World.{World, Next, IsStep, happens, next, next_of, reach, seens, history}
-use Rattle.swap_world.specs.Runs.{WorldOf, GoesOn, StandsIn, GrowsByCalls, is_new_call, has_effect, one_less_if}
+use Rattle.swap_table.specs.Happens.{happens}
+use Rattle.swap_world.specs.World.{World, Next, IsStep, next, next_of, reach, seens, history}
+use Rattle.swap_world.specs.Runs.{WorldOf, IsLogged, Adds, nothing, one, GoesOn, StandsIn, GrowsByCalls, is_new_call, has_effect, one_less_if}
 use Rattle.swap_script.specs.Reading.{Script, calls_of, calls_in, page_after, first_event, later, is_out}
 use Rattle.swap_script.specs.Laws.{LinesStay}
 use Rattle.swap_script.specs.Transcript.{HasEntry, line}
@@ -179,9 +181,9 @@ one_less true n m h = omega arith
 one_less false n m h = omega arith
 
 room_left : (now after : WorldOf Drive Harbor) (left left' : Script) (i : Input) (is : List Input) (s : Seen) → left.inputs ≡ i ∷ is → left'.inputs ≡ is → left'.sizes ≡ left.sizes → left'.lenders ≡ left.lenders
-    → after.core.device.sizes ≡ now.core.device.sizes → of_harbor after.core.fabric ≡ of_harbor now.core.fabric → KeepsRoom now.core after.core → GrowsByCalls i.event now.core.device after.core.device → after.log_spare ≡ one_less_if (has_effect i.event s) now.log_spare
+    → of_device after.core.device ≡ of_device now.core.device → KeepsRoom now.core after.core → GrowsByCalls i.event now.core.device after.core.device → after.log_spare ≡ one_less_if (has_effect i.event s) now.log_spare
     → HasRoomFor now left → HasRoomFor after left'
-room_left now after left left' i is s el el' es eb sizes of keeps grows log h =
+room_left now after left left' i is s el el' es eb of keeps grows log h =
     let calls : calls_of (i ∷ is) ≡ calls_in i.event + calls_of is = sum_by-append (λ (x : Input). calls_in x.event) (i ∷ []) is ∙ ap (λ n. n + calls_of is) (zero-add (calls_in i.event)) in
     let all : calls_of left.inputs ≡ calls_in i.event + calls_of is = ap calls_of el ∙ calls in
     let few : calls_of left'.inputs ≡ calls_of is = ap calls_of el' in
@@ -190,7 +192,7 @@ room_left now after left left' i is s el el' es eb sizes of keeps grows log h =
     let len' : length left'.inputs ≡ length is = ap length el' in
     let room = one_less (has_effect i.event s) (length is) now.log_spare (omega (arith, len, h.log)) in
     record {
-      sizes = es ∙ h.sizes ∙ sym sizes;
+      sizes = es ∙ h.sizes ∙ sym (ap (λ (o : FabricOf). o.sizes) of);
       lenders = ap (λ (o : FabricOf). o.lenders) of ∙ h.lenders ∙ ap length (sym eb);
       entries = omega (arith, all, few, new, keeps, grows, h.entries);
       log = omega (arith, len', room, log);
@@ -200,10 +202,10 @@ room_left now after left left' i is s el el' es eb sizes of keeps grows log h =
 pub print_more : StepsAreNext → LinesStay → (first : WorldOf Drive Harbor) (all : List Input) (now after : WorldOf Drive Harbor) (left left' : Script) (i : Input) (is : List Input) (buf : List ℕ) (s : Seen) (bytes : List ℕ) (tb tm tn : Option (List ℕ))
     → Printing first all now left tb tm → left.inputs ≡ i ∷ is → left'.inputs ≡ is → left'.sizes ≡ left.sizes → left'.lenders ≡ left.lenders
     → IsStep drive.Moves harbor.Moves now.core.device now.core.disk now.core.fabric (record { event = i.event; page = page_after (i ∷ is) buf }) s after.core.device after.core.disk after.core.fabric
-    → after.core.device.sizes ≡ now.core.device.sizes → of_harbor after.core.fabric ≡ of_harbor now.core.fabric → KeepsRoom now.core after.core → GrowsByCalls i.event now.core.device after.core.device → after.log_spare ≡ one_less_if (has_effect i.event s) now.log_spare
+    → of_device after.core.device ≡ of_device now.core.device → KeepsRoom now.core after.core → GrowsByCalls i.event now.core.device after.core.device → after.log_spare ≡ one_less_if (has_effect i.event s) now.log_spare
     → GoesOn now.core.device.history after.core.device.history → StandsIn after.core.device.history s
     → bytes ≡ line after.core.device.history (i.event, s) → Appends tm tn bytes → Printing first all after left' tb tn
-print_more steps stay first all now after left left' i is buf s bytes tb tm tn k el el' es eb step sizes of keeps grows log goes stands is_line took =
+print_more steps stay first all now after left left' i is buf s bytes tb tm tn k el el' es eb step of keeps grows log goes stands is_line took =
     let nx = steps_to steps now after i is buf s step in
     let H : History = now.core.device.history in
     let H' : History = after.core.device.history in
@@ -220,7 +222,7 @@ print_more steps stay first all now after left left' i is buf s bytes tb tm tn k
       taken =
           let P : List ℕ → Type 0 = λ r. Appends tb tn r in
           subst P (ap (λ l. l ++ bytes) (sym same) ∙ ap (λ b. lines_of H' k.so_far ++ b) is_line ∙ sym (lines_more H' k.so_far (i.event, s))) (appends_after tb tm tn (lines_of H k.so_far) bytes k.taken took);
-      room = room_left now after left left' i is s el el' es eb sizes of keeps grows log k.room;
+      room = room_left now after left left' i is s el el' es eb of keeps grows log k.room;
     }
 
 -- a line was broken off
@@ -278,16 +280,24 @@ pub ok_by : {T E : Type 0} (r : Result T E) (P Q : Type 0) → (P → Q) → OnO
 ok_by (Ok x) P Q f h = f h
 ok_by (Err e) P Q f h = tt
 
+-- what an event adds goes on from the history, and an entry that is seen of it stands there
+adds_go_on : (d : Device) (i : Input) (s : Seen) (H : History) → Adds d i s H → GoesOn d.history H
+adds_go_on d i s H (nothing seen_none same) = ([], same)
+adds_go_on d i s H (one row seen_one same answers) = (row ∷ [], same)
+
+adds_stand : (d : Device) (i : Input) (s : Seen) (H : History) → Adds d i s H → StandsIn H s
+adds_stand d i s H (nothing seen_none same) = let P : Option EntryNo → Type 0 = λ o. MatchOption o (Unit {0}) (λ (e : EntryNo). e.0 < length H) in subst P (sym seen_none) tt
+adds_stand d i s H (one row seen_one same answers) =
+    let P : Option EntryNo → Type 0 = λ o. MatchOption o (Unit {0}) (λ (e : EntryNo). e.0 < length H) in subst P (sym seen_one) (rw same (omega arith))
+
 -- an event was made, and its line is this
 pub record IsMade (now after : WorldOf Drive Harbor) (e : Event) (page : List ℕ) (s : Seen) (bytes : List ℕ) : Type 0 where
   pub step : IsStep drive.Moves harbor.Moves now.core.device now.core.disk now.core.fabric (record { event = e; page = page }) s after.core.device after.core.disk after.core.fabric
-  pub sizes : after.core.device.sizes ≡ now.core.device.sizes
-  pub of : of_harbor after.core.fabric ≡ of_harbor now.core.fabric
+  pub of : of_device after.core.device ≡ of_device now.core.device
   pub keeps : KeepsRoom now.core after.core
   pub grows : GrowsByCalls e now.core.device after.core.device
-  pub log : after.log_spare ≡ one_less_if (has_effect e s) now.log_spare
-  pub goes : GoesOn now.core.device.history after.core.device.history
-  pub stands : StandsIn after.core.device.history s
+  pub log : IsLogged e s now after
+  pub adds : Adds now.core.device (record { event = e; page = page }) s after.core.device.history
   pub is_line : bytes ≡ line after.core.device.history (e, s)
 
 some_is : {X : Type 0} {x y : X} → Some x ≡ Some y → x ≡ y
@@ -307,7 +317,7 @@ printed_more steps stay first all now after left left' e page buf s bytes tb tm 
     go (i ∷ is) is_inputs ee ep =
         let made = made_at now after e i.event page (page_after (i ∷ is) buf) s bytes (some_is ee) ep m in
         print_more steps stay first all now after left left' i is buf s bytes tb tm tn k is_inputs (ap (λ (x : Script). x.inputs) el ∙ ap (λ l. drop 1 l) is_inputs) (ap (λ (x : Script). x.sizes) el) (ap (λ (x : Script). x.lenders) el)
-        made.step made.sizes made.of made.keeps made.grows made.log made.goes made.stands made.is_line took
+        made.step made.of made.keeps made.grows made.log.room (adds_go_on _ _ _ _ made.adds) (adds_stand _ _ _ _ made.adds) made.is_line took
 
 pub printed_broke : StepsAreNext → LinesStay → HistoriesGoOn → (first : WorldOf Drive Harbor) (all : List Input) (now after : WorldOf Drive Harbor) (left : Script) (e : Event) (page buf : List ℕ) (s : Seen) (bytes : List ℕ) (tb tm tn : Option (List ℕ))
     → Printing first all now left tb tm → Some e ≡ first_event left.inputs → page ≡ page_after left.inputs buf → IsMade now after e page s bytes → AppendsFront tm tn bytes → AppendsFront tb tn (lines_from (world_in first) all)
@@ -317,7 +327,7 @@ printed_broke steps stay on first all now after left e page buf s bytes tb tm tn
     go [] is ee ep = cc
     go (i ∷ is) is_inputs ee ep =
         let made = made_at now after e i.event page (page_after (i ∷ is) buf) s bytes (some_is ee) ep m in
-        print_broke steps stay on first all now after left i is buf s bytes tb tm tn k is_inputs made.step made.goes made.stands made.is_line took
+        print_broke steps stay on first all now after left i is buf s bytes tb tm tn k is_inputs made.step (adds_go_on _ _ _ _ made.adds) (adds_stand _ _ _ _ made.adds) made.is_line took
 
 -- the same bytes
 pub taken_as : (a b : Option (List ℕ)) (xs ys : List ℕ) → xs ≡ ys → Appends a b xs → Appends a b ys

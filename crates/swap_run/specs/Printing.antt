@@ -8,7 +8,7 @@ use Rattle.swap_wire.specs.Input.{Input}
 use Rattle.swap_wire.specs.declared.Event.{Event}
 use Rattle.swap_wire.specs.declared.Seen.{Seen}
 use Rattle.swap_disk.specs.Drive.{Drive}
-use Rattle.swap_link.specs.Harbor.{Harbor, of_harbor}
+use Rattle.swap_link.specs.Harbor.{Harbor}
 use Rattle.swap_world.specs.World.{World, reach, seens, history}
 use Rattle.swap_world.specs.Runs.{WorldOf, busy_callers}
 use Rattle.swap_script.specs.Reading.{Script, calls_of}
@@ -30,7 +30,7 @@ lines_from w inputs = lines_of (history (reach w inputs)) (seens w inputs)
 -- there is room for the entries and the log of the events that are left
 pub record HasRoomFor (w : WorldOf Drive Harbor) (s : Script) : Type 0 where
   pub sizes : s.sizes ≡ w.core.device.sizes
-  pub lenders : (of_harbor w.core.fabric).lenders ≡ length s.lenders
+  pub lenders : w.core.device.lenders ≡ length s.lenders
   pub entries : busy_callers w.core.device + calls_of s.inputs ≤ w.core.spare
   pub log : length s.inputs ≤ w.log_spare
 

@@ -9,13 +9,11 @@ events-preserved g c = record {
       printed_more c.steps_are_next.ensures c.lines_stay.ensures _ _ _ _ _ _ c.in-Some.event c.next.new.page c.events.page c.step-seen.result c.bytes.result.now _ _ _ c.events.invariant.printing (sym c.in-Some.is ∙ c.next.ensures.event) c.next.ensures.left c.next.ensures.page
       (record {
         step = c.step-seen.ensures.step;
-        sizes = c.step-seen.ensures.sizes;
-        of = c.step-seen.ensures.lenders;
+        of = c.step-seen.ensures.of;
         keeps = c.step-seen.ensures.room;
         grows = c.step-seen.ensures.grows;
-        log = c.step-seen.ensures.log_room;
-        goes = c.step-seen.ensures.goes_on;
-        stands = c.step-seen.ensures.stands;
+        log = c.step-seen.ensures.log;
+        adds = c.step-seen.ensures.adds;
         is_line = c.bytes.ensures.bytes ∙ c.event_line.ensures ∙ ap (λ h. line h (c.in-Some.event, c.step-seen.result)) (c.history.ensures.history ∙ ap (λ d. d.device.history) c.device.ensures);
       })
       c.in_ok-write_line.ensures.ok;
@@ -29,13 +27,11 @@ returns-in_err-write_line-clause-err g c =
     (printed_broke c.steps_are_next.ensures c.lines_stay.ensures c.histories_go_on.ensures _ _ c.events.world c.step-seen.new.self c.events.walk c.in-Some.event c.next.new.page c.events.page c.step-seen.result c.bytes.result.now _ _ _ c.events.invariant.printing (sym c.in-Some.is ∙ c.next.ensures.event) c.next.ensures.page
     (record {
       step = c.step-seen.ensures.step;
-      sizes = c.step-seen.ensures.sizes;
-      of = c.step-seen.ensures.lenders;
+      of = c.step-seen.ensures.of;
       keeps = c.step-seen.ensures.room;
       grows = c.step-seen.ensures.grows;
-      log = c.step-seen.ensures.log_room;
-      goes = c.step-seen.ensures.goes_on;
-      stands = c.step-seen.ensures.stands;
+      log = c.step-seen.ensures.log;
+      adds = c.step-seen.ensures.adds;
       is_line = c.bytes.ensures.bytes ∙ c.event_line.ensures ∙ ap (λ h. line h (c.in-Some.event, c.step-seen.result)) (c.history.ensures.history ∙ ap (λ d. d.device.history) c.device.ensures);
     })
     c.in_err-write_line.ensures.err)
