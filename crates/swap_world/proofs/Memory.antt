@@ -36,7 +36,7 @@ use Rattle.swap_table.proofs.Comings.{Hands, names_there}
 use Rattle.swap_base.specs.declared.geometry.LenderSpec.{LenderSpec}
 use Rattle.swap_wire.specs.declared.Seen.{Seen}
 use Rattle.swap_slabs.specs.declared.TheConstants.{MOST_LENDERS}
-use Rattle.swap_table.specs.Fits.{IsBlank}
+use Rattle.swap_table.specs.Fits.{IsBlank, Fits}
 use Rattle.swap_table.proofs.EachCall.{new_agrees}
 use Rattle.swap_link.specs.HarborLaws.{moves_keep_of}
 use Rattle.swap_disk.specs.declared.port.DiskPort.{Ghosts as DiskMeaning}
@@ -54,6 +54,7 @@ use Rattle.swap_link.specs.Whole as whole
 use Rattle.swap_calls.specs.Calls as calls
 use Rattle.swap_calls.specs.declared.Arrived.TheVariants as arrived
 use Rattle.swap_table.proofs.Keeps as keep
+use Rattle.swap_table.proofs.Accounting as accounting
 use Rattle.swap_link.specs.HarborLaws as harbors
 use Rattle.swap_link.specs.HarborLaws as harbors
 
@@ -161,11 +162,15 @@ module _ (s : Sizes) (n : ℕ) where
   abbrev pub Agrees : Speaker → Drive → Harbor → Type 0
   Agrees = keep.Agrees drive_meaning drives.follows harbor_meaning harbor_promises true OfThese Below Whole
 
+  abbrev pub Accounted : Device → Drive → Type 0
+  Accounted = accounting.AccountsOf drive_meaning drives.follows harbor_meaning harbor_promises true OfThese Below Whole
+
   abbrev pub RoomsFit : Device → Type 0
   RoomsFit d = RoomsOf s.page_bytes d.calls
 
   pub record SoundAt (x : Speaker) (k : Drive) (h : Harbor) : Type 0 where
     pub agrees : Agrees x k h
+    pub accounts : Accounted x.device k
     pub of : of_harbor h ≡ OfThese
     pub drive : IsDrive k
     pub harbor : IsHarbor h
@@ -265,6 +270,7 @@ module _ (s : Sizes) (n : ℕ) where
   sound_kept : EachKeeps (Does drive.ask harbor.ask) (DoesOf drive.ask harbor.ask) (Move There) SoundAt
   sound_kept x asked y k k' h h' m stay sound = record {
     agrees = keep.each_keeps drive_meaning drives.follows harbor_meaning harbor_promises true OfThese Below Whole x asked y k k' h h' m stay sound.agrees;
+    accounts = accounting.each_accounts drive_meaning drives.follows harbor_meaning harbor_promises true OfThese Below Whole x asked y k k' h h' m stay sound.agrees sound.accounts;
     of = sound.of;
     drive = sound.drive;
     harbor = sound.harbor;
@@ -272,6 +278,7 @@ module _ (s : Sizes) (n : ℕ) where
   }
   sound_kept x asked y k k' h h' m (by_disk {c = c} {r = r} is) sound = record {
     agrees = keep.each_keeps drive_meaning drives.follows harbor_meaning harbor_promises true OfThese Below Whole x asked y k k' h h' m (by_disk (sound.drive, is)) sound.agrees;
+    accounts = accounting.each_accounts drive_meaning drives.follows harbor_meaning harbor_promises true OfThese Below Whole x asked y k k' h h' m (by_disk (sound.drive, is)) sound.agrees sound.accounts;
     of = sound.of;
     drive = subst IsDrive (ap (λ (a : DiskAnswer c × Drive). a.1) is) (drives.ask_keeps k c sound.drive);
     harbor = sound.harbor;
@@ -284,6 +291,7 @@ module _ (s : Sizes) (n : ℕ) where
       let moved : harbor.Moves h c r h' = (kept.1.0, is) in
       record {
         agrees = keep.each_keeps drive_meaning drives.follows harbor_meaning harbor_promises true OfThese Below Whole x asked y k k' h h' m (by_fabric moved) sound.agrees;
+        accounts = accounting.each_accounts drive_meaning drives.follows harbor_meaning harbor_promises true OfThese Below Whole x asked y k k' h h' m (by_fabric moved) sound.agrees sound.accounts;
         of = harbor_promises.keep_of h c r h' moved ∙ sound.of;
         drive = sound.drive;
         harbor = subst IsHarbor (ap (λ (a : FabricAnswer c × Harbor). a.1) is) kept.0;
@@ -312,8 +320,12 @@ module _ (s : Sizes) (n : ℕ) where
   next_step w i input sound =
       Goes-went (Move There) drive.ask harbor.ask drive.Moves harbor.Moves SoundAt sound_kept moves_told _ w.drive w.harbor (goes_here w i input) sound
 
+  -- what device and ports agree on there
+  pub sound_fits : (w : World) → IsSound w → Fits true (λ page given. page ≡ given) (harbor.KeepsAt w.harbor) (harbor.OwesAt w.harbor) w.device (port_of w.drive)
+  sound_fits w sound = record { disk = sound.agrees.fits.disk; serves = sound.agrees.fits.serves; accounts = sound.accounts }
+
   pub sound_known : (w : World) → IsSound w → Known drive_meaning drives.follows harbor_meaning harbor_promises true OfThese w.device w.drive w.harbor
-  sound_known w sound = record { agree = (sound.agrees.fits, sound.agrees.of_f ∙ sym sound.agrees.is); is = sound.agrees.is }
+  sound_known w sound = record { agree = (sound_fits w sound, sound.agrees.of_f ∙ sym sound.agrees.is); is = sound.agrees.is }
 
   -- so what each event keeps holds of every list of events
   module _ (P : List (Input × Seen) → Device → Type 0) (each : EachEventKeeps drive_meaning drives.follows harbor_meaning harbor_promises true OfThese P) where
@@ -342,7 +354,8 @@ pub starts_sound : (s : Sizes) (specs : List LenderSpec) → length specs ≤ MO
 starts_sound s specs few =
     let k = new_agrees drive_meaning drives.follows harbor_meaning harbor_promises s (length specs) (new_drive s) (new_harbor s specs) (new_blank s) (new_of s specs) few in
     record {
-      agrees = record { fits = k.0; is = refl; of_f = k.1 };
+      agrees = record { fits = record { disk = k.0.disk; serves = k.0.serves }; is = refl; of_f = k.1 };
+      accounts = k.0.accounts;
       of = new_of s specs;
       drive = record { in_flight = tt; range = lit< tt };
       harbor = new_is_harbor s specs;

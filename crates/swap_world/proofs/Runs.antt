@@ -24,7 +24,7 @@ use Rattle.swap_wire.specs.declared.fabric.Fabric.{Ghosts as FabricMeaning}
 use Rattle.swap_table.specs.Promises.{FollowsItsMoves, Promises}
 use Rattle.swap_world.proofs.Steps.{run_known, run_keeps}
 use Rattle.swap_world.proofs.Told.{IsTold, new_told, each_told}
-use Rattle.swap_world.proofs.Memory.{drive_meaning, harbor_meaning, harbor_promises, starts_sound, reach_sound, reach_keeps}
+use Rattle.swap_world.proofs.Memory.{drive_meaning, harbor_meaning, harbor_promises, starts_sound, sound_fits, reach_sound, reach_keeps}
 use Rattle.swap_disk.specs.Drive as drive
 use Rattle.swap_disk.specs.Follows as drives
 use Rattle.swap_link.specs.Harbor as harbor
@@ -75,7 +75,7 @@ always_legal s specs is few inputs =
     subst P sound.agrees.is (sound.agrees.fits.disk.in_order.ordered, all_faithful (zeros w.device.sizes) (history w) sound.agrees.fits.disk.agrees.faithful)
 
 pub always_agrees : AlwaysAgrees
-always_agrees s specs is few inputs = (reach_sound s (length specs) (start s specs) is inputs (starts_sound s specs few)).agrees.fits
+always_agrees s specs is few inputs = sound_fits s (length specs) (reach (start s specs) is) (reach_sound s (length specs) (start s specs) is inputs (starts_sound s specs few))
 
 pub entries_are_seen : EntriesAreSeen
 entries_are_seen s specs is few inputs = (reach_told s specs is few inputs).entries

@@ -1,5 +1,5 @@
 -- What holds of every run.
-use Rattle.std.specs.Prelude.{◌≡◌, ℕ, ◌<◌, ◌≤◌, Bool, true, List, is_some, [], length}
+use Rattle.std.specs.Prelude.{◌≡◌, ℕ, ◌<◌, ◌≤◌, Bool, true, false, List, is_some, [], length}
 use Rattle.std.specs.List.{AllByRecursion}
 use Rattle.swap_base.specs.declared.Caller.{Caller}
 use Rattle.swap_base.specs.declared.geometry.LenderSpec.{LenderSpec}
@@ -19,7 +19,7 @@ use Rattle.swap_table.specs.Fits.{Fits, IsFaithfulOver, IsBlank}
 use Rattle.swap_table.specs.Laws.{AgreeWith}
 use Rattle.swap_world.specs.Answered.{AreAnsweredOnce}
 use Rattle.swap_world.specs.Failures.{HoldsEntriesSeen}
-use Rattle.swap_world.specs.Runs.{IsRun, IsInput, GoesOn}
+use Rattle.swap_world.specs.Runs.{IsRun, IsInput, GoesOn, has_effect}
 use Rattle.swap_world.specs.World.{World, IsStep, start, next, reach, history, made_by}
 
 -- every event names what there is, and every page-out hands in a page
@@ -71,6 +71,11 @@ abbrev pub StepsAreNext : Type 0
 StepsAreNext =
     (d d' : Device) (k k' : Drive) (h h' : Harbor) (i : Input) (s : Seen) → IsStep drive.Moves harbor.Moves d k h i s d' k' h'
     → next (record { device = d; drive = k; harbor = h }) i ≡ record { world = record { device = d'; drive = k'; harbor = h' }; seen = s }
+
+-- over the disk and the lenders in memory an event without an effect leaves the whole world as it was, ports too
+abbrev pub NothingChanges : Type 0
+NothingChanges =
+    (s : Sizes) (specs : List LenderSpec) (is : List Input) (i : Input) → length specs ≤ MOST_LENDERS → AreInputs s specs is → let w : World = reach (start s specs) is in has_effect i.event (next w i).seen ≡ false → (next w i).world ≡ w
 
 -- a history goes on with every event
 abbrev pub HistoriesGoOn : Type 0

@@ -1,7 +1,7 @@
 //! The device over its disk and its lenders: one event of the machine after another.
 #![tactic(auto)]
 
-ghost use Rattle.swap_world.specs.Laws.{AgreesAfterEach, AlwaysAgrees, AlwaysLegal, EachCallOnce, EntriesAreSeen, HistoriesGoOn, HoldsAfterEach, StepsAreNext};
+ghost use Rattle.swap_world.specs.Laws.{AgreesAfterEach, AlwaysAgrees, AlwaysLegal, EachCallOnce, EntriesAreSeen, HistoriesGoOn, HoldsAfterEach, NothingChanges, StepsAreNext};
 ghost use Rattle.swap_world.specs.Rows.{PageOutWithoutRoomFailsWhereAWriteFailed, ReadOvertakenByAPageOutAlreadyOnTheDisk, FailedDiskReadFailsThePageIn, FailedDiskReadWithANewerPageOut, AnotherCallersReadFails, PageInFromALender};
 
 mod events;
@@ -58,6 +58,12 @@ pub fn entries_are_seen()
 /// Over the disk and the lenders in memory the world is a function of the events.
 pub fn steps_are_next()
     ensures { StepsAreNext }
+{}
+
+/// Over the disk and the lenders in memory an event without an effect leaves the whole world as it was: the device, the
+/// disk and the lenders.
+pub fn nothing_changes()
+    ensures { NothingChanges }
 {}
 
 /// A history goes on with every event over the disk and the lenders in memory.

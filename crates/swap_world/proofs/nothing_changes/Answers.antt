@@ -1,0 +1,5 @@
+use Rattle.swap_world.proofs.Still.{nothing_changes}
+use Rattle.swap_world.proofs.nothing_changes.Goals as goal
+
+pub returns : goal.returns
+returns c = nothing_changes
