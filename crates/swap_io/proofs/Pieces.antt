@@ -1,7 +1,7 @@
 -- The bytes of a piece by their places, and the page that repeats it.
-use Rattle.std.proofs.Common.{◌≡◌, ℕ, zero, suc, ◌+◌, ◌-◌, ◌*◌, ◌/◌, ◌%◌, ◌<◌, ◌≤◌, Bool, true, false, cond, eqb, leb, List, [], ◌∷◌, ◌&&◌, ◌||◌, not, length, get_or, is_some, None, Some, refl, sym, ap, ap₂, ◌∙◌, arith, inl, inr}
+use Rattle.std.proofs.Common.{◌≡◌, ℕ, zero, suc, ◌+◌, ◌-◌, ◌*◌, ◌/◌, ◌%◌, ◌<◌, ◌≤◌, Bool, true, false, cond, eqb, leb, nat_lt, List, [], ◌∷◌, ◌&&◌, ◌||◌, not, length, get_or, is_some, None, Some, refl, sym, ap, ap₂, ◌∙◌, arith, inl, inr}
 use Rattle.std.specs.List.{list_any, list_all}
-use Rattle.std.proofs.lemmas.Bool.{and_parts, and_from, cases_lt, or_cases, eqb-true, eq-eqb, lt-ltb, le-leb, leb-true, both_ways}
+use Rattle.std.proofs.lemmas.Bool.{and_parts, and_from, cases_lt, or_cases, eqb-true, eq-eqb, lt-ltb, le-leb, leb-true, ltb-true, both_ways}
 use Rattle.std.proofs.Math.Nat.{mod-eq_of_lt, mod-eq-sub-mod}
 use Rattle.std.proofs.lemmas.List.{length-append, get_or_append_left, get_or-append_right, ext_get_or}
 use Rattle.swap_base.specs.Sizes.{page_lengths}
@@ -74,6 +74,11 @@ both_hold true true true p q = refl
 both_hold false true true p q = refl
 both_hold a false c p q = cc
 both_hold a true false p q = cc
+
+-- a piece has a byte at least
+pub positive : (len : ℕ) → list_any (λ n. eqb n len) lengths ≡ true → 0 < len
+positive len listed =
+    ltb-true 0 len (list_all-at (λ n. nat_lt 0 n) lengths len (sym (list_any_comm len lengths) ∙ listed) refl)
 
 -- a word of whole bytes, at least one, is hex where all its digits are
 pub is_some-piece_of : (word : List ℕ) (r : Bool) → r ≡ list_all is_hex_digit word → 0 < length word → length word % 2 ≡ 0 → r ≡ is_some (piece_of word)

@@ -1,4 +1,4 @@
-ghost use Rattle.std.specs.Prelude.{◌≡◌, ℕ, ◌+◌, ◌*◌, ◌<◌, ◌==◌, length, is_some, if◌then◌else◌, IsTrue, true, Some, None, slice_index};
+ghost use Rattle.std.specs.Prelude.{◌≡◌, ℕ, ◌+◌, ◌*◌, ◌-◌, ◌%◌, ◌<◌, ◌≤◌, ◌==◌, min, length, is_some, if◌then◌else◌, IsTrue, true, Some, None, slice_index};
 ghost use Rattle.std.specs.Bool.{OnFalse};
 ghost use Rattle.std.specs.List.{list_any};
 ghost use Rattle.swap_base.specs.Sizes.{page_lengths};
@@ -45,10 +45,46 @@ pub fn pattern(word: &[u8], page: &mut [u8]) -> bool
     if !is_hex(word) || !PIECE_LENGTHS.contains(&len) || len > page.len() {
         return false;
     }
-    for (i, byte) in page.iter_mut().enumerate() {
-        *byte = byte_at(word, i % len);
-    }
+    fill_front(word, page, len);
+    repeat_front(page, len);
     true
+}
+
+/// Writes the piece that a word stands for at the front of a page.
+fn fill_front(word: &[u8], page: &mut [u8], len: usize)
+    requires hex { is_some (piece_of word.now) ≡ true }
+    requires word { 2 * len ≤ length word.now }
+    requires page { len ≤ length page.old }
+    ensures { (k : ℕ) → k < len → slice_index page.new k ≡ slice_index (pairs word.now) k }
+{
+    for i in 0..len {
+        page[i] = byte_at(word, i);
+    }
+}
+
+/// Fills a page with its first `len` bytes, repeated: each pass doubles what is filled.
+fn repeat_front(page: &mut [u8], len: usize)
+    requires some { 0 < len }
+    requires within { len ≤ length page.old }
+    ensures { (k : ℕ) → k < length page.old → slice_index page.new k ≡ slice_index page.old (k % len) }
+{
+    let mut done = len;
+    'filling: while done < page.len() {
+        done = double(page, done);
+    }
+}
+
+/// Copies the first `done` bytes behind themselves, as many as the page has room for. How many are filled then.
+fn double(page: &mut [u8], done: usize) -> usize
+    requires { done ≤ length page.old }
+    ensures filled { result ≡ min (done + done) (length page.old) }
+    ensures front { (k : ℕ) → k < done → slice_index page.new k ≡ slice_index page.old k }
+    ensures copied { (k : ℕ) → k < result - done → slice_index page.new (done + k) ≡ slice_index page.old k }
+{
+    let (front, rest) = page.split_at_mut(done);
+    let count = front.len().min(rest.len());
+    rest[..count].copy_from_slice(&front[..count]);
+    done + count
 }
 
 /// The byte at a place of the piece that a word stands for.

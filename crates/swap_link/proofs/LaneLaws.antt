@@ -1,13 +1,13 @@
 -- Lanes over their places.
-use Rattle.std.proofs.Common.{◌≡◌, ℕ, ◌<◌, ◌≤◌, min, List, length, take, sym, ap, ◌∙◌, arith, inl, inr}
+use Rattle.std.proofs.Common.{◌≡◌, ℕ, ◌+◌, ◌-◌, ◌<◌, ◌≤◌, min, List, [], ◌∷◌, ◌++◌, zero, suc, length, take, drop, refl, sym, ap, ◌∙◌, arith, inl, inr}
 use Rattle.std.proofs.Common.{true}
 use Rattle.std.specs.Prelude.{map, All}
 use Rattle.std.proofs.lemmas.Bool.{cond-true}
 use Rattle.std.proofs.lemmas.List.Elements.{All-map, All-take, All-weaker}
 use Rattle.swap_wire.specs.Fabric.{Parcel, carries_page}
 use Rattle.std.proofs.lemmas.Bool.{cases_lt}
-use Rattle.std.proofs.lemmas.List.{take-take, take_all, take-map, length-take}
-use Rattle.swap_link.specs.Lane.{Kept, parcel_in, parcels_in}
+use Rattle.std.proofs.lemmas.List.{take-take, take_all, take-map, length-take, take-append-le, length_push}
+use Rattle.swap_link.specs.Lane.{Kept, parcel_in, parcels_in, rest}
 
 -- the first of the first
 pub take_of_take : {X : Type 0} (n m : ℕ) (xs : List X) → take n (take m xs) ≡ take (min m n) xs
@@ -22,6 +22,18 @@ take_of_take n m xs = elim (cases_lt m n) [ inl h ↦ less h | inr h ↦ more h 
 -- a lane that is cut
 pub parcels-cut : (places : List Kept) (count n : ℕ) → parcels_in places (min count n) ≡ take n (parcels_in places count)
 parcels-cut places count n = ap (λ ks. map parcel_in ks) (sym (take_of_take n count places)) ∙ sym (take-map parcel_in n (take count places))
+
+-- a lane whose first message is taken off, and its place goes to the back
+pub parcels-popped : (places turned : List Kept) (count : ℕ) → 0 < count → count ≤ length places → turned ≡ drop 1 places ++ take 1 places → (parcels_in turned (count - 1) ≡ rest (parcels_in places count)) × (length turned ≡ length places)
+parcels-popped [] turned count some used e = absurd (omega (arith, some, used))
+parcels-popped (k ∷ ks) turned zero some used e = absurd (omega arith)
+parcels-popped (k ∷ ks) turned (suc n) some used e = (
+  ap (λ m. parcels_in turned m) less ∙ ap (λ l. parcels_in l n) e ∙ ap (λ l. map parcel_in l) (take-append-le n ks (k ∷ []) (omega arith)),
+  ap (λ (l : List Kept). length l) e ∙ length_push ks k ∙ omega arith,
+)
+  where
+    less : suc n - 1 ≡ n
+    less = omega arith
 
 -- its pages
 pub parcels-fit : (places : List Kept) (count page_bytes : ℕ) → All (λ k. length k.page ≡ page_bytes) places → All (λ (p : Parcel). carries_page p.msg ≡ true → length p.page ≡ page_bytes) (parcels_in places count)

@@ -3,6 +3,7 @@ ghost use Rattle.swap_wire.specs.Fabric.{carries_page, parcel_of};
 ghost use Rattle.swap_link.specs.Lane.{Lane, empty_lane, appended, ended, cut, is_cut, first_of, came, rest, filled, ParcelsFit};
 
 use std::alloc::{AllocError, Global};
+use std::collections::VecDeque;
 use std::marker::Model;
 use swap_base::Slab;
 use swap_wire::Msg;
@@ -65,7 +66,7 @@ impl Place {
 /// One direction of a link. All memory is taken at `make`.
 #[derive(Drop)]
 pub(crate) struct Lane {
-    places: Vec<Place>,
+    places: VecDeque<Place>,
     count: usize,
     ended: bool,
     page_bytes: usize,
@@ -87,9 +88,9 @@ impl Lane {
     pub(crate) fn make(alloc: Global, room: usize, page_bytes: usize) -> Result<Lane, AllocError>
         ensures { IfOk result (λ l. l ≡ empty_lane true room page_bytes) }
     {
-        let mut places = Vec::with_capacity(alloc, room)?;
+        let mut places = VecDeque::with_capacity(alloc, room)?;
         for _ in 0..room {
-            places.push_reserved(Place::make(alloc, page_bytes)?);
+            places.push_back_reserved(Place::make(alloc, page_bytes)?);
         }
         Ok(Lane {
             places,

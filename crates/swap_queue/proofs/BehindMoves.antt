@@ -7,10 +7,10 @@ use Rattle.swap_base.specs.declared.EntryNo.{EntryNo}
 use Rattle.swap_base.specs.Sizes.{Sizes, pages_of}
 use Rattle.swap_queue.specs.declared.cell.Held.{Held}
 use Rattle.swap_queue.specs.Queue.{Copy, Places, Queue, places_of, flying, next, newest, copies_at, has_room, one_if, put}
-use Rattle.swap_queue.specs.Cells.{Kept, is_held_for, is_for, is_used, copy_in, queue_in, longer, place_for, Fits}
+use Rattle.swap_queue.specs.Cells.{Kept, is_held_for, is_for, is_used, copy_in, queue_in, longer, Fits}
+use Rattle.swap_queue.specs.Stored.{IsPlaceFor}
 use Rattle.swap_queue.proofs.Copies.{cell_at, count_for, one, copy_in-same, copy_in-here, copy_in-new, none_for, of_one_page, flying_page, of_one_kind, used_for, copy_used}
 use Rattle.swap_queue.proofs.Keeps.{put_keeps, put_waits}
-use Rattle.swap_queue.proofs.PlaceOf.{place_for_is}
 use Rattle.swap_queue.proofs.CellMoves.{places_of_cells, queue_in-set, fits_after}
 
 pub length-longer : (line : List Page) (page : Page) (w : Bool) → length (longer line page w) ≡ length line + one_if w
@@ -40,7 +40,7 @@ pub two_places : (f g n m : Option Copy) → f ≡ g → n ≡ m → ◌≡◌ {
 two_places f g n m e h = let F : Option Copy → Option Copy → Places = λ f n. record { flying = f; next = n } in ap (λ x. F x n) e ∙ ap (λ x. F g x) h
 
 module _ (s : Sizes) (cells : List Kept) (line : List Page) (page : Page) (entry : EntryNo) (bytes : List ℕ) (i : ℕ)
-    (h : Fits s cells line) (lt : page.0 < pages_of s) (fills : length bytes ≡ s.page_bytes) (room : has_room (queue_in s cells line) page ≡ true) (place : place_for cells page.0 ≡ Some i) where
+    (h : Fits s cells line) (lt : page.0 < pages_of s) (fills : length bytes ≡ s.page_bytes) (room : has_room (queue_in s cells line) page ≡ true) (place : IsPlaceFor cells page.0 i) where
   abbrev q : Queue
   q = queue_in s cells line
 
@@ -58,7 +58,7 @@ module _ (s : Sizes) (cells : List Kept) (line : List Page) (page : Page) (entry
 
   put_others : (k : Bool) (p : ℕ) → p ≢ page.0 → (is_for k p old ≡ false) × (is_for k p new ≡ false)
   put_others k p ne = (
-    ⊎_elim (λ e. of_one_page k false p page.0 old.held e ne) (λ free. free_for k p free.0) (place_for_is cells page.0 i place).1,
+    ⊎_elim (λ e. of_one_page k false p page.0 old.held e ne) (λ free. free_for k p free.0) place.1,
     flying_page k false false p page.0 (Some (record { page = page; entry = entry; flying = false })) (eq-eqb page.0 page.0 refl) ne,
   )
 
@@ -67,7 +67,7 @@ module _ (s : Sizes) (cells : List Kept) (line : List Page) (page : Page) (entry
   put_single false p e =
       let same : p ≡ page.0 = sym (eqb-true page.0 p e) in
       subst (λ n. count_for false n cells ≤ one (is_for false n old)) (sym same)
-      (⊎_elim (λ t. omega (arith, ap one t, h.single false page.0)) (λ free. omega (arith, none_for false page.0 cells free.1)) (place_for_is cells page.0 i place).1)
+      (⊎_elim (λ t. omega (arith, ap one t, h.single false page.0)) (λ free. omega (arith, none_for false page.0 cells free.1)) place.1)
 
   put_used : one (is_used new) + copies_at (places_of q page) ≡ one (is_used old) + copies_at (record { flying = flying q page; next = Some copy })
   put_used =
@@ -75,21 +75,21 @@ module _ (s : Sizes) (cells : List Kept) (line : List Page) (page : Page) (entry
       ⊎_elim
       (λ (e : is_for false page.0 old ≡ true).
       let used : one (is_used old) ≡ 1 = ap one (used_for false page.0 old.held e) in
-      let some : one_if (is_some (copy_in false page.0 cells)) ≡ 1 = ap one_if (some_here false page.0 cells i (h.single false page.0) (place_for_is cells page.0 i place).0 e) in
+      let some : one_if (is_some (copy_in false page.0 cells)) ≡ 1 = ap one_if (some_here false page.0 cells i (h.single false page.0) place.0 e) in
       omega (arith, n, used, some))
       (λ (free : (old.held ≡ None) × (copy_in false page.0 cells ≡ None)).
       let used : one (is_used old) ≡ 0 = ap (λ (o : Option Held). one (is_some o)) free.0 in
       let none : one_if (is_some (copy_in false page.0 cells)) ≡ 0 = ap (λ (o : Option Copy). one_if (is_some o)) free.1 in
       omega (arith, n, used, none))
-      (place_for_is cells page.0 i place).1
+      place.1
 
   put_here : copy_in true page.0 (set cells i new) ≡ flying q page
   put_here =
-      copy_in-same true page.0 cells i new (⊎_elim (λ e. of_one_kind false page.0 old.held e) (λ free. free_for true page.0 free.0) (place_for_is cells page.0 i place).1) refl
+      copy_in-same true page.0 cells i new (⊎_elim (λ e. of_one_kind false page.0 old.held e) (λ free. free_for true page.0 free.0) place.1) refl
       ∙ sym (flying_is s cells line page lt)
 
   put_next : copy_in false page.0 (set cells i new) ≡ Some copy
-  put_next = copy_in-new false page.0 cells i new (place_for_is cells page.0 i place).0 (eq-eqb page.0 page.0 refl) (put_single false page.0 (eq-eqb page.0 page.0 refl))
+  put_next = copy_in-new false page.0 cells i new place.0 (eq-eqb page.0 page.0 refl) (put_single false page.0 (eq-eqb page.0 page.0 refl))
 
   pub put_moves : Moved s (set cells i new) (longer line page (is_none (newest q page))) (put q page copy)
   put_moves =
@@ -97,7 +97,7 @@ module _ (s : Sizes) (cells : List Kept) (line : List Page) (page : Page) (entry
       record {
         is = queue_in-set s cells i new page (record { flying = flying q page; next = Some copy }) put_others here (longer line page (is_none (newest q page))) lt;
         fits =
-            fits_after s cells i new page (record { flying = flying q page; next = Some copy }) put_others here line (longer line page (is_none (newest q page))) h lt (place_for_is cells page.0 i place).0 fills put_single put_used
+            fits_after s cells i new page (record { flying = flying q page; next = Some copy }) put_others here line (longer line page (is_none (newest q page))) h lt place.0 fills put_single put_used
             (omega (arith, length-longer line page (is_none (newest q page)), put_waits (flying q page) (next q page) copy))
             (put_keeps s q page copy h.queue lt fills room).0;
       }

@@ -5,3 +5,5 @@ pub mod PlaceOf
 pub mod BehindMoves
 pub mod EndMoves
 pub mod Steps
+pub mod StoredMoves
+pub mod StoredSteps

@@ -1,7 +1,7 @@
 -- What the calls do to the cells, from what they read and wrote.
-use Rattle.std.proofs.Common.{◌≡◌, ℕ, ◌<◌, ◌≤◌, Bool, true, false, ◌||◌, not, nat_lt, List, [], ◌∷◌, length, set, get_or, refl, sym, ap, ◌∙◌, subst, arith, is_some, is_none, Option, None, Some, IsSome, IfSome, option_map, position, sum_by, count_by, ltb-true, zero, suc, cond, replicate, ext_get_or}
+use Rattle.std.proofs.Common.{◌≡◌, ℕ, ◌<◌, ◌≤◌, Bool, true, false, ◌||◌, not, nat_lt, List, [], ◌∷◌, length, set, refl, sym, ap, ◌∙◌, subst, arith, is_some, is_none, Option, None, Some, IsSome, IfSome, option_map, position, sum_by, count_by, ltb-true, zero, suc, cond, replicate, ext_get_or}
 use Rattle.std.proofs.lemmas.Bool.{false≢true, and_parts}
-use Rattle.std.proofs.lemmas.List.{get_or_read, get_or-replicate, length-replicate}
+use Rattle.std.proofs.lemmas.List.{get_or-replicate, length-replicate}
 use Rattle.std.proofs.lemmas.List.Folds.{sum_by-replicate}
 use Rattle.std.proofs.lemmas.List.FromFn.{length-map-range_with_len, get_or-map-range_with_len}
 use Rattle.std.proofs.lemmas.List.Quantifiers.{position-Some}
@@ -15,16 +15,14 @@ use Rattle.swap_queue.specs.declared.cell.Held.{Held}
 use Rattle.swap_queue.specs.Queue.{Copy, Places, Queue, flying, next, newest, first_of, copies, copies_at, has_room, one_if, waits, waits_at, empty, front, front_of, put, start, done, failed}
 use Rattle.swap_queue.specs.Kept.{IsQueue}
 use Rattle.swap_queue.specs.Backlog.{bytes_or, started_answer, started_bytes, failed_answer}
-use Rattle.swap_queue.specs.Cells.{Kept, free_cell, is_for, is_used, copy_with, copy_of, entry_of, with_flying, landed, copy_in, places_at, places_in, queue_in, longer, place_for, Fits, free_cells}
+use Rattle.swap_queue.specs.Cells.{Kept, free_cell, is_for, is_used, copy_with, copy_of, entry_of, with_flying, landed, copy_in, places_at, places_in, queue_in, longer, Fits, free_cells}
+use Rattle.swap_queue.specs.Stored.{IsPlaceFor, HasRoom}
 use Rattle.swap_queue.proofs.Copies.{cell_at, copy_in-here, copy_in-none, used_for}
 use Rattle.swap_queue.proofs.Keeps.{empty_keeps, front_waits, start_sets, flying_in_range}
-use Rattle.swap_queue.proofs.PlaceOf.{count_none, has_place}
+use Rattle.swap_queue.proofs.PlaceOf.{count_none}
 use Rattle.swap_queue.proofs.CellMoves.{places_of_cells}
 use Rattle.swap_queue.proofs.BehindMoves.{Moved, next_is, flying_is, length-longer, put_moves, two_places}
 use Rattle.swap_queue.proofs.EndMoves.{found_is, start_moves, done_moves, failed_moves}
-
-pub cell_read : (cells : List Kept) (i : ℕ) (x : Kept) → i < length cells → x ≡ get_or cells i x → x ≡ cell_at cells i
-cell_read cells i x lt e = get_or_read cells i x lt e free_cell
 
 -- no more pages wait than there are copies
 waits_le_of : (f n : Option Copy) → one_if (waits_at (record { flying = f; next = n })) ≤ copies_at (record { flying = f; next = n })
@@ -108,12 +106,10 @@ module _ (s : Sizes) (cells : List Kept) (line : List Page) (h : Fits s cells li
     has_room_else n m e used most =
         ap (λ k. nat_lt k m) (used ∙ h.used) ∙ ap (λ k. nat_lt (copies q) k) most ∙ sym (ap (λ b. b || nat_lt (copies q) s.queue) (sym next_found ∙ e))
 
-    pub room_place : has_room q page ≡ true → IsSome (place_for cells page.0)
-    room_place room =
-        has_place cells page.0
-        (λ none.
+    pub room_place : has_room q page ≡ true → HasRoom cells page.0
+    room_place room none =
         let less : copies q < s.queue = room_of (next q page) (next_is s cells line page lt ∙ none) room in
-        omega (arith, h.used, h.room, less))
+        omega (arith, h.used, h.room, less)
 
   pub flying_range : (page : Page) → IsSome (flying q page) → page.0 < pages_of s
   flying_range page some = omega (arith, flying_in_range q page some, h.queue.pages)
@@ -130,50 +126,51 @@ copy_bytes bytes buf None e = absurd (false≢true e)
 copy_bytes bytes buf (Some h) e = refl
 
 -- after `put` wrote a cell and the page joined the line where it was to wait
-pub put_step : (s : Sizes) (cells : List Kept) (line line' : List Page) (page : Page) (entry : EntryNo) (bytes : List ℕ) (i : ℕ) (new : Kept) (w : Bool) → Fits s cells line → page.0 < pages_of s → length bytes ≡ s.page_bytes
-    → has_room (queue_in s cells line) page ≡ true → place_for cells page.0 ≡ Some i → new ≡ record { held = Some (record { page = page; entry = entry; flying = false }); bytes = bytes } → w ≡ is_none (newest (queue_in s cells line) page)
-    → line' ≡ longer line page w → Moved s (set cells i new) line' (put (queue_in s cells line) page (record { entry = entry; bytes = bytes }))
-put_step s cells line line' page entry bytes i new w h lt fills room place made waits joined =
+pub put_step : (s : Sizes) (cells cells' : List Kept) (line line' : List Page) (page : Page) (entry : EntryNo) (bytes : List ℕ) (i : ℕ) (w : Bool) → Fits s cells line → page.0 < pages_of s → length bytes ≡ s.page_bytes
+    → has_room (queue_in s cells line) page ≡ true → IsPlaceFor cells page.0 i → cells' ≡ set cells i (record { held = Some (record { page = page; entry = entry; flying = false }); bytes = bytes })
+    → w ≡ is_none (newest (queue_in s cells line) page) → line' ≡ longer line page w → Moved s cells' line' (put (queue_in s cells line) page (record { entry = entry; bytes = bytes }))
+put_step s cells cells' line line' page entry bytes i w h lt fills room place made waits joined =
     let Q : Queue = put (queue_in s cells line) page (record { entry = entry; bytes = bytes }) in
     let C : Kept = record { held = Some (record { page = page; entry = entry; flying = false }); bytes = bytes } in
-    let P : Kept → Type 0 = λ c. Moved s (set cells i c) line' Q in
+    let P : List Kept → Type 0 = λ c. Moved s c line' Q in
     let L : List Page → Type 0 = λ l. Moved s (set cells i C) l Q in
     subst P (sym made) (subst L (sym (joined ∙ ap (λ b. longer line page b) waits)) (put_moves s cells line page entry bytes i h lt fills room place))
 
 -- after `start` sent a cell's copy
-pub start_step : (s : Sizes) (cells : List Kept) (line rest : List Page) (page : Page) (i : ℕ) (x new : Kept) → Fits s cells line → line ≡ page ∷ rest → position (is_for false page.0) cells ≡ Some i → x ≡ cell_at cells i
-    → new ≡ record { held = with_flying true x.held; bytes = x.bytes } → Moved s (set cells i new) rest (start (queue_in s cells line))
-start_step s cells line rest page i x new h first found read made =
+pub start_step : (s : Sizes) (cells cells' : List Kept) (line rest : List Page) (page : Page) (i : ℕ) → Fits s cells line → line ≡ page ∷ rest → position (is_for false page.0) cells ≡ Some i
+    → cells' ≡ set cells i (record { held = with_flying true (cell_at cells i).held; bytes = (cell_at cells i).bytes }) → Moved s cells' rest (start (queue_in s cells line))
+start_step s cells cells' line rest page i h first found made =
     let F : Kept → Kept = λ c. record { held = with_flying true c.held; bytes = c.bytes } in
-    let P : Kept → Type 0 = λ c. Moved s (set cells i c) rest (start (queue_in s cells line)) in
+    let P : List Kept → Type 0 = λ c. Moved s c rest (start (queue_in s cells line)) in
     let L : List Page → Type 0 = λ l. Fits s cells l → Moved s (set cells i (F (cell_at cells i))) rest (start (queue_in s cells l)) in
-    subst P (sym (made ∙ ap F read)) (subst L (sym first) (λ (g : Fits s cells (page ∷ rest)). start_moves s cells page rest i g found) h)
+    subst P (sym made) (subst L (sym first) (λ (g : Fits s cells (page ∷ rest)). start_moves s cells page rest i g found) h)
 
 -- after `done` freed a cell and the page joined the line where it was to wait
-pub done_step : (s : Sizes) (cells : List Kept) (line line' : List Page) (page : Page) (i : ℕ) (x new : Kept) (w : Bool) → Fits s cells line → IsSome (flying (queue_in s cells line) page) → position (is_for true page.0) cells ≡ Some i → x ≡ cell_at cells i
-    → new ≡ record { held = landed false x.held; bytes = x.bytes } → w ≡ is_some (next (queue_in s cells line) page) → line' ≡ longer line page w → Moved s (set cells i new) line' (done (queue_in s cells line) page)
-done_step s cells line line' page i x new w h some found read made waits joined =
+pub done_step : (s : Sizes) (cells cells' : List Kept) (line line' : List Page) (page : Page) (i : ℕ) (w : Bool) → Fits s cells line → IsSome (flying (queue_in s cells line) page) → position (is_for true page.0) cells ≡ Some i
+    → cells' ≡ set cells i (record { held = landed false (cell_at cells i).held; bytes = (cell_at cells i).bytes }) → w ≡ is_some (next (queue_in s cells line) page) → line' ≡ longer line page w
+    → Moved s cells' line' (done (queue_in s cells line) page)
+done_step s cells cells' line line' page i w h some found made waits joined =
     let F : Kept → Kept = λ c. record { held = None; bytes = c.bytes } in
-    let P : Kept → Type 0 = λ c. Moved s (set cells i c) line' (done (queue_in s cells line) page) in
+    let P : List Kept → Type 0 = λ c. Moved s c line' (done (queue_in s cells line) page) in
     let L : List Page → Type 0 = λ l. Moved s (set cells i (F (cell_at cells i))) l (done (queue_in s cells line) page) in
-    subst P (sym (made ∙ ap F read)) (subst L (sym (joined ∙ ap (λ b. longer line page b) waits)) (done_moves s cells line page i h some found))
+    subst P (sym made) (subst L (sym (joined ∙ ap (λ b. longer line page b) waits)) (done_moves s cells line page i h some found))
 
 -- after `failed` freed a cell, or kept its copy as the page's next, and the page joined the line
-pub failed_step : (s : Sizes) (cells : List Kept) (line line' : List Page) (page : Page) (i : ℕ) (x new : Kept) (newer : Bool) → Fits s cells line → IsSome (flying (queue_in s cells line) page) → position (is_for true page.0) cells ≡ Some i → x ≡ cell_at cells i
-    → new ≡ record { held = landed (not newer) x.held; bytes = x.bytes } → newer ≡ is_some (next (queue_in s cells line) page) → line' ≡ longer line page true → Moved s (set cells i new) line' (failed (queue_in s cells line) page)
-failed_step s cells line line' page i x new newer h some found read made waits joined =
+pub failed_step : (s : Sizes) (cells cells' : List Kept) (line line' : List Page) (page : Page) (i : ℕ) (newer : Bool) → Fits s cells line → IsSome (flying (queue_in s cells line) page) → position (is_for true page.0) cells ≡ Some i
+    → cells' ≡ set cells i (record { held = landed (not newer) (cell_at cells i).held; bytes = (cell_at cells i).bytes }) → newer ≡ is_some (next (queue_in s cells line) page) → line' ≡ longer line page true
+    → Moved s cells' line' (failed (queue_in s cells line) page)
+failed_step s cells cells' line line' page i newer h some found made waits joined =
     let F : Kept → Kept = λ c. record { held = landed (not newer) c.held; bytes = c.bytes } in
-    let P : Kept → Type 0 = λ c. Moved s (set cells i c) line' (failed (queue_in s cells line) page) in
+    let P : List Kept → Type 0 = λ c. Moved s c line' (failed (queue_in s cells line) page) in
     let L : List Page → Type 0 = λ l. Moved s (set cells i (F (cell_at cells i))) l (failed (queue_in s cells line) page) in
-    subst P (sym (made ∙ ap F read)) (subst L (sym joined) (failed_moves s cells line page i h some found newer waits))
+    subst P (sym made) (subst L (sym joined) (failed_moves s cells line page i h some found newer waits))
 
 -- the entry that a landing copy had is that of the page's flying copy
-pub flying_entry : (s : Sizes) (cells : List Kept) (line : List Page) (h : Fits s cells line) (page : Page) (i : ℕ) (x : Kept) (entry : EntryNo) → IsSome (flying (queue_in s cells line) page) → position (is_for true page.0) cells ≡ Some i → x ≡ cell_at cells i
-    → Some entry ≡ entry_of x.held → option_map (λ (c : Copy). c.entry) (flying (queue_in s cells line) page) ≡ Some entry
-flying_entry s cells line h page i x entry some found read e =
+pub flying_entry : (s : Sizes) (cells : List Kept) (line : List Page) (h : Fits s cells line) (page : Page) (i : ℕ) (entry : EntryNo) → IsSome (flying (queue_in s cells line) page) → position (is_for true page.0) cells ≡ Some i
+    → Some entry ≡ entry_of (cell_at cells i).held → option_map (λ (c : Copy). c.entry) (flying (queue_in s cells line) page) ≡ Some entry
+flying_entry s cells line h page i entry some found e =
     let f = found_copy s cells line h true page.0 i found in
     ap (λ (o : Option Copy). option_map (λ (c : Copy). c.entry) o) (flying_is s cells line page (flying_range s cells line h page some) ∙ f.2) ∙ copy_entry (cell_at cells i).bytes (cell_at cells i).held
-    ∙ ap (λ (c : Kept). entry_of c.held) (sym read)
     ∙ sym e
 
 pub entry_told : (copy : Option Copy) (entry : EntryNo) → option_map (λ (c : Copy). c.entry) copy ≡ Some entry → IfSome copy (λ c. entry ≡ c.entry)
@@ -198,6 +195,26 @@ pub front_place : (s : Sizes) (cells : List Kept) (line rest : List Page) (h : F
 front_place s cells line rest h page first =
     let lt : page.0 < pages_of s = (start_sets s (queue_in s cells line) page rest h.queue first).within in
     next_found s cells line h page lt ∙ (and_parts (is_some (next (queue_in s cells line) page)) (is_none (flying (queue_in s cells line) page)) (front_waits s (queue_in s cells line) page rest h.queue first)).0
+
+pub front_range : (s : Sizes) (cells : List Kept) (line rest : List Page) (h : Fits s cells line) (page : Page) → line ≡ page ∷ rest → page.0 < pages_of s
+front_range s cells line rest h page first = (start_sets s (queue_in s cells line) page rest h.queue first).within
+
+none_of : {X : Type 0} (o : Option X) → is_none o ≡ true → o ≡ None
+none_of None e = refl
+none_of (Some x) e = absurd (false≢true e)
+
+none_found : {X : Type 0} (o : Option X) → is_some o ≡ false → is_none o ≡ true
+none_found None e = refl
+none_found (Some x) e = absurd (false≢true (sym e))
+
+-- the front of a line has no copy on its way
+pub front_alone : (s : Sizes) (cells : List Kept) (line rest : List Page) (h : Fits s cells line) (page : Page) → line ≡ page ∷ rest → position (is_for true page.0) cells ≡ None
+front_alone s cells line rest h page first =
+    let q : Queue = queue_in s cells line in
+    let none : flying (queue_in s cells line) page ≡ None = none_of (flying q page) (and_parts (is_some (next q page)) (is_none (flying q page)) (front_waits s q page rest h.queue first)).1 in
+    let lost : is_some (position (is_for true page.0) cells) ≡ false =
+    found_is true page.0 cells (h.single true page.0) ∙ ap (λ (o : Option Copy). is_some o) (sym (flying_is s cells line page (front_range s cells line rest h page first)) ∙ none) in
+    none_of (position (is_for true page.0) cells) (none_found (position (is_for true page.0) cells) lost)
 
 -- the page that was started has a flying copy
 pub front_flies : (s : Sizes) (cells : List Kept) (line rest : List Page) (h : Fits s cells line) (page : Page) → line ≡ page ∷ rest → IsSome (flying (start (queue_in s cells line)) page)

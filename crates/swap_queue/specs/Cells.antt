@@ -1,6 +1,6 @@
 -- Where copies are kept: a list of cells, each free or with one copy. A page's flying copy and its next copy
 -- are those of the cells that are marked for it.
-use Rattle.std.specs.Prelude.{◌≡◌, ℕ, ◌≤◌, ◌<◌, Bool, true, false, ◌&&◌, ◌==◌, if◌then◌else◌, List, [], ◌∷◌, ◌++◌, map, length, sum_by, count_by, position, replicate, is_some, is_none, option_map, slice_index_or, Option, None, Some}
+use Rattle.std.specs.Prelude.{◌≡◌, ℕ, ◌≤◌, ◌<◌, Bool, true, false, ◌&&◌, ◌==◌, if◌then◌else◌, List, [], ◌∷◌, ◌++◌, map, length, sum_by, count_by, replicate, is_some, is_none, option_map, slice_index_or, Option, None, Some}
 use Rattle.std.specs.List.{range_with_len}
 use Rattle.swap_base.specs.declared.Page.{Page}
 use Rattle.swap_base.specs.declared.EntryNo.{EntryNo}
@@ -74,14 +74,6 @@ queue_in s cells line = record { places = places_in (pages_of s) cells; line = l
 abbrev pub longer : List Page → Page → Bool → List Page
 longer line page waits = if waits then line ++ page ∷ [] else line
 
--- the cell that a page-out of the page is put in: that of its next copy, else a free one
-abbrev pub place_of_next : List Kept → ℕ → Option ℕ → Option ℕ
-place_of_next cells page None = position is_free cells
-place_of_next cells page (Some i) = Some i
-
-abbrev pub place_for : List Kept → ℕ → Option ℕ
-place_for cells page = place_of_next cells page (position (is_for false page) cells)
-
 -- what the cells and the line keep: no page has two copies of one kind, and each copy has a cell
 pub record Fits (s : Sizes) (cells : List Kept) (line : List Page) : Type 0 where
   pub queue : IsQueue s (queue_in s cells line)
@@ -90,10 +82,6 @@ pub record Fits (s : Sizes) (cells : List Kept) (line : List Page) : Type 0 wher
   pub single : (flying : Bool) (page : ℕ) → count_by (is_for flying page) cells ≤ 1
   pub used : count_by is_used cells ≡ copies (queue_in s cells line)
   pub waiting : length line ≡ sum_by (λ (p : Places). one_if (waits_at p)) (places_in (pages_of s) cells)
-
--- and there is room in the line for every page that may wait
-abbrev pub BehindFits : Sizes → List Kept → List Page → ℕ → Type 0
-BehindFits s cells line room = Fits s cells line × (s.queue ≤ room)
 
 abbrev pub free_cells : ℕ → ℕ → List Kept
 free_cells count page_bytes = replicate count (record { held = None; bytes = replicate page_bytes 0 })

@@ -6,10 +6,10 @@ ghost use Rattle.swap_base.specs.Sizes.{Sizes, pages_of};
 ghost use Rattle.swap_queue.specs.Kept.{IsQueue};
 ghost use Rattle.swap_queue.specs.Queue.{Copy, copies, holds, has_room, put, next, newest, flying, front, start, done, failed};
 ghost use Rattle.swap_queue.specs.Backlog.{new_backlog, bytes_or, started_answer, started_bytes, failed_answer};
-ghost use Rattle.swap_queue.specs.Cells.{longer, free_cells};
+ghost use Rattle.swap_queue.specs.Cells.{longer};
 
 use crate::Failed;
-use crate::cell::{Cell, Held, count_used, find, newest_place, place_for};
+use crate::store::Store;
 use std::alloc::Global;
 use std::collections::VecDeque;
 use std::marker::Model;
@@ -20,7 +20,7 @@ use swap_base::{EntryNo, Geometry, NoMemory, Page};
 #[derive(Drop)]
 pub struct Behind {
     geometry: Geometry,
-    cells: Vec<Cell>,
+    store: Store,
     line: VecDeque<Page>,
 }
 
@@ -28,29 +28,14 @@ impl Model for Behind {
     ghost use Rattle.std.specs.Prelude.{◌≤◌};
     ghost use Rattle.std.specs.VecDeque.{deque_capacity};
     ghost use Rattle.swap_queue.specs.Backlog.{Backlog};
-    ghost use Rattle.swap_queue.specs.Cells.{queue_in, BehindFits};
+    ghost use Rattle.swap_queue.specs.Cells.{queue_in};
+    ghost use Rattle.swap_queue.specs.Stored.{BehindFits};
 
     ghost Value = { Backlog };
 
-    ghost view = { λ b. record { sizes = b.geometry; queue = queue_in b.geometry b.cells.items b.line.items } };
+    ghost view = { λ b. record { sizes = b.geometry; queue = queue_in b.geometry b.store.cells b.line.items } };
 
-    ghost invariant = { λ b. BehindFits b.geometry b.cells.items b.line.items (deque_capacity b.line) };
-}
-
-/// So many free cells.
-fn make_cells(alloc: Global, count: u32, page_bytes: u32) -> Result<Vec<Cell>, NoMemory>
-    ensures { IfOk result (λ cells. cells.items ≡ free_cells count page_bytes) }
-{
-    let mut cells = Vec::new(alloc);
-    for _ in 0..count {
-        let Ok(cell) = Cell::make(alloc, page_bytes as usize) else {
-            return Err(NoMemory);
-        };
-        if cells.push(cell).is_err() {
-            return Err(NoMemory);
-        }
-    }
-    Ok(cells)
+    ghost invariant = { λ b. BehindFits b.geometry b.store b.line.items (deque_capacity b.line) };
 }
 
 /// The page goes to the back of the line, where it is to wait.
@@ -69,13 +54,18 @@ impl Behind {
     pub fn make(alloc: Global, geometry: &Geometry) -> Result<Behind, NoMemory>
         ensures { IfOk result (λ b. b ≡ new_backlog geometry.now) }
     {
-        let cells = make_cells(alloc, geometry.queue(), geometry.page_bytes())?;
+        let store = Store::make(
+            alloc,
+            geometry.queue(),
+            geometry.page_bytes(),
+            geometry.pages(),
+        )?;
         let Ok(line) = VecDeque::with_capacity(alloc, geometry.queue() as usize) else {
             return Err(NoMemory);
         };
         Ok(Behind {
             geometry: *geometry,
-            cells,
+            store,
             line,
         })
     }
@@ -92,7 +82,7 @@ impl Behind {
         ensures { result ≡ copies self.now.queue }
     {
         let _most = self.geometry.queue();
-        count_used(&self.cells) as u32
+        self.store.count_used() as u32
     }
 
     /// Whether the page has a copy.
@@ -100,7 +90,7 @@ impl Behind {
         requires { page.0 < pages_of self.now.sizes }
         ensures { result ≡ holds self.now.queue page }
     {
-        newest_place(&self.cells, page).is_some()
+        self.store.newest_place(page).is_some()
     }
 
     /// Whether a page-out of the page may be put: it has a next copy, or there is room for one more copy.
@@ -108,8 +98,8 @@ impl Behind {
         requires { page.0 < pages_of self.now.sizes }
         ensures { result ≡ has_room self.now.queue page }
     {
-        find(&self.cells, page, false).is_some()
-            || count_used(&self.cells) < self.geometry.queue() as usize
+        self.store.find(page, false).is_some()
+            || self.store.count_used() < self.geometry.queue() as usize
     }
 
     /// Puts a page-out: it replaces the page's next copy in its place, or adds one.
@@ -121,16 +111,7 @@ impl Behind {
         ensures sizes { self.new.sizes ≡ self.old.sizes }
     {
         let waits = !self.holds(page);
-        let place = place_for(&self.cells, page).unwrap();
-        let cell = &mut self.cells[place];
-        cell.keep(
-            Held {
-                page,
-                entry,
-                flying: false,
-            },
-            bytes,
-        );
+        let _place = self.store.put(page, entry, bytes);
         join(&mut self.line, page, waits);
     }
 
@@ -142,9 +123,8 @@ impl Behind {
         ensures entry { result ≡ option_map (λ (copy : Copy). copy.entry) (newest self.now.queue page) }
         ensures bytes { buf.new ≡ bytes_or (newest self.now.queue page) buf.old }
     {
-        let place = newest_place(&self.cells, page)?;
-        let cell = &self.cells[place];
-        Some(cell.give(buf))
+        let place = self.store.newest_place(page)?;
+        Some(self.store.give(place, buf))
     }
 
     /// The page at the front of the line goes to the disk, with its next copy and the copy's bytes in `buf`.
@@ -158,10 +138,9 @@ impl Behind {
         ensures sizes { self.new.sizes ≡ self.old.sizes }
     {
         let page = self.line.pop_front()?;
-        let place = find(&self.cells, page, false).unwrap();
-        let cell = &mut self.cells[place];
-        let entry = cell.give(buf);
-        cell.launch();
+        let place = self.store.find(page, false).unwrap();
+        let entry = self.store.give(place, buf);
+        self.store.launch(page, place);
         Some((page, entry))
     }
 
@@ -172,10 +151,9 @@ impl Behind {
         ensures queue { self.new.queue ≡ done self.old.queue page }
         ensures sizes { self.new.sizes ≡ self.old.sizes }
     {
-        let waits = find(&self.cells, page, false).is_some();
-        let place = find(&self.cells, page, true).unwrap();
-        let cell = &mut self.cells[place];
-        let entry = cell.land(false);
+        let waits = self.store.find(page, false).is_some();
+        let place = self.store.find(page, true).unwrap();
+        let entry = self.store.land(page, place, false);
         join(&mut self.line, page, waits);
         entry
     }
@@ -187,10 +165,9 @@ impl Behind {
         ensures queue { self.new.queue ≡ failed self.old.queue page }
         ensures sizes { self.new.sizes ≡ self.old.sizes }
     {
-        let newer = find(&self.cells, page, false).is_some();
-        let place = find(&self.cells, page, true).unwrap();
-        let cell = &mut self.cells[place];
-        let entry = cell.land(!newer);
+        let newer = self.store.find(page, false).is_some();
+        let place = self.store.find(page, true).unwrap();
+        let entry = self.store.land(page, place, !newer);
         join(&mut self.line, page, true);
         if newer {
             Failed::Dropped(entry)

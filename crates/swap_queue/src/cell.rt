@@ -1,6 +1,5 @@
-ghost use Rattle.std.specs.Prelude.{◌≡◌, ℕ, length, IfOk, IsSome, Some, None, replicate, position, count_by, true, false};
-ghost use Rattle.swap_queue.specs.Queue.{first_of};
-ghost use Rattle.swap_queue.specs.Cells.{is_for, is_used, is_free, entry_of, with_flying, landed, place_for};
+ghost use Rattle.std.specs.Prelude.{◌≡◌, length, IfOk, IsSome, Some, None, replicate, true};
+ghost use Rattle.swap_queue.specs.Cells.{entry_of, with_flying, landed};
 
 use std::alloc::{AllocError, Global};
 use std::marker::Model;
@@ -38,28 +37,6 @@ impl Cell {
             held: None,
             bytes: vec![in alloc; 0; page_bytes]?,
         })
-    }
-
-    /// Whether it has this page's copy of this kind.
-    pub(crate) fn is_for(&self, page: Page, flying: bool) -> bool
-        ensures { result ≡ is_for flying page.0 self.now }
-    {
-        match self.held {
-            Some(held) => held.flying == flying && held.page.0 == page.0,
-            None => false,
-        }
-    }
-
-    pub(crate) fn is_used(&self) -> bool
-        ensures { result ≡ is_used self.now }
-    {
-        self.held.is_some()
-    }
-
-    pub(crate) fn is_free(&self) -> bool
-        ensures { result ≡ is_free self.now }
-    {
-        self.held.is_none()
     }
 
     /// Keeps a copy in place of what it had.
@@ -107,45 +84,5 @@ impl Cell {
             None
         };
         held.entry
-    }
-}
-
-/// The first cell with this page's copy of this kind.
-pub(crate) fn find(cells: &[Cell], page: Page, flying: bool) -> Option<usize>
-    ensures { result ≡ position (is_for flying page.0) cells.now }
-{
-    cells.iter().position(|cell| cell.is_for(page, flying))
-}
-
-fn find_free(cells: &[Cell]) -> Option<usize>
-    ensures { result ≡ position is_free cells.now }
-{
-    cells.iter().position(|cell| cell.is_free())
-}
-
-/// The cell of the page's newest copy: its next one, else the one that flies.
-pub(crate) fn newest_place(cells: &[Cell], page: Page) -> Option<usize>
-    ensures { result ≡ first_of (position (is_for false page.0) cells.now) (position (is_for true page.0) cells.now) }
-{
-    match find(cells, page, false) {
-        Some(place) => Some(place),
-        None => find(cells, page, true),
-    }
-}
-
-/// How many cells have a copy.
-pub(crate) fn count_used(cells: &[Cell]) -> usize
-    ensures { result ≡ count_by is_used cells.now }
-{
-    cells.iter().filter(|cell| cell.is_used()).count()
-}
-
-/// The cell for a page-out of the page: that of its next copy, else a free one.
-pub(crate) fn place_for(cells: &[Cell], page: Page) -> Option<usize>
-    ensures { result ≡ place_for cells.now page.0 }
-{
-    match find(cells, page, false) {
-        Some(place) => Some(place),
-        None => find_free(cells),
     }
 }

@@ -2,3 +2,4 @@ pub mod Run
 pub mod Clause
 pub mod Rows
 pub mod Printing
+pub mod Blocks

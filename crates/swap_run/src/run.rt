@@ -1,8 +1,9 @@
-ghost use Rattle.std.specs.Prelude.{◌≡◌, ◌≤◌, length, map, All, true, false, Some, None, IfOk, OnErr, Err};
+ghost use Rattle.std.specs.Prelude.{◌≡◌, ◌≤◌, length, map, All, true, false, Some, None, [], IfOk, OnErr, Err};
 ghost use Rattle.swap_record.specs.History.{History};
 ghost use Rattle.swap_script.specs.Reading.{script as script_of, IsWithinLimits};
 ghost use Rattle.swap_world.specs.World.{start};
-ghost use Rattle.swap_run.specs.Clause.{EndsWith, RunScript, stream, command_of, TextEnds, LabEnds, ScriptEnds, IsNoRefusal, status_of, err_text};
+ghost use Rattle.swap_run.specs.Clause.{EndsWith, RunScript, stream, command_of, TextEnds, LabEnds, ScriptEnds, IsNoRefusal, status_of, err_text, Told};
+ghost use Rattle.swap_run.specs.Blocks.{is_whole, HandsOn, IsFresh};
 ghost use Rattle.swap_run.specs.Run.{has_failed, is_failed};
 ghost use Rattle.swap_run.specs.Printing.{world_in, HasRoomFor};
 
@@ -11,7 +12,7 @@ use crate::print::print_run;
 use std::alloc::Global;
 use swap_base::{EntryNo, LenderSpec, NoMemory};
 use swap_disk::MemDisk;
-use swap_io::{LineBuf, Sink, Source, WholeRefused, read_whole, write_line};
+use swap_io::{BlockSink, LineBuf, Sink, Source, WholeRefused, read_whole, write_line};
 use swap_link::Harbor;
 use swap_record::{Op, Record};
 use swap_script::{
@@ -88,7 +89,8 @@ fn run_events<K: Sink>(
     line: &mut LineBuf,
     out: &mut K,
 ) -> Ending
-    ensures { LabEnds script.now (stream (K.taken out.old) (K.taken out.new) (K.faults out.old) (K.faults out.new)) result }
+    ensures ends { LabEnds script.now (stream (K.taken out.old) (K.taken out.new) (K.faults out.old) (K.faults out.new)) result }
+    ensures later { K.faults out.old ≤ K.faults out.new }
 {
     let page_bytes = script.geometry().page_bytes() as usize;
     let Ok(mut page) = vec![in alloc; 0u8; page_bytes] else {
@@ -114,7 +116,8 @@ fn run_events<K: Sink>(
 /// Runs a text as a script.
 fn run_text<K: Sink>(alloc: Global, text: &[u8], line: &mut LineBuf, out: &mut K) -> Ending
     requires { length text.now ≤ TEXT_LIMIT }
-    ensures { TextEnds (script_of text.now) (stream (K.taken out.old) (K.taken out.new) (K.faults out.old) (K.faults out.new)) result }
+    ensures ends { TextEnds (script_of text.now) (stream (K.taken out.old) (K.taken out.new) (K.faults out.old) (K.faults out.new)) result }
+    ensures later { K.faults out.old ≤ K.faults out.new }
 {
     match read_script(text) {
         Err(refused) => Ending::Refused(refused),
@@ -129,7 +132,8 @@ fn run_script<S: Source, K: Sink>(
     line: &mut LineBuf,
     out: &mut K,
 ) -> Ending
-    ensures { ScriptEnds (stream (S.left source.old) (S.left source.new) (S.faults source.old) (S.faults source.new)) (stream (K.taken out.old) (K.taken out.new) (K.faults out.old) (K.faults out.new)) result }
+    ensures ends { ScriptEnds (stream (S.left source.old) (S.left source.new) (S.faults source.old) (S.faults source.new)) (stream (K.taken out.old) (K.taken out.new) (K.faults out.old) (K.faults out.new)) result }
+    ensures later { K.faults out.old ≤ K.faults out.new }
 {
     always_legal();
     each_call_once();
@@ -204,6 +208,16 @@ fn spell(ending: Ending, line: &mut LineBuf)
     }
 }
 
+// Tells err how a call ended, and gives the status.
+fn tell<E: Sink>(ending: Ending, line: &mut LineBuf, err: &mut E) -> u8
+    ensures code { result ≡ status_of ending }
+    ensures told { Told (stream (E.taken err.old) (E.taken err.new) (E.faults err.old) (E.faults err.new)) (err_text ending) }
+{
+    spell(ending, line);
+    let _ = write_line(err, line.bytes());
+    status_of(ending)
+}
+
 /// The top call for the commands that work on a text: here `script`, which reads a script from `source`, runs it, and
 /// writes its transcript to `out`. The answer is the program's status; what went wrong is told to `err`, whose own
 /// failures change nothing. Each status has its cause in the clause.
@@ -225,7 +239,51 @@ pub fn run_lab<S: Source, K: Sink, E: Sink>(
         return 6;
     };
     let ending = run_script(alloc, source, &mut line, out);
-    spell(ending, &mut line);
-    let _ = write_line(err, line.bytes());
-    status_of(ending)
+    tell(ending, &mut line, err)
+}
+
+// Whether the transcript was written whole.
+fn is_whole(ending: Ending) -> bool
+    ensures { result ≡ is_whole ending }
+{
+    matches!(ending, Ending::Done | Ending::Faulted)
+}
+
+// Hands on what is left of a transcript. Where another sink took nothing of it there is none.
+fn hand_on_rest<K: Sink + Drop>(ending: Ending, out: &mut BlockSink<K>) -> Ending
+    ensures { HandsOn ending out.old out.new result }
+{
+    if !is_whole(ending) {
+        return ending;
+    }
+    match out.hand_on() {
+        Ok(()) => ending,
+        Err(_) => Ending::WriteFailed,
+    }
+}
+
+/// The top call before a sink that gathers. `out` takes the transcript in blocks, and its rest is handed on at the end,
+/// so the clause speaks of what the sink behind it took: a last write that fails is status 4, as any other.
+pub fn run_lab_in_blocks<S: Source, K: Sink + Drop, E: Sink>(
+    alloc: Global,
+    words: &[&str],
+    source: &mut S,
+    out: &mut BlockSink<K>,
+    err: &mut E,
+) -> u8
+    requires held { out.old.held ≡ [] }
+    requires fresh { IsFresh out.old.handed }
+    ensures { EndsWith (command_of (map (λ word. word.now) words.now)) (stream (S.left source.old) (S.left source.new) (S.faults source.old) (S.faults source.new)) (stream out.old.handed out.new.handed out.old.faults out.new.faults) (stream (E.taken err.old) (E.taken err.new) (E.faults err.old) (E.faults err.new)) result }
+{
+    if !is_script(words) {
+        let _ = write_line(err, text_of(Ending::Usage));
+        return 2;
+    }
+    let Ok(mut line) = LineBuf::make(alloc) else {
+        let _ = write_line(err, text_of(Ending::NoMemory));
+        return 6;
+    };
+    let ran = run_script(alloc, source, &mut line, out);
+    let ending = hand_on_rest(ran, out);
+    tell(ending, &mut line, err)
 }

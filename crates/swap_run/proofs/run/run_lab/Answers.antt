@@ -26,7 +26,7 @@ pub returns : goal.returns
 returns g c =
     record {
       end = c.run_script-ending.result;
-      holds = ends_at _ (Some RunScript) _ _ c.run_script-ending.result (c.is_script.ensures.yes c.if-not-is_script.false) c.run_script-ending.ensures;
-      code = c.status_of.ensures;
-      told = told _ _ c.bytes.result.now c.write_line-2.result (c.bytes.ensures.bytes ∙ c.spell.ensures) c.write_line-2.ensures.ok c.write_line-2.ensures.err c.write_line-2.ensures.cause;
+      holds = ends_at _ (Some RunScript) _ _ c.run_script-ending.result (c.is_script.ensures.yes c.if-not-is_script.false) c.run_script-ending.ensures.ends;
+      code = c.tell.ensures.code;
+      told = c.tell.ensures.told;
     }

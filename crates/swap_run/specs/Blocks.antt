@@ -1,0 +1,30 @@
+-- A call before a sink that gathers what it takes: what the sink behind it took in the end.
+use Rattle.std.specs.Prelude.{◌≡◌, ℕ, ◌⊎◌, Bool, true, false, List, [], Option, None, Some}
+use Rattle.std.specs.Io.KnownBytes.{Keeps}
+use Rattle.swap_io.specs.Causes.{Rose}
+use Rattle.swap_io.specs.Gathered.{Gathered, gathered}
+use Rattle.swap_run.specs.declared.Ending.{Ending}
+use Rattle.swap_run.specs.declared.Ending.TheVariants as ending
+
+-- a sink that took nothing yet, where it tells it
+abbrev pub IsFresh : Option (List ℕ) → Type 0
+IsFresh None = Unit {0}
+IsFresh (Some bytes) = bytes ≡ []
+
+-- the endings at which the transcript is written whole
+abbrev pub is_whole : Ending → Bool
+is_whole ending.Done = true
+is_whole ending.Faulted = true
+is_whole _ = false
+
+-- what was gathered is handed on whole, or the last write failed
+abbrev pub LastWrite : Ending → Gathered → Gathered → Ending → Type 0
+LastWrite ran before now end = Keeps (gathered before) (gathered now) × (((end ≡ ran) × (now.held ≡ [])) ⊎ ((end ≡ ending.WriteFailed) × Rose before.faults now.faults))
+
+abbrev pub HandsOnAt : Bool → Ending → Gathered → Gathered → Ending → Type 0
+HandsOnAt true ran before now end = LastWrite ran before now end
+HandsOnAt false ran before now end = (end ≡ ran) × (now ≡ before)
+
+-- only a transcript that was written whole is handed on
+abbrev pub HandsOn : Ending → Gathered → Gathered → Ending → Type 0
+HandsOn ran before now end = HandsOnAt (is_whole ran) ran before now end
