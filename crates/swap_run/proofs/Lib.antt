@@ -3,3 +3,4 @@ pub mod Printed
 pub mod Failed
 pub mod Ends
 pub mod Unfailed
+pub mod Refused

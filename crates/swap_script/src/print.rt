@@ -108,7 +108,8 @@ fn field_word(field: Field) -> &'static [u8]
     }
 }
 
-fn why_word(why: Why) -> &'static [u8]
+/// The word of a reason.
+pub fn why_word(why: Why) -> &'static [u8]
     ensures word { result.now ≡ why_word why }
     ensures length { length result.now ≤ 14 }
 {
