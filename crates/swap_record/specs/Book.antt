@@ -1,5 +1,6 @@
--- What a record is seen as: the size of its pages, the history, and for how many entries there is room.
-use Rattle.std.specs.Prelude.{◌≡◌, ℕ, ◌+◌, ◌-◌, ◌≤◌, List, [], ◌∷◌, length}
+-- What a record is seen as: the size of its pages, the history, for how many entries there is room, and the first
+-- entry that is marked, if one is.
+use Rattle.std.specs.Prelude.{◌≡◌, ℕ, ◌+◌, ◌-◌, ◌<◌, ◌≤◌, List, [], ◌∷◌, length, min, Option, None, Some, IfSome}
 use Rattle.std.specs.List.{All}
 use Rattle.swap_base.specs.declared.Caller.{Caller}
 use Rattle.swap_base.specs.declared.Page.{Page}
@@ -10,6 +11,12 @@ pub record Book : Type 0 where
   pub page_bytes : ℕ
   pub history : History
   pub spare : ℕ
+  pub noted : Option ℕ
+
+-- one more entry is marked
+abbrev pub first_noted : Option ℕ → ℕ → Option ℕ
+first_noted None n = Some n
+first_noted (Some m) n = Some (min m n)
 
 -- an answered call is added, in room that was reserved
 abbrev pub written : Book → Caller → Page → Op → List ℕ → Book
@@ -26,3 +33,4 @@ pub record IsBook (b : Book) : Type 0 where
   pub pages : All (λ (row : Row). length row.bytes ≡ b.page_bytes) b.history
   pub few : length b.history + b.spare ≤ 4_194_304
   pub numbers : HasNumbers b.history
+  pub marked : IfSome b.noted (λ n. n < length b.history)

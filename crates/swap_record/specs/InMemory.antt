@@ -1,6 +1,6 @@
 -- A history in memory: the entries, the oldest first, their pages one behind another, and how many entries
 -- each caller has.
-use Rattle.std.specs.Prelude.{◌≡◌, ℕ, ◌+◌, ◌*◌, ◌<◌, ◌≤◌, List, [], ◌∷◌, take, drop, reverse, length, slice_index, vec_len, vec_capacity}
+use Rattle.std.specs.Prelude.{◌≡◌, ℕ, ◌+◌, ◌*◌, ◌<◌, ◌≤◌, List, [], ◌∷◌, take, drop, reverse, length, slice_index, vec_len, vec_capacity, Option, IfSome}
 use Rattle.std.specs.declared.vec.Vec.{Vec}
 use Rattle.std.specs.declared.alloc.Global.{Global}
 use Rattle.swap_base.specs.declared.Caller.{Caller}
@@ -21,7 +21,7 @@ abbrev pub AreCounts : List ℕ → History → Type 0
 AreCounts counts H = (caller : Caller) → caller.0 < 64 → slice_index counts caller.0 ≡ count_of caller H
 
 -- the block has each entry's page, and there is room for what was reserved
-pub record IsKept (page_bytes : ℕ) (entries : Vec Entry Global) (bytes : Vec ℕ Global) (counts : List ℕ) (spare : ℕ) : Type 0 where
+pub record IsKept (page_bytes : ℕ) (entries : Vec Entry Global) (bytes : Vec ℕ Global) (counts : List ℕ) (spare : ℕ) (noted : Option ℕ) : Type 0 where
   pub page : page_bytes ≤ 4_096
   pub block : length bytes.items ≡ length entries.items * page_bytes
   pub few : vec_len entries + spare ≤ 4_194_304
@@ -29,3 +29,4 @@ pub record IsKept (page_bytes : ℕ) (entries : Vec Entry Global) (bytes : Vec �
   pub bytes_room : vec_len bytes + spare * page_bytes ≤ vec_capacity bytes
   pub counted : AreCounts counts (history_in page_bytes entries.items bytes.items)
   pub numbers : HasNumbers (history_in page_bytes entries.items bytes.items)
+  pub marked : IfSome noted (λ n. n < length entries.items)

@@ -1,6 +1,6 @@
 ghost use Rattle.std.specs.Prelude.{◌≡◌, ◌+◌, ◌-◌, ◌<◌, ◌≤◌, ◌↔◌, ◌==◌, [], length, max, option_map, OnOk, OnErr, Some};
 ghost use Rattle.swap_record.specs.History.{Row, next_name, named};
-ghost use Rattle.swap_record.specs.Book.{IsBook, written};
+ghost use Rattle.swap_record.specs.Book.{IsBook, written, first_noted};
 
 use super::{Entry, Op};
 use std::alloc::Global;
@@ -28,6 +28,7 @@ pub struct Record {
     bytes: Vec<u8>,
     counts: [u32; MOST_CALLERS],
     spare: u32,
+    noted: Option<u32>,
 }
 
 impl Model for Record {
@@ -37,9 +38,9 @@ impl Model for Record {
 
     ghost use Rattle.swap_record.specs.InMemory.{history_in, IsKept};
 
-    ghost view = { λ r. record { page_bytes = r.page_bytes; history = history_in r.page_bytes r.entries.items r.bytes.items; spare = r.spare } };
+    ghost view = { λ r. record { page_bytes = r.page_bytes; history = history_in r.page_bytes r.entries.items r.bytes.items; spare = r.spare; noted = r.noted } };
 
-    ghost invariant = { λ r. IsKept r.page_bytes r.entries r.bytes r.counts r.spare };
+    ghost invariant = { λ r. IsKept r.page_bytes r.entries r.bytes r.counts r.spare r.noted };
 }
 
 #[tactic(auto, using(crate::proofs::Stored::length_history))]
@@ -47,7 +48,7 @@ impl Record {
     /// No entries, and no room for any.
     pub fn make(alloc: Global, page_bytes: u32) -> Record
         requires { page_bytes ≤ 4_096 }
-        ensures { result ≡ record { page_bytes = page_bytes; history = []; spare = 0 } }
+        ensures { result ≡ record { page_bytes = page_bytes; history = []; spare = 0; noted = None } }
     {
         Record {
             page_bytes: page_bytes as usize,
@@ -55,6 +56,7 @@ impl Record {
             bytes: Vec::new(alloc),
             counts: [0; MOST_CALLERS],
             spare: 0,
+            noted: None,
         }
     }
 
@@ -115,6 +117,32 @@ impl Record {
         ensures { result ≡ (length self.now.history == 0) }
     {
         self.entries.is_empty()
+    }
+
+    /// How many bytes a page has.
+    pub(crate) fn page_bytes(&self) -> usize
+        ensures bytes { result ≡ self.now.page_bytes }
+        ensures within { self.now.page_bytes ≤ 4_096 }
+    {
+        self.page_bytes
+    }
+
+    /// The first entry that is marked, if one is.
+    pub(crate) fn noted(&self) -> Option<u32>
+        ensures { result ≡ self.now.noted }
+    {
+        self.noted
+    }
+
+    /// Marks an entry as one whose printed number was wrong.
+    pub fn note(&mut self, no: EntryNo)
+        requires { no.0 < length self.old.history }
+        ensures { self.new ≡ record self.old { noted = first_noted self.old.noted no.0 } }
+    {
+        self.noted = match self.noted {
+            None => Some(no.0),
+            Some(first) => Some(first.min(no.0)),
+        };
     }
 
     pub fn entry(&self, no: EntryNo) -> Entry

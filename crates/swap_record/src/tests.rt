@@ -104,3 +104,75 @@ fn each_kind_of_entry_has_its_text(rt: HostRuntime) -> Result<(), Fail> {
     }
     Ok(())
 }
+
+/// What `check` says of two page-outs of page 3 with equal bytes, one of page 2, and this entry behind them.
+fn verdict(rt: &HostRuntime, page: u32, op: Op, fill: u8) -> Result<Verdict, Fail> {
+    let mut record = Record::make(rt.alloc(), 8);
+    record.reserve(4)?;
+    record.push_out(Caller(0), Page(3), &[0xaa; 8]);
+    record.push_out(Caller(1), Page(3), &[0xaa; 8]);
+    record.push_out(Caller(0), Page(2), &[0xbb; 8]);
+    match op {
+        Op::PageOut => record.push_out(Caller(1), Page(page), &[fill; 8]),
+        Op::PageIn { named, origin } => {
+            record.push_in(Caller(1), Page(page), named, origin, &[fill; 8])
+        }
+        Op::Failed { kind, since, at } => {
+            record.push_failed(Caller(1), Page(page), kind, since, at, &[fill; 8])
+        }
+    };
+    Ok(record.check(rt.alloc())?)
+}
+
+fn page_in(named: Option<u32>, origin: Origin) -> Op {
+    let named = named.map(EntryNo);
+    Op::PageIn { named, origin }
+}
+
+fn fault(since: u64, at: u64) -> Op {
+    let kind = CallKind::PageIn;
+    Op::Failed { kind, since, at }
+}
+
+#[test]
+fn each_kind_of_wrong_entry_is_found(rt: HostRuntime) -> Result<(), Fail> {
+    let wrong = Verdict::NotLegal { at: EntryNo(3) };
+    for (page, op, fill, want) in [
+        (3, Op::PageOut, 1, Verdict::Legal),
+        (3, page_in(Some(1), Origin::Queue), 0xaa, Verdict::Legal),
+        (3, page_in(Some(0), Origin::Queue), 0xaa, wrong),
+        (3, page_in(Some(2), Origin::Queue), 0xaa, wrong),
+        (3, page_in(Some(3), Origin::Queue), 0xaa, wrong),
+        (3, page_in(Some(1), Origin::Queue), 0xbb, wrong),
+        (3, page_in(Some(1), Origin::Zero), 0xaa, wrong),
+        (3, page_in(None, Origin::Zero), 0xaa, wrong),
+        (9, page_in(None, Origin::Zero), 0, Verdict::Legal),
+        (9, page_in(None, Origin::Zero), 1, wrong),
+        (9, page_in(None, Origin::Disk), 0, wrong),
+        (9, page_in(Some(2), Origin::Disk), 0xbb, wrong),
+        (3, fault(1, 2), 0, Verdict::Legal),
+        (3, fault(2, 2), 0, wrong),
+    ] {
+        let said = verdict(&rt, page, op, fill)?;
+        assert_eq!(rt; said, want, "of {page} {op:?} {fill}");
+    }
+    Ok(())
+}
+
+#[test]
+fn the_first_marked_entry_is_found(rt: HostRuntime) -> Result<(), Fail> {
+    let mut record = Record::make(rt.alloc(), 4096);
+    assert_eq!(rt; record.check(rt.alloc())?, Verdict::Legal);
+    record.reserve(3)?;
+    record.push_in(Caller(0), Page(7), None, Origin::Zero, &[0; 4096]);
+    record.push_out(Caller(0), Page(7), &[1; 4096]);
+    record.push_in(Caller(0), Page(7), None, Origin::Zero, &[0; 4096]);
+    let wrong = |at| Verdict::NotLegal { at: EntryNo(at) };
+    assert_eq!(rt; record.check(rt.alloc())?, wrong(2));
+    record.note(EntryNo(1));
+    assert_eq!(rt; record.check(rt.alloc())?, wrong(1));
+    record.note(EntryNo(0));
+    record.note(EntryNo(2));
+    assert_eq!(rt; record.check(rt.alloc())?, wrong(0));
+    Ok(())
+}

@@ -4,3 +4,4 @@ pub mod Failed
 pub mod Ends
 pub mod Unfailed
 pub mod BlockEnds
+pub mod Refused

@@ -63,6 +63,14 @@ pub record ReadFault (source : Stream) (refused : ScriptRefused) : Type 0 where
   pub within : length text ≤ TEXT_LIMIT
   pub is_refused : reading.script text ≡ Err refused
 
+-- a read failed, and no more was read before than a text may have
+pub record ReadBrokeOff (source : Stream) : Type 0 where
+  pub bytes : List ℕ
+  pub was_read : WasRead source.before source.now bytes
+  pub within : length bytes ≤ TEXT_LIMIT
+  pub failed : Failed source
+
+-- more was read than a text may have
 pub record ReadTooMuch (source : Stream) : Type 0 where
   pub bytes : List ℕ
   pub was_read : WasRead source.before source.now bytes
@@ -91,7 +99,7 @@ abbrev pub ScriptEnds : Stream → Stream → Ending → Type 0
 ScriptEnds source out ending.Done = RanScript source out false
 ScriptEnds source out ending.Faulted = RanScript source out true
 ScriptEnds source out ending.Usage = ⊥
-ScriptEnds source out ending.ReadFailed = Failed source × TookNothing out
+ScriptEnds source out ending.ReadFailed = ReadBrokeOff source × TookNothing out
 ScriptEnds source out ending.WriteFailed = BrokeOff source out
 ScriptEnds source out (ending.Refused refused) = ReadFault source refused × TookNothing out
 ScriptEnds source out ending.NoMemory = TookNothing out

@@ -7,6 +7,7 @@ ghost use Rattle.swap_run.specs.Run.{FailsWithTheDisk, ScriptsKeepTheHeadline};
 
 mod print;
 mod run;
+mod tell;
 
 pub use run::{run_lab, run_lab_in_blocks};
 use swap_script::{ScriptRefused, events_in_range, lenders_may_lend, pages_are_whole};

@@ -1,23 +1,23 @@
-ghost use Rattle.std.specs.Prelude.{◌≡◌, ◌≤◌, length, map, All, true, false, Some, None, [], IfOk, OnErr, Err};
+ghost use Rattle.std.specs.Prelude.{◌≡◌, ◌≤◌, length, map, All, true, false, Some, None, IfOk, OnErr, Err};
 ghost use Rattle.swap_record.specs.History.{History};
 ghost use Rattle.swap_script.specs.Reading.{script as script_of, IsWithinLimits};
 ghost use Rattle.swap_world.specs.World.{start};
-ghost use Rattle.swap_run.specs.Clause.{EndsWith, RunScript, stream, command_of, TextEnds, LabEnds, ScriptEnds, IsNoRefusal, status_of, err_text, Told};
+ghost use Rattle.swap_run.specs.Clause.{EndsWith, RunScript, stream, command_of, TextEnds, LabEnds, ScriptEnds, status_of};
 ghost use Rattle.swap_run.specs.Blocks.{is_whole, HandsOn, IsFresh};
 ghost use Rattle.swap_run.specs.Run.{has_failed, is_failed};
 ghost use Rattle.swap_run.specs.Printing.{world_in, HasRoomFor};
 
 use crate::Ending;
 use crate::print::print_run;
+use crate::tell::tell;
 use std::alloc::Global;
 use swap_base::{EntryNo, LenderSpec, NoMemory};
 use swap_disk::MemDisk;
-use swap_io::{BlockSink, LineBuf, Sink, Source, WholeRefused, read_whole, write_line};
+use swap_io::{BlockSink, LineBuf, Sink, Source, WholeRefused, read_whole};
 use swap_link::Harbor;
 use swap_record::{Op, Record};
 use swap_script::{
     Script, TEXT_LIMIT, events_in_range, lenders_may_lend, pages_are_whole, read_script,
-    refusal_line,
 };
 use swap_world::{World, always_legal, each_call_once, entries_are_seen};
 
@@ -83,15 +83,13 @@ fn world_for(
 }
 
 /// Runs a script's events, and writes their transcript.
-fn run_events<K: Sink>(
-    alloc: Global,
-    script: &Script<'_>,
-    line: &mut LineBuf,
-    out: &mut K,
-) -> Ending
+fn run_events<K: Sink>(alloc: Global, script: &Script<'_>, out: &mut K) -> Ending
     ensures ends { LabEnds script.now (stream (K.taken out.old) (K.taken out.new) (K.faults out.old) (K.faults out.new)) result }
     ensures later { K.faults out.old ≤ K.faults out.new }
 {
+    let Ok(mut line) = LineBuf::make(alloc) else {
+        return Ending::NoMemory;
+    };
     let page_bytes = script.geometry().page_bytes() as usize;
     let Ok(mut page) = vec![in alloc; 0u8; page_bytes] else {
         return Ending::NoMemory;
@@ -103,7 +101,7 @@ fn run_events<K: Sink>(
         return Ending::NoMemory;
     };
     let mut walk = script.walk();
-    if print_run(&mut world, &lenders, &mut walk, &mut page, line, out).is_err() {
+    if print_run(&mut world, &lenders, &mut walk, &mut page, &mut line, out).is_err() {
         return Ending::WriteFailed;
     }
     if has_failed(world.device().history()) {
@@ -114,24 +112,19 @@ fn run_events<K: Sink>(
 }
 
 /// Runs a text as a script.
-fn run_text<K: Sink>(alloc: Global, text: &[u8], line: &mut LineBuf, out: &mut K) -> Ending
+fn run_text<K: Sink>(alloc: Global, text: &[u8], out: &mut K) -> Ending
     requires { length text.now ≤ TEXT_LIMIT }
     ensures ends { TextEnds (script_of text.now) (stream (K.taken out.old) (K.taken out.new) (K.faults out.old) (K.faults out.new)) result }
     ensures later { K.faults out.old ≤ K.faults out.new }
 {
     match read_script(text) {
         Err(refused) => Ending::Refused(refused),
-        Ok(script) => run_events(alloc, &script, line, out),
+        Ok(script) => run_events(alloc, &script, out),
     }
 }
 
 /// Reads a script, and runs it.
-fn run_script<S: Source, K: Sink>(
-    alloc: Global,
-    source: &mut S,
-    line: &mut LineBuf,
-    out: &mut K,
-) -> Ending
+fn run_script<S: Source, K: Sink>(alloc: Global, source: &mut S, out: &mut K) -> Ending
     ensures ends { ScriptEnds (stream (S.left source.old) (S.left source.new) (S.faults source.old) (S.faults source.new)) (stream (K.taken out.old) (K.taken out.new) (K.faults out.old) (K.faults out.new)) result }
     ensures later { K.faults out.old ≤ K.faults out.new }
 {
@@ -142,7 +135,7 @@ fn run_script<S: Source, K: Sink>(
     lenders_may_lend();
     pages_are_whole();
     match read_whole(alloc, source, TEXT_LIMIT) {
-        Ok(text) => run_text(alloc, &text, line, out),
+        Ok(text) => run_text(alloc, &text, out),
         Err(WholeRefused::ReadFailed) => Ending::ReadFailed,
         Err(WholeRefused::TooLong) => Ending::TooLong,
         Err(WholeRefused::NoMemory) => Ending::NoMemory,
@@ -157,23 +150,6 @@ fn is_script(words: &[&str]) -> bool
     match words {
         [word] => *word == "script",
         _ => false,
-    }
-}
-
-// What err is told, but of a refused line.
-fn text_of(ending: Ending) -> &'static [u8]
-    requires { IsNoRefusal ending }
-    ensures text { result.now ≡ err_text ending }
-    ensures len { length result.now ≤ 100 }
-{
-    match ending {
-        Ending::Usage => b"usage: remswap script|check|drill|play|lend\n",
-        Ending::ReadFailed => b"read failed\n",
-        Ending::WriteFailed => b"write failed\n",
-        Ending::NoMemory => b"no memory\n",
-        Ending::HostFailed => b"host failed\n",
-        Ending::TooLong => b"input too long\n",
-        Ending::Done | Ending::Faulted | Ending::NotLegal | Ending::Refused(_) => b"",
     }
 }
 
@@ -195,29 +171,6 @@ fn status_of(ending: Ending) -> u8
     }
 }
 
-// Spells what err is told.
-fn spell(ending: Ending, line: &mut LineBuf)
-    ensures { line.new ≡ err_text ending }
-{
-    match ending {
-        Ending::Refused(refused) => refusal_line(&refused, line),
-        other => {
-            line.clear();
-            line.text(text_of(other));
-        }
-    }
-}
-
-// Tells err how a call ended, and gives the status.
-fn tell<E: Sink>(ending: Ending, line: &mut LineBuf, err: &mut E) -> u8
-    ensures code { result ≡ status_of ending }
-    ensures told { Told (stream (E.taken err.old) (E.taken err.new) (E.faults err.old) (E.faults err.new)) (err_text ending) }
-{
-    spell(ending, line);
-    let _ = write_line(err, line.bytes());
-    status_of(ending)
-}
-
 /// The top call for the commands that work on a text: here `script`, which reads a script from `source`, runs it, and
 /// writes its transcript to `out`. The answer is the program's status; what went wrong is told to `err`, whose own
 /// failures change nothing. Each status has its cause in the clause.
@@ -231,15 +184,12 @@ pub fn run_lab<S: Source, K: Sink, E: Sink>(
     ensures { EndsWith (command_of (map (λ word. word.now) words.now)) (stream (S.left source.old) (S.left source.new) (S.faults source.old) (S.faults source.new)) (stream (K.taken out.old) (K.taken out.new) (K.faults out.old) (K.faults out.new)) (stream (E.taken err.old) (E.taken err.new) (E.faults err.old) (E.faults err.new)) result }
 {
     if !is_script(words) {
-        let _ = write_line(err, text_of(Ending::Usage));
+        tell(Ending::Usage, err);
         return 2;
     }
-    let Ok(mut line) = LineBuf::make(alloc) else {
-        let _ = write_line(err, text_of(Ending::NoMemory));
-        return 6;
-    };
-    let ending = run_script(alloc, source, &mut line, out);
-    tell(ending, &mut line, err)
+    let ending = run_script(alloc, source, out);
+    tell(ending, err);
+    status_of(ending)
 }
 
 // Whether the transcript was written whole.
@@ -276,14 +226,11 @@ pub fn run_lab_in_blocks<S: Source, K: Sink + Drop, E: Sink>(
     ensures { EndsWith (command_of (map (λ word. word.now) words.now)) (stream (S.left source.old) (S.left source.new) (S.faults source.old) (S.faults source.new)) (stream out.old.handed out.new.handed out.old.faults out.new.faults) (stream (E.taken err.old) (E.taken err.new) (E.faults err.old) (E.faults err.new)) result }
 {
     if !is_script(words) {
-        let _ = write_line(err, text_of(Ending::Usage));
+        tell(Ending::Usage, err);
         return 2;
     }
-    let Ok(mut line) = LineBuf::make(alloc) else {
-        let _ = write_line(err, text_of(Ending::NoMemory));
-        return 6;
-    };
-    let ran = run_script(alloc, source, &mut line, out);
+    let ran = run_script(alloc, source, out);
     let ending = hand_on_rest(ran, out);
-    tell(ending, &mut line, err)
+    tell(ending, err);
+    status_of(ending)
 }

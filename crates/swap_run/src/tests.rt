@@ -414,6 +414,25 @@ fn an_err_that_fails_changes_nothing_else(rt: HostRuntime) -> Result<(), Fail> {
     judge(&rt, "no words", &ran, ("", "", 2))
 }
 
+/// What `err` holds of a refusal where its call of a number fails.
+const PIECES: [(u32, &str); 5] = [
+    (0, ""),
+    (1, "line "),
+    (2, "line 3"),
+    (3, "line 3: "),
+    (4, "line 3: page"),
+];
+
+#[test]
+fn an_err_that_fails_in_a_refusal_holds_a_front(rt: HostRuntime) -> Result<(), Fail> {
+    let text = "geometry 8 4 2 4 2 4 20\nin 0 7\nin 0 8\n";
+    for (err, front) in PIECES {
+        let ran = run_script(rt.alloc(), text, Failing { err, ..NONE })?;
+        judge(&rt, front, &ran, ("", front, 5))?;
+    }
+    Ok(())
+}
+
 #[test]
 fn other_words_are_told_the_usage(rt: HostRuntime) -> Result<(), Fail> {
     let usage = "usage: remswap script|check|drill|play|lend\n";

@@ -1,12 +1,12 @@
 //! What a run prints: words, parted by spaces, in a line.
-ghost use Rattle.std.specs.Prelude.{◌≡◌, ℕ, ◌+◌, ◌*◌, ◌<◌, ◌≤◌, [], ◌∷◌, ◌++◌, length, map, decimal, if◌then◌else◌};
+ghost use Rattle.std.specs.Prelude.{◌≡◌, ℕ, ◌+◌, ◌*◌, ◌<◌, ◌≤◌, [], ◌∷◌, ◌++◌, length, map, decimal, codes, if◌then◌else◌};
 ghost use Rattle.swap_choice.specs.Slots.{has, slots};
 ghost use Rattle.swap_script.specs.Lines.{led};
 ghost use Rattle.swap_record.specs.Text.{entry_words};
-ghost use Rattle.swap_script.specs.Transcript.{header, lender_header, line, HasEntry, seen_words, sent_words, msg_name, msg_rest, msg_words, reply_words, evicted_words, gave_words, end_line, refusal, ok_or_bad, event_name, disk_words, event_rest, via_words, why_word, field_word};
+ghost use Rattle.swap_script.specs.Transcript.{header, lender_header, line, HasEntry, seen_words, sent_words, msg_name, msg_rest, msg_words, reply_words, slots_behind, evicted_words, second_words, gave_words, end_line, refusal, ok_or_bad, event_name, disk_words, event_rest, via_words, why_word, field_word};
 
 use super::{ScriptRefused, Why};
-use swap_base::{DiskWhich, EntryNo, Field, Geometry, Lender, LenderSpec, Via};
+use swap_base::{DiskWhich, EntryNo, Field, Geometry, Lender, LenderSpec, Slab, Via};
 use swap_choice::{SLOTS, has_slot};
 use swap_io::LineBuf;
 use swap_record::Record;
@@ -108,7 +108,8 @@ fn field_word(field: Field) -> &'static [u8]
     }
 }
 
-fn why_word(why: Why) -> &'static [u8]
+/// The word of a reason.
+pub fn why_word(why: Why) -> &'static [u8]
     ensures word { result.now ≡ why_word why }
     ensures length { length result.now ≤ 14 }
 {
@@ -360,14 +361,37 @@ fn slot_words(set: u64, out: &mut LineBuf)
     }
 }
 
+/// Appends a word of at most 5 bytes and the slots of a set, if it has some.
+fn slots_behind(name: &[u8], set: u64, out: &mut LineBuf)
+    requires name { length name.now ≤ 5 }
+    requires room { length out.old ≤ 1_500 }
+    ensures text { out.new ≡ out.old ++ led (slots_behind name.now set) }
+    ensures length { length out.new ≤ length out.old + 1_350 }
+{
+    if set != 0 {
+        word(out, name);
+        slot_words(set, out);
+    }
+}
+
 fn evicted_words(set: u64, out: &mut LineBuf)
     requires { length out.old ≤ 1_500 }
     ensures text { out.new ≡ out.old ++ led (evicted_words set) }
     ensures length { length out.new ≤ length out.old + 1_350 }
 {
-    if set != 0 {
-        word(out, b"evict");
-        slot_words(set, out);
+    slots_behind(b"evict", set, out);
+}
+
+/// Appends a slab and the lenders that were asked for room.
+fn asked_words(slab: Slab, first: Lender, second: Option<Lender>, out: &mut LineBuf)
+    requires { length out.old ≤ 1_000 }
+    ensures text { out.new ≡ out.old ++ led (codes "ask" ∷ decimal slab.0 ∷ decimal first.0 ∷ second_words second) }
+    ensures length { length out.new ≤ length out.old + 80 }
+{
+    word(out, b"ask");
+    two_numbers(out, u64::from(slab.0), u64::from(first.0));
+    if let Some(lender) = second {
+        number(out, u64::from(lender.0));
     }
 }
 
@@ -382,7 +406,7 @@ fn gave_words(taken: &Msg, reply: &Option<Msg>, evicted: u64, out: &mut LineBuf)
     evicted_words(evicted, out);
 }
 
-/// Appends the words of what was seen. What no line gives yet has none.
+/// Appends the words of what was seen.
 fn seen_words(seen: &Seen, history: &Record, out: &mut LineBuf)
     requires entry { HasEntry history.now.history seen.now }
     requires room { length out.old ≤ 500 }
@@ -431,7 +455,22 @@ fn seen_words(seen: &Seen, history: &Record, out: &mut LineBuf)
         Seen::Took { ref msg } => msg_words(msg, out),
         Seen::Lost => word(out, b"lost"),
         Seen::Lied => word(out, b"lied"),
-        _ => {}
+        Seen::Ticked => word(out, b"none"),
+        Seen::Asked {
+            slab,
+            first,
+            second,
+        } => asked_words(slab, first, second, out),
+        Seen::Cut => word(out, b"cut"),
+        Seen::Crashed => word(out, b"crashed"),
+        Seen::Hosted { mean, asked } => {
+            number(out, mean);
+            slots_behind(b"ask", asked, out);
+        }
+        Seen::Rounded { effects, mapped } => {
+            number(out, u64::from(effects));
+            named_number(out, b"mapped", u64::from(mapped));
+        }
     }
 }
 

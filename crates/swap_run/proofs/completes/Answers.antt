@@ -30,7 +30,7 @@ completes : (source out : Stream) (end : Ending) (text : List ℕ) (s : reading.
 completes source out ending.Done text s h told fits is no_fault no_write = inl refl
 completes source out ending.Faulted text s h told fits is no_fault no_write = inr (inl refl)
 completes source out ending.Usage text s h told fits is no_fault no_write = absurd h
-completes source out ending.ReadFailed text s h told fits is no_fault no_write = absurd (no_fault h.0)
+completes source out ending.ReadFailed text s h told fits is no_fault no_write = absurd (no_fault h.0.failed)
 completes source out ending.WriteFailed text s h told fits is no_fault no_write = absurd (no_write h.failed)
 completes source out (ending.Refused refused) text s h told fits is no_fault no_write =
     absurd (not_both text s refused is (subst (λ t. script t ≡ Err refused) (sym (read_whole_is source.before source.now text h.0.text told h.0.was_read)) h.0.is_refused))

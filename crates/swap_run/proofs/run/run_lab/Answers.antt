@@ -1,7 +1,7 @@
-use Rattle.std.proofs.Common.{None, Some, refl, ◌∙◌}
+use Rattle.std.proofs.Common.{None, Some, refl}
 use Rattle.swap_run.specs.Clause.{RunScript}
-use Rattle.swap_run.specs.declared.Ending.TheVariants.{NoMemory, Usage}
-use Rattle.swap_run.proofs.Ends.{keeps_same, told, ends_at}
+use Rattle.swap_run.specs.declared.Ending.TheVariants.{Usage}
+use Rattle.swap_run.proofs.Ends.{keeps_same, ends_at}
 use Rattle.swap_run.proofs.run.run_lab.Goals as goal
 
 pub returns-then-not-is_script : goal.returns-then-not-is_script
@@ -10,16 +10,7 @@ returns-then-not-is_script g c =
       end = Usage;
       holds = ends_at _ None _ _ Usage (c.is_script.ensures.no c.if-not-is_script.true) (keeps_same _, keeps_same _);
       code = refl;
-      told = told _ _ _ c.write_line.result c.text_of.ensures.text c.write_line.ensures.ok c.write_line.ensures.err c.write_line.ensures.cause;
-    }
-
-pub returns-in_default : goal.returns-in_default
-returns-in_default g c =
-    record {
-      end = NoMemory;
-      holds = ends_at _ (Some RunScript) _ _ NoMemory (c.is_script.ensures.yes c.if-not-is_script.false) (keeps_same _);
-      code = refl;
-      told = told _ _ _ c.write_line-in_default.result c.text_of-in_default.ensures.text c.write_line-in_default.ensures.ok c.write_line-in_default.ensures.err c.write_line-in_default.ensures.cause;
+      told = c.tell.ensures;
     }
 
 pub returns : goal.returns
@@ -27,6 +18,6 @@ returns g c =
     record {
       end = c.run_script-ending.result;
       holds = ends_at _ (Some RunScript) _ _ c.run_script-ending.result (c.is_script.ensures.yes c.if-not-is_script.false) c.run_script-ending.ensures.ends;
-      code = c.tell.ensures.code;
-      told = c.tell.ensures.told;
+      code = c.status_of.ensures;
+      told = c.tell-2.ensures;
     }

@@ -8,4 +8,5 @@ returns c = rw (← c.self.view_is) (record {
   pages = history_pages c.self.inside.page_bytes c.self.inside.entries.items c.self.inside.bytes.items c.self.invariant.block;
   few = omega (arith, length_history c.self.inside.page_bytes c.self.inside.entries.items c.self.inside.bytes.items, c.self.inside.entries.ok.0);
   numbers = c.self.invariant.numbers;
+  marked = rw (length_history c.self.inside.page_bytes c.self.inside.entries.items c.self.inside.bytes.items) c.self.invariant.marked;
 })

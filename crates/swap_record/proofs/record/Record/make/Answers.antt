@@ -11,4 +11,5 @@ invariant_of-result c = record {
   bytes_room = omega arith;
   counted = rw (c.new.ensures.items) (no_counts c.args.page_bytes c.new-2.result.items);
   numbers = rw (c.new.ensures.items) tt;
+  marked = tt;
 }

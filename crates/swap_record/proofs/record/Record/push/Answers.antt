@@ -1,4 +1,4 @@
-use Rattle.std.proofs.Common.{ap, ◌∙◌, ◌≡◌, ◌<◌, ℕ, zero, suc, ◌∷◌, [], ◌*◌, ◌+◌, ◌-◌, arith, get_or, length, length-append, refl}
+use Rattle.std.proofs.Common.{ap, ◌∙◌, ◌≡◌, ◌<◌, ℕ, zero, suc, ◌∷◌, [], ◌*◌, ◌+◌, ◌-◌, arith, get_or, Option, None, Some, IfSome, ◌≤◌, length, length-append, refl}
 use Rattle.swap_record.specs.declared.Entry.{Entry}
 use Rattle.swap_record.specs.InMemory.{history_in}
 use Rattle.swap_record.proofs.Stored.{length_history, count_within, history_push, counts_push}
@@ -17,6 +17,11 @@ page c = rw (← c.self.view_is) at c.requires.bytes
 spared : (spare n : ℕ) → 0 < spare → (spare - 1) * n + n ≡ spare * n
 spared zero n h = absurd (omega arith)
 spared (suc s) n h = let less : suc s - 1 ≡ s = omega arith in rw less (omega arith)
+
+-- a mark stays within a history that grows
+still_marked : (noted : Option ℕ) (m n : ℕ) → m ≤ n → IfSome noted (λ k. k < m) → IfSome noted (λ k. k < n)
+still_marked None m n le h = tt
+still_marked (Some k) m n le h = omega arith
 
 -- the entry that is added
 abbrev added : goal.After-self-1 → Entry
@@ -43,6 +48,7 @@ invariant_of-self c = record {
   bytes_room = omega (arith, spared c.self.inside.spare c.self.inside.page_bytes (room c), c.self.invariant.bytes_room, rw c.unwrap.ensures at c.extend_from_slice.ensures.len, c.extend_from_slice.ensures.capacity, page c);
   counted = rw (pushed_in c) (counts_push c.self.inside.counts (history_in c.self.inside.page_bytes c.self.inside.entries.items c.self.inside.bytes.items) (record { entry = added c; bytes = c.args.bytes.now }) c.self.told c.requires.caller c.self.invariant.counted);
   numbers = rw (pushed_in c) (c.self.invariant.counted c.args.caller c.requires.caller, c.self.invariant.numbers);
+  marked = still_marked c.self.inside.noted (length c.self.inside.entries.items) _ (omega (arith, c.push_reserved.ensures.len)) c.self.invariant.marked;
 }
 
 pub returns-clause-after : goal.returns-clause-after
