@@ -20,7 +20,8 @@ use Rattle.swap_script.proofs.Scripts.{of_text}
 abbrev pub InRange : Sizes → ℕ → List Input → Type 0
 InRange s lenders inputs = AllByRecursion (λ (i : Input). IsInRange s lenders i.event) inputs
 
-onto_range : (s : Sizes) (lenders : ℕ) (o : Option Line) (later : List Input) → Reads s lenders o → InRange s lenders later → InRange s lenders (cons_option (option_map (input_of s) o) later)
+onto_range : (s : Sizes) (lenders : ℕ) (o : Option Line) (later : List Input) → Reads s lenders o → InRange s lenders later
+    → InRange s lenders (cons_option (option_map (input_of s) o) later)
 onto_range s lenders None later h rest = absurd h
 onto_range s lenders (Some line) later h rest = (h.0, rest)
 
@@ -33,7 +34,8 @@ abbrev pub AllWhole : Sizes → List Input → Type 0
 AllWhole s inputs = AllByRecursion (λ (i : Input). HandsInAPage s i.event i.page) inputs
 
 -- an event with the page that its line has, if it needs one
-hands_in : (s : Sizes) (e : Event) (o : Option (List ℕ)) → ((page : List ℕ) → o ≡ Some page → length page ≡ s.page_bytes) → cond (is_out e) (is_some o) true ≡ true → HandsInAPage s e (cond (is_out e) (unwrap_or o []) [])
+hands_in : (s : Sizes) (e : Event) (o : Option (List ℕ)) → ((page : List ℕ) → o ≡ Some page → length page ≡ s.page_bytes)
+    → cond (is_out e) (is_some o) true ≡ true → HandsInAPage s e (cond (is_out e) (unwrap_or o []) [])
 hands_in s (event.PageOut c p) None whole has = cc
 hands_in s (event.PageOut c p) (Some page) whole has = whole page refl
 hands_in s (event.PageIn c p) o whole has = tt
@@ -50,12 +52,17 @@ hands_in s (event.Crash l) o whole has = tt
 hands_in s (event.Host l u word) o whole has = tt
 hands_in s (event.Round word) o whole has = tt
 
-onto_whole : (s : Sizes) (lenders : ℕ) (o : Option Line) (later : List Input) → AreInLimits s → Reads s lenders o → AllWhole s later → AllWhole s (cons_option (option_map (input_of s) o) later)
+onto_whole : (s : Sizes) (lenders : ℕ) (o : Option Line) (later : List Input) → AreInLimits s → Reads s lenders o → AllWhole s later
+    → AllWhole s (cons_option (option_map (input_of s) o) later)
 onto_whole s lenders None later within h rest = absurd h
-onto_whole s lenders (Some line) later within h rest =
-    (hands_in s line.event (pattern s.page_bytes line.hex) (λ page e. length-filled s.page_bytes (piece_of line.hex) page (within_limits s within).length e) h.1, rest)
+onto_whole s lenders (Some line) later within h rest = (
+  hands_in s line.event (pattern s.page_bytes line.hex)
+      (λ page e. length-filled s.page_bytes (piece_of line.hex) page (within_limits s within).length e) h.1,
+  rest,
+)
 
-pub all_whole : (g : Grammar) (s : Sizes) (lenders : ℕ) (lines : List (ℕ × List ℕ)) → AreInLimits s → AllRead g s lenders lines → AllWhole s (inputs_of g s lines)
+pub all_whole : (g : Grammar) (s : Sizes) (lenders : ℕ) (lines : List (ℕ × List ℕ)) → AreInLimits s → AllRead g s lenders lines
+    → AllWhole s (inputs_of g s lines)
 all_whole g s lenders [] within h = tt
 all_whole g s lenders ((n, text) ∷ rest) within h =
     onto_whole s lenders (line_of g (words_of text)) (inputs_of g s rest) within h.0 (all_whole g s lenders rest within h.1)
@@ -63,11 +70,15 @@ all_whole g s lenders ((n, text) ∷ rest) within h =
 -- the texts of each grammar
 pub are_in_range : (g : Grammar) → AreInRange g
 are_in_range g =
-    of_text g (λ (s : Script). InRange s.sizes (length s.lenders) s.inputs) (λ end sizes front within may none. all_in_range g sizes (length front.lenders) front.lines (all_read g end sizes (length front.lenders) front.lines nothing_above none))
+    of_text g (λ (s : Script). InRange s.sizes (length s.lenders) s.inputs)
+    (λ end sizes front within may none. all_in_range g sizes (length front.lenders) front.lines
+    (all_read g end sizes (length front.lenders) front.lines nothing_above none))
 
 pub hand_in_pages : (g : Grammar) → HandInPages g
 hand_in_pages g =
-    of_text g (λ (s : Script). AllWhole s.sizes s.inputs) (λ end sizes front within may none. all_whole g sizes (length front.lenders) front.lines within (all_read g end sizes (length front.lenders) front.lines nothing_above none))
+    of_text g (λ (s : Script). AllWhole s.sizes s.inputs)
+    (λ end sizes front within may none. all_whole g sizes (length front.lenders) front.lines within
+    (all_read g end sizes (length front.lenders) front.lines nothing_above none))
 
 pub have_lenders : (g : Grammar) → HaveLenders g
 have_lenders g = of_text g (λ (s : Script). MayLend s.sizes s.lenders) (λ end sizes front within may none. may)

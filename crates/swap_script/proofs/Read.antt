@@ -18,11 +18,15 @@ use Rattle.swap_script.specs.Forms.{Line, line_of}
 use Rattle.swap_script.specs.Reading.{Above, may_run, are_addressed, is_within_reach, has_caller, has_page, has_slab, has_lender, has_pattern, tests, fault_of, fault_or, counted, first_fault, input_of, inputs_of, calls_of, calls_in, Reads, AllRead}
 
 -- where the first line is an event's and owes nothing
-pub first_fault-on : (g : Grammar) (end : ℕ) (s : Sizes) (lenders : ℕ) (above : Above) (n : ℕ) (text : List ℕ) (rest : List (ℕ × List ℕ)) (line : Line) → Some line ≡ line_of g (words_of text) → None ≡ first_beyond (tests g s lenders above line) → first_fault g end s lenders ((n, text) ∷ rest) above ≡ first_fault g end s lenders rest (counted above (Some line))
+pub first_fault-on : (g : Grammar) (end : ℕ) (s : Sizes) (lenders : ℕ) (above : Above) (n : ℕ) (text : List ℕ) (rest : List (ℕ × List ℕ)) (line : Line)
+    → Some line ≡ line_of g (words_of text) → None ≡ first_beyond (tests g s lenders above line)
+    → first_fault g end s lenders ((n, text) ∷ rest) above ≡ first_fault g end s lenders rest (counted above (Some line))
 first_fault-on g end s lenders above n text rest line is ok =
-    ap (λ o. fault_or n (fault_of g s lenders above o) (first_fault g end s lenders rest (counted above o))) (sym is) ∙ ap (λ w. fault_or n w (first_fault g end s lenders rest (counted above (Some line)))) (sym ok)
+    ap (λ o. fault_or n (fault_of g s lenders above o) (first_fault g end s lenders rest (counted above o))) (sym is)
+    ∙ ap (λ w. fault_or n w (first_fault g end s lenders rest (counted above (Some line)))) (sym ok)
 
-pub inputs_of-on : (g : Grammar) (s : Sizes) (n : ℕ) (text : List ℕ) (rest : List (ℕ × List ℕ)) (line : Line) → Some line ≡ line_of g (words_of text) → inputs_of g s ((n, text) ∷ rest) ≡ input_of s line ∷ inputs_of g s rest
+pub inputs_of-on : (g : Grammar) (s : Sizes) (n : ℕ) (text : List ℕ) (rest : List (ℕ × List ℕ)) (line : Line) → Some line ≡ line_of g (words_of text)
+    → inputs_of g s ((n, text) ∷ rest) ≡ input_of s line ∷ inputs_of g s rest
 inputs_of-on g s n text rest line is = ap (λ o. cons_option (option_map (input_of s) o) (inputs_of g s rest)) (sym is)
 
 pub calls_of-cons : (i : Input) (is : List Input) → calls_of (i ∷ is) ≡ calls_in i.event + calls_of is
@@ -54,7 +58,8 @@ in_range s n (event.Host l u word) hc hp hs hl = below l.0 n hl
 in_range s n (event.Round word) hc hp hs hl = tt
 
 -- a line that owes nothing reads, isn't behind too many events, and is within reach
-pub owes_nothing : (g : Grammar) (s : Sizes) (lenders : ℕ) (above : Above) (line : Line) → first_beyond (tests g s lenders above line) ≡ None → Reads s lenders (Some line) × (above.events < 4_194_304) × (is_within_reach g line.event ≡ true)
+pub owes_nothing : (g : Grammar) (s : Sizes) (lenders : ℕ) (above : Above) (line : Line) → first_beyond (tests g s lenders above line) ≡ None
+    → Reads s lenders (Some line) × (above.events < 4_194_304) × (is_within_reach g line.event ≡ true)
 owes_nothing g s lenders above line e =
     let owed = tests g s lenders above line in
     let form = passes why.Form (may_run g above line.event) (drop 1 owed) e in
@@ -77,7 +82,8 @@ pub none_or : (n : ℕ) (o : Option Why) (later : Option ScriptRefused) → faul
 none_or n None later e = (refl, e)
 none_or n (Some w) later e = cc
 
-pub all_read : (g : Grammar) (end : ℕ) (s : Sizes) (lenders : ℕ) (lines : List (ℕ × List ℕ)) (above : Above) → first_fault g end s lenders lines above ≡ None → AllRead g s lenders lines
+pub all_read : (g : Grammar) (end : ℕ) (s : Sizes) (lenders : ℕ) (lines : List (ℕ × List ℕ)) (above : Above) → first_fault g end s lenders lines above ≡ None
+    → AllRead g s lenders lines
 all_read g end s lenders [] above e = tt
 all_read g end s lenders ((n, text) ∷ rest) above e =
     let line = line_of g (words_of text) in

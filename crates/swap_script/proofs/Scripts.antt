@@ -43,7 +43,8 @@ script_with g s front = record { sizes = s; lenders = front.lenders; inputs = in
 -- what holds of each text whose sizes are within their limits, whose lenders may lend, and whose lines have no fault
 abbrev pub OfChecked : Grammar → (Script → Type 0) → Type 0
 OfChecked g P =
-    (end : ℕ) (sizes : Sizes) (front : Front) → AreInLimits sizes → MayLend sizes front.lenders → first_fault g end sizes (length front.lenders) front.lines nothing_above ≡ None → P (script_with g sizes front)
+    (end : ℕ) (sizes : Sizes) (front : Front) → AreInLimits sizes → MayLend sizes front.lenders
+    → first_fault g end sizes (length front.lenders) front.lines nothing_above ≡ None → P (script_with g sizes front)
 
 none_may_lend : (s : Sizes) → MayLend s []
 none_may_lend s = record { count = omega arith; limits = All-nil IsWithinLimits; lent = omega arith }
@@ -65,18 +66,24 @@ few_slots spec e =
     leb-true spec.slots 64 (and_parts (nat_le 1 spec.slots) (nat_le spec.slots 64) slots.0).1
 
 -- lenders without a fault, and one more
-pub one_more_lends : (s : Sizes) (others : List LenderSpec) (spec : LenderSpec) → MayLend s others → IsWithinLimits spec → first_beyond (lending_tests s (others ++ spec ∷ [])) ≡ None → MayLend s (others ++ spec ∷ [])
+pub one_more_lends : (s : Sizes) (others : List LenderSpec) (spec : LenderSpec) → MayLend s others → IsWithinLimits spec
+    → first_beyond (lending_tests s (others ++ spec ∷ [])) ≡ None → MayLend s (others ++ spec ∷ [])
 one_more_lends s others spec may limits e =
     let specs = others ++ spec ∷ [] in
     let count = passes why.Lenders (nat_le (length specs) 8) ((why.Lent, lends_within s specs) ∷ []) e in
     let lent = passes why.Lent (lends_within s specs) [] count.1 in
-    record { count = leb-true (length specs) 8 count.0; limits = All-append IsWithinLimits others (spec ∷ []) may.limits (All-cons IsWithinLimits spec [] limits (All-nil IsWithinLimits)); lent = leb-true (lent_bytes s specs) 536_870_912 lent.0 }
+    record {
+      count = leb-true (length specs) 8 count.0;
+      limits = All-append IsWithinLimits others (spec ∷ []) may.limits (All-cons IsWithinLimits spec [] limits (All-nil IsWithinLimits));
+      lent = leb-true (lent_bytes s specs) 536_870_912 lent.0;
+    }
 
 unless_none : {A : Type 0} (o : Option Why) (x y : A) → unless o x ≡ Ok y → (o ≡ None) × (x ≡ y)
 unless_none None x y e = (refl, cc)
 unless_none (Some w) x y e = cc
 
-if_tested : (s : Sizes) (others : List LenderSpec) (r : Result LenderSpec Why) (spec : LenderSpec) → ((x : LenderSpec) → r ≡ Ok x → IsWithinLimits x) → MayLend s others → (r >>= λ x. unless (first_beyond (lending_tests s (others ++ x ∷ []))) x) ≡ Ok spec → MayLend s (others ++ spec ∷ [])
+if_tested : (s : Sizes) (others : List LenderSpec) (r : Result LenderSpec Why) (spec : LenderSpec) → ((x : LenderSpec) → r ≡ Ok x → IsWithinLimits x)
+    → MayLend s others → (r >>= λ x. unless (first_beyond (lending_tests s (others ++ x ∷ []))) x) ≡ Ok spec → MayLend s (others ++ spec ∷ [])
 if_tested s others (Err w) spec limits may e = cc
 if_tested s others (Ok x) spec limits may e =
     let parts = unless_none (first_beyond (lending_tests s (others ++ x ∷ []))) x spec e in
@@ -87,25 +94,34 @@ if_follows true r spec e = e
 if_follows false r spec e = cc
 
 -- a lender line that has no fault
-line_lends : (g : Grammar) (s : Sizes) (others : List LenderSpec) (words : List (List ℕ)) (spec : LenderSpec) → MayLend s others → lender_line g s others words ≡ Ok spec → MayLend s (others ++ spec ∷ [])
+line_lends : (g : Grammar) (s : Sizes) (others : List LenderSpec) (words : List (List ℕ)) (spec : LenderSpec) → MayLend s others
+    → lender_line g s others words ≡ Ok spec → MayLend s (others ++ spec ∷ [])
 line_lends g s others words spec may e =
     let given = spec_within (spec_words words) in
-    if_tested s others given spec (spec_limits (spec_words words)) may (if_follows (may_follow g others) (given >>= λ x. unless (first_beyond (lending_tests s (others ++ x ∷ []))) x) spec e)
+    if_tested s others given spec (spec_limits (spec_words words)) may
+    (if_follows (may_follow g others) (given >>= λ x. unless (first_beyond (lending_tests s (others ++ x ∷ []))) x) spec e)
 
 same_front : (s : Sizes) (x front : Front) → MayLend s x.lenders → (let r : Result Front ScriptRefused = Ok x in r ≡ Ok front) → MayLend s front.lenders
 same_front s x front may e = let same : x ≡ front = cc in subst (λ (f : Front). MayLend s f.lenders) same may
 
-mutual_lends : (g : Grammar) (s : Sizes) (others : List LenderSpec) (n : ℕ) (r : Result LenderSpec Why) (rest : List (ℕ × List ℕ)) (front : Front) → ((spec : LenderSpec) → r ≡ Ok spec → MayLend s (others ++ spec ∷ [])) → ((more : List LenderSpec) → MayLend s more → front_from g s more rest ≡ Ok front → MayLend s front.lenders) → (at n r >>= λ spec. front_from g s (others ++ spec ∷ []) rest) ≡ Ok front → MayLend s front.lenders
-mutual_lends g s others n (Err w) rest front lends later e = cc
-mutual_lends g s others n (Ok spec) rest front lends later e = later (others ++ spec ∷ []) (lends spec refl) e
+line_front_lends : (g : Grammar) (s : Sizes) (others : List LenderSpec) (n : ℕ) (r : Result LenderSpec Why) (rest : List (ℕ × List ℕ)) (front : Front)
+    → ((spec : LenderSpec) → r ≡ Ok spec → MayLend s (others ++ spec ∷ []))
+    → ((more : List LenderSpec) → MayLend s more → front_from g s more rest ≡ Ok front → MayLend s front.lenders)
+    → (at n r >>= λ spec. front_from g s (others ++ spec ∷ []) rest) ≡ Ok front → MayLend s front.lenders
+line_front_lends g s others n (Err w) rest front lends later e = cc
+line_front_lends g s others n (Ok spec) rest front lends later e = later (others ++ spec ∷ []) (lends spec refl) e
 
-if_lender : (g : Grammar) (s : Sizes) (others : List LenderSpec) (n : ℕ) (o : Option (List (List ℕ))) (lines rest : List (ℕ × List ℕ)) (front : Front) → MayLend s others → ((more : List LenderSpec) → MayLend s more → front_from g s more rest ≡ Ok front → MayLend s front.lenders) → option_map_or (λ words. at n (lender_line g s others words) >>= λ spec. front_from g s (others ++ spec ∷ []) rest) o (Ok (record { lenders = others; lines = lines })) ≡ Ok front → MayLend s front.lenders
+if_lender : (g : Grammar) (s : Sizes) (others : List LenderSpec) (n : ℕ) (o : Option (List (List ℕ))) (lines rest : List (ℕ × List ℕ)) (front : Front)
+    → MayLend s others → ((more : List LenderSpec) → MayLend s more → front_from g s more rest ≡ Ok front → MayLend s front.lenders)
+    → option_map_or (λ words. at n (lender_line g s others words) >>= λ spec. front_from g s (others ++ spec ∷ []) rest) o
+    (Ok (record { lenders = others; lines = lines })) ≡ Ok front → MayLend s front.lenders
 if_lender g s others n None lines rest front may later e = same_front s (record { lenders = others; lines = lines }) front may e
 if_lender g s others n (Some words) lines rest front may later e =
-    mutual_lends g s others n (lender_line g s others words) rest front (λ spec ok. line_lends g s others words spec may ok) later e
+    line_front_lends g s others n (lender_line g s others words) rest front (λ spec ok. line_lends g s others words spec may ok) later e
 
 -- the lenders of a text may lend
-pub front_lends : (g : Grammar) (s : Sizes) (others : List LenderSpec) (lines : List (ℕ × List ℕ)) (front : Front) → MayLend s others → front_from g s others lines ≡ Ok front → MayLend s front.lenders
+pub front_lends : (g : Grammar) (s : Sizes) (others : List LenderSpec) (lines : List (ℕ × List ℕ)) (front : Front) → MayLend s others
+    → front_from g s others lines ≡ Ok front → MayLend s front.lenders
 front_lends g s others [] front may e = same_front s (record { lenders = others; lines = [] }) front may e
 front_lends g s others ((n, text) ∷ rest) front may e =
     if_lender g s others n (lender_rest (words_of text)) ((n, text) ∷ rest) rest front may (λ more lends ok. front_lends g s more rest front lends ok) e
@@ -114,17 +130,20 @@ unless_ok : (o : Option ScriptRefused) (x y : Script) → unless o x ≡ Ok y �
 unless_ok None x y e = (refl, cc)
 unless_ok (Some w) x y e = cc
 
-with_events : (g : Grammar) (P : Script → Type 0) → OfChecked g P → (end : ℕ) (sizes : Sizes) (front : Front) (s : Script) → AreInLimits sizes → MayLend sizes front.lenders → text_events g end sizes front ≡ Ok s → P s
+with_events : (g : Grammar) (P : Script → Type 0) → OfChecked g P → (end : ℕ) (sizes : Sizes) (front : Front) (s : Script) → AreInLimits sizes
+    → MayLend sizes front.lenders → text_events g end sizes front ≡ Ok s → P s
 with_events g P holds end sizes front s within may e =
     let n = length front.lenders in
     let parts = unless_ok (first_fault g end sizes n front.lines nothing_above) (script_with g sizes front) s e in
     subst P parts.1 (holds end sizes front within may parts.0)
 
-with_front : (g : Grammar) (P : Script → Type 0) → OfChecked g P → (end : ℕ) (sizes : Sizes) (r : Result Front ScriptRefused) (s : Script) → AreInLimits sizes → ((front : Front) → r ≡ Ok front → MayLend sizes front.lenders) → (r >>= text_events g end sizes) ≡ Ok s → P s
+with_front : (g : Grammar) (P : Script → Type 0) → OfChecked g P → (end : ℕ) (sizes : Sizes) (r : Result Front ScriptRefused) (s : Script) → AreInLimits sizes
+    → ((front : Front) → r ≡ Ok front → MayLend sizes front.lenders) → (r >>= text_events g end sizes) ≡ Ok s → P s
 with_front g P holds end sizes (Err w) s within may e = cc
 with_front g P holds end sizes (Ok front) s within may e = with_events g P holds end sizes front s within (may front refl) e
 
-with_sizes : (g : Grammar) (P : Script → Type 0) → OfChecked g P → (end n : ℕ) (rest : List (ℕ × List ℕ)) (r : Result Sizes Why) (s : Script) → ((sizes : Sizes) → r ≡ Ok sizes → AreInLimits sizes) → (at n r >>= λ sizes. (front_from g sizes [] rest >>= text_events g end sizes)) ≡ Ok s → P s
+with_sizes : (g : Grammar) (P : Script → Type 0) → OfChecked g P → (end n : ℕ) (rest : List (ℕ × List ℕ)) (r : Result Sizes Why) (s : Script)
+    → ((sizes : Sizes) → r ≡ Ok sizes → AreInLimits sizes) → (at n r >>= λ sizes. (front_from g sizes [] rest >>= text_events g end sizes)) ≡ Ok s → P s
 with_sizes g P holds end n rest (Err w) s within e = cc
 with_sizes g P holds end n rest (Ok sizes) s within e =
     with_front g P holds end sizes (front_from g sizes [] rest) s (within sizes refl) (λ front ok. front_lends g sizes [] rest front (none_may_lend sizes) ok) e

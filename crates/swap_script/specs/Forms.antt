@@ -220,7 +220,8 @@ event_line (word ∷ words) = by_row event_rows word words
 abbrev pub call_line : Caller → List (List ℕ) → Option Line
 call_line caller [] = None
 call_line caller (word ∷ words) =
-    if is_word (codes "out") word then (two_words words >>= λ t. page_out caller t.0 t.1) else (if is_word (codes "in") word then (one_word words >>= page_in caller) else None)
+    if is_word (codes "out") word then (two_words words >>= λ t. page_out caller t.0 t.1) else
+    (if is_word (codes "in") word then (one_word words >>= page_in caller) else None)
 
 -- a line that begins with a caller is a call, and another one an operator's
 abbrev pub call_or_operator : Option Caller → List ℕ → List (List ℕ) → Option Line

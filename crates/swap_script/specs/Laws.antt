@@ -15,7 +15,8 @@ use Rattle.swap_script.specs.Transcript.{HasEntry, line}
 -- what holds of all texts of a grammar: their events name callers, pages and slabs that their sizes have, and lenders
 -- that they have
 abbrev pub AreInRange : Grammar → Type 0
-AreInRange g = (text : List ℕ) (s : Script) → reading g text ≡ Ok s → AllByRecursion (λ (i : Input). IsInRange s.sizes (length s.lenders) i.event) s.inputs
+AreInRange g = (text : List ℕ) (s : Script) → reading g text ≡ Ok s
+    → AllByRecursion (λ (i : Input). IsInRange s.sizes (length s.lenders) i.event) s.inputs
 
 -- a page-out hands in a page of this size
 abbrev pub HandsInAPage : Sizes → Event → List ℕ → Type 0
@@ -24,7 +25,8 @@ HandsInAPage s _ page = Unit {0}
 
 -- each of their page-outs hands in a whole page
 abbrev pub HandInPages : Grammar → Type 0
-HandInPages g = (text : List ℕ) (s : Script) → reading g text ≡ Ok s → AllByRecursion (λ (i : Input). HandsInAPage s.sizes i.event i.page) s.inputs
+HandInPages g = (text : List ℕ) (s : Script) → reading g text ≡ Ok s
+    → AllByRecursion (λ (i : Input). HandsInAPage s.sizes i.event i.page) s.inputs
 
 -- their lenders are within their limits
 abbrev pub HaveLenders : Grammar → Type 0
@@ -53,7 +55,8 @@ IsOfTrace None (event.Host lender used word) = Unit {0}
 IsOfTrace _ _ = ⊥
 
 abbrev pub HoldTraceEvents : Option ℕ → Type 0
-HoldTraceEvents tcp = (text : List ℕ) (s : Script) → reading (grammar.Trace tcp) text ≡ Ok s → AllByRecursion (λ (i : Input). IsOfTrace tcp i.event) s.inputs
+HoldTraceEvents tcp = (text : List ℕ) (s : Script) → reading (grammar.Trace tcp) text ≡ Ok s
+    → AllByRecursion (λ (i : Input). IsOfTrace tcp i.event) s.inputs
 
 -- an event's line stays what it is while the history grows
 abbrev pub LinesStay : Type 0

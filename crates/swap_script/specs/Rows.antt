@@ -166,14 +166,18 @@ FormRows =
 -- a trace with two lenders: two callers' lines among the operator's
 abbrev two_callers : List (List ℕ)
 two_callers =
-    G ∷ L ∷ L ∷ codes "connect 1" ∷ codes "0 out 3 aa" ∷ codes "# 0 in 9" ∷ codes "map 0 1" ∷ codes "1 in 3" ∷ codes "cut 1 2 3" ∷ codes "0 in 3" ∷ codes "crash 0" ∷ codes "connect 1" ∷ codes "host 1 7 4294967296" ∷ codes "round 9" ∷ []
+    G ∷ L ∷ L ∷ codes "connect 1" ∷ codes "0 out 3 aa" ∷ codes "# 0 in 9" ∷ codes "map 0 1" ∷ codes "1 in 3"
+    ∷ codes "cut 1 2 3" ∷ codes "0 in 3" ∷ codes "crash 0" ∷ codes "connect 1" ∷ codes "host 1 7 4294967296"
+    ∷ codes "round 9" ∷ []
 
 abbrev calls_of_0 : List Input
 calls_of_0 = record { event = page_out; page = replicate 8 170 } ∷ bare page_in ∷ []
 
 abbrev operators : List Input
 operators =
-    map bare (event.Connect (record { 0 = 1 }) ∷ event.Map (record { 0 = 0 }) (record { 0 = 1 }) ∷ event.Cut (record { 0 = 1 }) 2 3 ∷ event.Crash (record { 0 = 0 }) ∷ event.Connect (record { 0 = 1 }) ∷ event.Host (record { 0 = 1 }) 7 4_294_967_296 ∷ event.Round 9 ∷ [])
+    map bare (event.Connect (record { 0 = 1 }) ∷ event.Map (record { 0 = 0 }) (record { 0 = 1 })
+    ∷ event.Cut (record { 0 = 1 }) 2 3 ∷ event.Crash (record { 0 = 0 }) ∷ event.Connect (record { 0 = 1 })
+    ∷ event.Host (record { 0 = 1 }) 7 4_294_967_296 ∷ event.Round 9 ∷ [])
 
 abbrev part_is : Part → List Input → Type 0
 part_is p inputs = (reading (grammar.Trace None) (text two_callers) >>= λ s. Ok (part_of p s.inputs)) ≡ Ok inputs
@@ -190,7 +194,9 @@ TraceRefuses tcp bytes n w = reading (grammar.Trace tcp) bytes ≡ Err (record {
 abbrev pub TraceFaultRows : Type 0
 TraceFaultRows =
     TraceRefuses None (text (G ∷ L ∷ L ∷ L ∷ L ∷ L ∷ L ∷ L ∷ L ∷ L ∷ [])) 10 why.Lenders
-    × TraceRefuses None (text (codes "geometry 4096 65536 1 4 2 4 20" ∷ codes "lender 1 1 1" ∷ codes "lender 1 1 1" ∷ codes "lender 1 1 1" ∷ [])) 4 why.Lent
+    × TraceRefuses None
+    (text (codes "geometry 4096 65536 1 4 2 4 20" ∷ codes "lender 1 1 1" ∷ codes "lender 1 1 1"
+    ∷ codes "lender 1 1 1" ∷ [])) 4 why.Lent
     × TraceRefuses None (text (G ∷ L ∷ codes "out 0 3 aa" ∷ [])) 3 why.Form
     × TraceRefuses None (text (G ∷ L ∷ codes "start" ∷ [])) 3 why.Form
     × TraceRefuses None (text (G ∷ L ∷ codes "0 out 3" ∷ [])) 3 why.Form

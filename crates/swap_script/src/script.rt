@@ -94,7 +94,8 @@ impl<'t> Walk<'t> {
     fn next_line(&mut self) -> Option<Line<'t>>
         ensures sizes { self.new.sizes ≡ self.old.sizes }
         ensures lenders { self.new.lenders ≡ self.old.lenders }
-        ensures next { MatchOption result ((self.old.inputs ≡ []) × (self.new.inputs ≡ [])) (λ line. self.old.inputs ≡ input_of self.old.sizes (spelled line) ∷ self.new.inputs) }
+        ensures next { MatchOption result ((self.old.inputs ≡ []) × (self.new.inputs ≡ []))
+            (λ line. self.old.inputs ≡ input_of self.old.sizes (spelled line) ∷ self.new.inputs) }
         ensures reads { IfSome result (λ line. Reads self.old.sizes (length self.old.lenders) (Some (spelled line))) }
     {
         'looking: while let Some(kept) = self.place.next() {
@@ -248,8 +249,8 @@ fn front_of<'t>(
     Ok(Front { lenders, place })
 }
 
-/// The counts of lines that are all events', or the first of them at fault, where there are so many lenders. The lines are
-/// the last of a text.
+/// The counts of lines that are all events', or the first of them at fault, where there are so many
+/// lenders. The lines are the last of a text.
 fn checked_lines(
     grammar: Grammar,
     text: &[u8],
@@ -258,7 +259,8 @@ fn checked_lines(
     mut place: Place<'_>,
 ) -> Result<Counts, ScriptRefused>
     requires { length text.now ≤ TEXT_LIMIT }
-    ensures fault { MatchResult result (λ _. first_fault grammar (end_of text.now) geometry.now lenders place.entry nothing_above ≡ None) (λ refused. first_fault grammar (end_of text.now) geometry.now lenders place.entry nothing_above ≡ Some refused) }
+    ensures fault { let first = first_fault grammar (end_of text.now) geometry.now lenders place.entry nothing_above in
+        MatchResult result (λ _. first ≡ None) (λ refused. first ≡ Some refused) }
     ensures events { IfOk result (λ counts. counts.events ≡ length (inputs_of grammar geometry.now place.entry)) }
     ensures calls { IfOk result (λ counts. counts.calls ≡ calls_of (inputs_of grammar geometry.now place.entry)) }
     ensures within { IfOk result (λ counts. (counts.calls ≤ counts.events) × (counts.events ≤ 4_194_304)) }
@@ -300,7 +302,8 @@ fn read_events<'t>(
 ) -> Result<Script<'t>, ScriptRefused>
     requires text { length text.now ≤ TEXT_LIMIT }
     requires lenders { MayLend geometry lenders }
-    ensures { result ≡ text_events grammar (end_of text.now) geometry (record { lenders = lenders; lines = place.entry }) }
+    ensures { result ≡ text_events grammar (end_of text.now) geometry
+        (record { lenders = lenders; lines = place.entry }) }
 {
     match checked_lines(grammar, text, &geometry, lenders.count(), place.again()) {
         Ok(counts) => Ok(Script {
@@ -315,11 +318,13 @@ fn read_events<'t>(
     }
 }
 
-/// Reads a text of at most `TEXT_LIMIT` bytes by a grammar: a geometry line, lender lines, then the lines of events, where
-/// empty lines and those that begin with `#` are skipped. Else its first line at fault is named, with the first fault of
-/// that line; a text without a geometry line is refused at one more than its number of lines.
+/// Reads a text of at most `TEXT_LIMIT` bytes by a grammar: a geometry line, lender lines, then the
+/// lines of events, where empty lines and those that begin with `#` are skipped. Else its first line at
+/// fault is named, with the first fault of that line; a text without a geometry line is refused at one
+/// more than its number of lines.
 ///
-/// The text is checked whole, and no memory is taken: the script keeps the text and its counts, and a walk reads it again.
+/// The text is checked whole, and no memory is taken: the script keeps the text and its counts, and a
+/// walk reads it again.
 pub fn read_text<'t>(grammar: Grammar, text: &'t [u8]) -> Result<Script<'t>, ScriptRefused>
     requires { length text.now ≤ TEXT_LIMIT }
     ensures { result ≡ reading grammar text.now }

@@ -1,4 +1,4 @@
-//! What the machine runs today of a script. All of this goes once it runs every event and every lender.
+//! What the machine runs today of a script. All of this goes once it runs every event.
 ghost use Rattle.std.specs.Prelude.{◌≡◌, length};
 ghost use Rattle.swap_script.specs.Reading.{runs_today, lends_today};
 ghost use Rattle.swap_script.specs.Spelled.{above_of};

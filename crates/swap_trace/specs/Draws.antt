@@ -25,7 +25,13 @@ kind_of word = if word / 16_384 % 2 == 0 then kind.PageOut else kind.PageIn
 
 abbrev pub draw_of : ℕ → Draw
 draw_of word =
-    record { caller = record { 0 = word % 4 }; page = page_of word; kind = kind_of word; byte = word / 32_768 % 256; word = word }
+    record {
+      caller = record { 0 = word % 4 };
+      page = page_of word;
+      kind = kind_of word;
+      byte = word / 32_768 % 256;
+      word = word;
+    }
 
 -- the first so many draws of a generator
 abbrev pub draws : ℕ → Lcg → List Draw

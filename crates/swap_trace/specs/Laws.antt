@@ -32,8 +32,10 @@ abbrev pub IsWalked : Sizes → Event → Type 0
 IsWalked s e = ((c : Caller) × (c.0 < s.callers) × (is_call_of c e ≡ true)) ⊎ (is_operators e ≡ true)
 
 abbrev pub EachIsWalked : Type 0
-EachIsWalked = (tcp : Option ℕ) (text : List ℕ) (t : Script) → trace tcp text ≡ Ok t → AllByRecursion (λ (i : Input). IsWalked t.sizes i.event) t.inputs
+EachIsWalked = (tcp : Option ℕ) (text : List ℕ) (t : Script) → trace tcp text ≡ Ok t
+    → AllByRecursion (λ (i : Input). IsWalked t.sizes i.event) t.inputs
 
 -- a draw names one of 4 callers, and one of the 1,024 pages of 64 slabs
 abbrev pub DrawsAreInRange : Type 0
-DrawsAreInRange = (word : ℕ) → ((draw_of word).caller.0 < 4) × ((draw_of word).page.0 < 1_024) × ((draw_of word).byte < 256)
+DrawsAreInRange = (word : ℕ) → ((draw_of word).caller.0 < 4) × ((draw_of word).page.0 < 1_024)
+    × ((draw_of word).byte < 256)

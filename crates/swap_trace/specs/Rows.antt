@@ -6,7 +6,13 @@ use Rattle.swap_trace.specs.declared.draws.Draw.{Draw}
 use Rattle.swap_trace.specs.Draws.{draw_of, draws, seeded}
 
 abbrev drawn : ℕ → ℕ → CallKind → ℕ → ℕ → Draw
-drawn caller page kind byte word = record { caller = record { 0 = caller }; page = record { 0 = page }; kind = kind; byte = byte; word = word }
+drawn caller page kind byte word = record {
+  caller = record { 0 = caller };
+  page = record { 0 = page };
+  kind = kind;
+  byte = byte;
+  word = word;
+}
 
 -- by words, and the first draws of two numbers
 abbrev pub DrawRows : Type 0

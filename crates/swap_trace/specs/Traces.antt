@@ -1,5 +1,5 @@
--- A text as a trace, and its walks. A trace is read as a script is, line by line, with the lines of its own: a call's, which
--- begins with its caller, and an operator's.
+-- A text as a trace, and its walks. A trace is read as a script is, with lines of its own: a call's, which begins with
+-- its caller, and an operator's.
 use Rattle.std.specs.Prelude.{ℕ, List, Option, Result}
 use Rattle.swap_base.specs.declared.Caller.{Caller}
 use Rattle.swap_script.specs.declared.Grammar.TheVariants.{Trace}

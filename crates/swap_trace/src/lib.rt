@@ -1,4 +1,4 @@
-//! Traces: a text to each caller's calls and the operator's events. And the calls that a drill draws.
+//! Traces: a text to each caller's calls and the operator's events. And the calls of a drill.
 #![tactic(auto)]
 
 ghost use Rattle.swap_trace.specs.Laws.{AreInRange, HandInPages, HaveLenders, HoldTraceEvents, EachIsWalked, DrawsAreInRange};
@@ -11,8 +11,9 @@ pub use draws::{Draw, DrillDraws};
 use swap_script::traces_are_checked;
 pub use trace::{CallerWalk, Trace, read_trace};
 
-/// What holds of every trace: its events name what its sizes and lenders have, its page-outs hand in whole pages, its
-/// lenders may lend, and it holds calls and an operator's events alone, over TCP none that moves a far side.
+/// What holds of every trace: its events name what its sizes and lenders have, its page-outs hand in
+/// whole pages, its lenders may lend, and it holds calls and an operator's events alone, over TCP none
+/// that moves a far side.
 pub fn traces_are_whole()
     ensures range { AreInRange }
     ensures pages { HandInPages }
@@ -22,7 +23,7 @@ pub fn traces_are_whole()
     traces_are_checked();
 }
 
-/// Each event of a trace stands in a walk: in that of a caller that there is, or else in the operator's.
+/// Each event of a trace stands in a walk: in that of a caller, or else in the operator's.
 pub fn each_is_walked()
     ensures { EachIsWalked }
 {

@@ -25,7 +25,8 @@ walked s lenders (event.Crash l) range = inr refl
 walked s lenders (event.Host l u word) range = inr refl
 walked s lenders (event.Round word) range = inr refl
 
-all_walked : (s : Sizes) (lenders : ℕ) (inputs : List Input) → AllByRecursion (λ (i : Input). IsInRange s lenders i.event) inputs → AllByRecursion (λ (i : Input). IsWalked s i.event) inputs
+all_walked : (s : Sizes) (lenders : ℕ) (inputs : List Input) → AllByRecursion (λ (i : Input). IsInRange s lenders i.event) inputs
+    → AllByRecursion (λ (i : Input). IsWalked s i.event) inputs
 all_walked s lenders [] h = tt
 all_walked s lenders (i ∷ is) h = (walked s lenders i.event h.0, all_walked s lenders is h.1)
 

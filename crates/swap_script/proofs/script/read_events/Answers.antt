@@ -11,5 +11,14 @@ invariant_of-result c =
     let s = c.args.geometry in
     let n = length c.args.lenders in
     let end = end_of c.args.text.now in
-    let none = ap (λ p. first_fault g end s n p nothing_above) (sym c.again.ensures) ∙ ap (λ k. first_fault g end s k c.again.result nothing_above) (sym c.count.ensures.count) ∙ c.in-Ok.ensures.fault in
-    (all_read g end s n c.args.place nothing_above none, c.requires.lenders, c.in-Ok.ensures.calls ∙ ap (λ p. calls_of (inputs_of g s p)) c.again.ensures, c.in-Ok.ensures.events ∙ ap (λ p. length (inputs_of g s p)) c.again.ensures, c.in-Ok.ensures.within.0, c.in-Ok.ensures.within.1)
+    let none = ap (λ p. first_fault g end s n p nothing_above) (sym c.again.ensures)
+    ∙ ap (λ k. first_fault g end s k c.again.result nothing_above) (sym c.count.ensures.count) ∙ c.in-Ok.ensures.fault in (
+      all_read g end s n c.args.place nothing_above none,
+      c.requires.lenders,
+      c.in-Ok.ensures.calls
+          ∙ ap (λ p. calls_of (inputs_of g s p)) c.again.ensures,
+      c.in-Ok.ensures.events
+          ∙ ap (λ p. length (inputs_of g s p)) c.again.ensures,
+      c.in-Ok.ensures.within.0,
+      c.in-Ok.ensures.within.1,
+    )
