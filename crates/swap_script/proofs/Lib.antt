@@ -1,3 +1,6 @@
+pub mod Checked
+pub mod Held
+pub mod Parts
 pub mod Patterns
 pub mod Pieces
 pub mod Read

@@ -9,20 +9,25 @@ use Rattle.swap_base.specs.Sizes.{Sizes, pages_of, first_beyond}
 use Rattle.swap_wire.specs.Input.{Input, IsInRange}
 use Rattle.swap_wire.specs.declared.Event.{Event}
 use Rattle.swap_wire.specs.declared.Event.TheVariants as event
+use Rattle.swap_script.specs.declared.Grammar.{Grammar}
 use Rattle.swap_script.specs.declared.Why.{Why}
 use Rattle.swap_script.specs.declared.Why.TheVariants as why
 use Rattle.swap_script.specs.declared.ScriptRefused.{ScriptRefused}
 use Rattle.swap_script.specs.Lines.{words_of}
-use Rattle.swap_script.specs.Forms.{Line, event_line}
-use Rattle.swap_script.specs.Reading.{Above, may_connect, has_caller, has_page, has_slab, has_lender, has_pattern, tests, fault_of, fault_or, counted, first_fault, input_of, inputs_of, calls_of, calls_in, Reads, AllRead}
+use Rattle.swap_script.specs.Forms.{Line, line_of}
+use Rattle.swap_script.specs.Reading.{Above, may_run, are_addressed, is_within_reach, has_caller, has_page, has_slab, has_lender, has_pattern, tests, fault_of, fault_or, counted, first_fault, input_of, inputs_of, calls_of, calls_in, Reads, AllRead}
 
 -- where the first line is an event's and owes nothing
-pub first_fault-on : (s : Sizes) (lenders : ℕ) (above : Above) (n : ℕ) (text : List ℕ) (rest : List (ℕ × List ℕ)) (line : Line) → Some line ≡ event_line (words_of text) → None ≡ first_beyond (tests s lenders above line) → first_fault s lenders ((n, text) ∷ rest) above ≡ first_fault s lenders rest (counted above (Some line))
-first_fault-on s lenders above n text rest line is ok =
-    ap (λ o. fault_or n (fault_of s lenders above o) (first_fault s lenders rest (counted above o))) (sym is) ∙ ap (λ w. fault_or n w (first_fault s lenders rest (counted above (Some line)))) (sym ok)
+pub first_fault-on : (g : Grammar) (end : ℕ) (s : Sizes) (lenders : ℕ) (above : Above) (n : ℕ) (text : List ℕ) (rest : List (ℕ × List ℕ)) (line : Line)
+    → Some line ≡ line_of g (words_of text) → None ≡ first_beyond (tests g s lenders above line)
+    → first_fault g end s lenders ((n, text) ∷ rest) above ≡ first_fault g end s lenders rest (counted above (Some line))
+first_fault-on g end s lenders above n text rest line is ok =
+    ap (λ o. fault_or n (fault_of g s lenders above o) (first_fault g end s lenders rest (counted above o))) (sym is)
+    ∙ ap (λ w. fault_or n w (first_fault g end s lenders rest (counted above (Some line)))) (sym ok)
 
-pub inputs_of-on : (s : Sizes) (n : ℕ) (text : List ℕ) (rest : List (ℕ × List ℕ)) (line : Line) → Some line ≡ event_line (words_of text) → inputs_of s ((n, text) ∷ rest) ≡ input_of s line ∷ inputs_of s rest
-inputs_of-on s n text rest line is = ap (λ o. cons_option (option_map (input_of s) o) (inputs_of s rest)) (sym is)
+pub inputs_of-on : (g : Grammar) (s : Sizes) (n : ℕ) (text : List ℕ) (rest : List (ℕ × List ℕ)) (line : Line) → Some line ≡ line_of g (words_of text)
+    → inputs_of g s ((n, text) ∷ rest) ≡ input_of s line ∷ inputs_of g s rest
+inputs_of-on g s n text rest line is = ap (λ o. cons_option (option_map (input_of s) o) (inputs_of g s rest)) (sym is)
 
 pub calls_of-cons : (i : Input) (is : List Input) → calls_of (i ∷ is) ≡ calls_in i.event + calls_of is
 calls_of-cons i is = sum_by-cons (λ (j : Input). calls_in j.event) i is
@@ -52,34 +57,38 @@ in_range s n (event.Crash l) hc hp hs hl = below l.0 n hl
 in_range s n (event.Host l u word) hc hp hs hl = below l.0 n hl
 in_range s n (event.Round word) hc hp hs hl = tt
 
--- a line that owes nothing, and that isn't behind too many events
-pub owes_nothing : (s : Sizes) (lenders : ℕ) (above : Above) (line : Line) → first_beyond (tests s lenders above line) ≡ None → Reads s lenders (Some line) × (above.events < 4_194_304)
-owes_nothing s lenders above line e =
-    let owed = tests s lenders above line in
-    let form = passes why.Form (may_connect above line.event) (drop 1 owed) e in
-    let caller = passes why.Caller (has_caller s line.event) (drop 2 owed) form.1 in
-    let page = passes why.Page (has_page s line.event) (drop 3 owed) caller.1 in
-    let slab = passes why.Slab (has_slab s line.event) (drop 4 owed) page.1 in
-    let lender = passes why.Lender (has_lender lenders line.event) (drop 5 owed) slab.1 in
-    let pattern = passes why.Pattern (has_pattern s line) (drop 6 owed) lender.1 in
-    let calls = passes why.Calls (nat_le ((above.calls + calls_in line.event) * s.page_bytes) 1_073_741_824) (drop 7 owed) pattern.1 in
-    let events = passes why.Events (nat_lt above.events 4_194_304) [] calls.1 in
-    ((in_range s lenders line.event caller.0 page.0 slab.0 lender.0, pattern.0), below above.events 4_194_304 events.0)
+-- a line that owes nothing reads, isn't behind too many events, and is within reach
+pub owes_nothing : (g : Grammar) (s : Sizes) (lenders : ℕ) (above : Above) (line : Line) → first_beyond (tests g s lenders above line) ≡ None
+    → Reads s lenders (Some line) × (above.events < 4_194_304) × (is_within_reach g line.event ≡ true)
+owes_nothing g s lenders above line e =
+    let owed = tests g s lenders above line in
+    let form = passes why.Form (may_run g above line.event) (drop 1 owed) e in
+    let addressed = passes why.Lenders (are_addressed g lenders) (drop 2 owed) form.1 in
+    let caller = passes why.Caller (has_caller s line.event) (drop 3 owed) addressed.1 in
+    let page = passes why.Page (has_page s line.event) (drop 4 owed) caller.1 in
+    let slab = passes why.Slab (has_slab s line.event) (drop 5 owed) page.1 in
+    let lender = passes why.Lender (has_lender lenders line.event) (drop 6 owed) slab.1 in
+    let pattern = passes why.Pattern (has_pattern s line) (drop 7 owed) lender.1 in
+    let calls = passes why.Calls (nat_le ((above.calls + calls_in line.event) * s.page_bytes) 1_073_741_824) (drop 8 owed) pattern.1 in
+    let events = passes why.Events (nat_lt above.events 4_194_304) (drop 9 owed) calls.1 in
+    let near = passes why.Tcp (is_within_reach g line.event) [] events.1 in
+    ((in_range s lenders line.event caller.0 page.0 slab.0 lender.0, pattern.0), below above.events 4_194_304 events.0, near.0)
 
-reads : (s : Sizes) (lenders : ℕ) (above : Above) (o : Option Line) → fault_of s lenders above o ≡ None → Reads s lenders o
-reads s lenders above None e = cc
-reads s lenders above (Some line) e = (owes_nothing s lenders above line e).0
+reads : (g : Grammar) (s : Sizes) (lenders : ℕ) (above : Above) (o : Option Line) → fault_of g s lenders above o ≡ None → Reads s lenders o
+reads g s lenders above None e = cc
+reads g s lenders above (Some line) e = (owes_nothing g s lenders above line e).0
 
-none_or : (n : ℕ) (o : Option Why) (later : Option ScriptRefused) → fault_or n o later ≡ None → (o ≡ None) × (later ≡ None)
+pub none_or : (n : ℕ) (o : Option Why) (later : Option ScriptRefused) → fault_or n o later ≡ None → (o ≡ None) × (later ≡ None)
 none_or n None later e = (refl, e)
 none_or n (Some w) later e = cc
 
-pub all_read : (s : Sizes) (lenders : ℕ) (lines : List (ℕ × List ℕ)) (above : Above) → first_fault s lenders lines above ≡ None → AllRead s lenders lines
-all_read s lenders [] above e = tt
-all_read s lenders ((n, text) ∷ rest) above e =
-    let line = event_line (words_of text) in
-    let parts = none_or n (fault_of s lenders above line) (first_fault s lenders rest (counted above line)) e in
-    (reads s lenders above line parts.0, all_read s lenders rest (counted above line) parts.1)
+pub all_read : (g : Grammar) (end : ℕ) (s : Sizes) (lenders : ℕ) (lines : List (ℕ × List ℕ)) (above : Above) → first_fault g end s lenders lines above ≡ None
+    → AllRead g s lenders lines
+all_read g end s lenders [] above e = tt
+all_read g end s lenders ((n, text) ∷ rest) above e =
+    let line = line_of g (words_of text) in
+    let parts = none_or n (fault_of g s lenders above line) (first_fault g end s lenders rest (counted above line)) e in
+    (reads g s lenders above line parts.0, all_read g end s lenders rest (counted above line) parts.1)
 
 pub calls_in-le : (e : Event) → calls_in e ≤ 1
 calls_in-le (event.PageOut c p) = omega arith

@@ -1,4 +1,4 @@
--- The forms of the lines that are built: their words, and what they give. A line of no form gives nothing.
+-- The forms of lines: their words, and what they give. A line of no form gives nothing.
 use Rattle.std.specs.Prelude.{ℕ, ◌^◌, Bool, true, false, nat_lt, if◌then◌else◌, List, [], ◌∷◌, Option, None, Some, option_and_then, is_some, codes}
 use Rattle.swap_base.specs.declared.Page.{Page}
 use Rattle.swap_base.specs.declared.Caller.{Caller}
@@ -11,6 +11,8 @@ use Rattle.swap_base.specs.Sizes.{Sizes}
 use Rattle.swap_io.specs.Words.{number, piece_of}
 use Rattle.swap_wire.specs.declared.Event.{Event}
 use Rattle.swap_wire.specs.declared.Event.TheVariants as event
+use Rattle.swap_script.specs.declared.Grammar.{Grammar}
+use Rattle.swap_script.specs.declared.Grammar.TheVariants as grammar
 use Rattle.swap_script.specs.Lines.{is_word}
 
 infixl 10 ◌>>=◌
@@ -80,21 +82,28 @@ abbrev pub which_words : List ℕ → List ℕ → Option DiskWhich
 which_words what n =
     if is_word (codes "write") what then (page_word n >>= λ page. Some (which.Write page)) else (if is_word (codes "read") what then (caller_word n >>= λ caller. Some (which.Read caller)) else None)
 
+-- a page-out and a page-in of a caller, by the words of the page
+abbrev pub page_out : Caller → List ℕ → List ℕ → Option Line
+page_out caller p h = do
+  page ← page_word p
+  hex ← hex_word h
+  Some (record { event = event.PageOut caller page; hex = hex })
+
+abbrev pub page_in : Caller → List ℕ → Option Line
+page_in caller p = page_word p >>= λ page. plain (event.PageIn caller page)
+
 -- the forms of an event line, by its first word
 abbrev pub out_line : List (List ℕ) → Option Line
 out_line words = do
   (c, p, h) ← three_words words
   caller ← caller_word c
-  page ← page_word p
-  hex ← hex_word h
-  Some (record { event = event.PageOut caller page; hex = hex })
+  page_out caller p h
 
 abbrev pub in_line : List (List ℕ) → Option Line
 in_line words = do
   (c, p) ← two_words words
   caller ← caller_word c
-  page ← page_word p
-  plain (event.PageIn caller page)
+  page_in caller p
 
 abbrev pub finish_line : List (List ℕ) → Option Line
 finish_line words = do
@@ -135,6 +144,38 @@ give_line words = lender_event event.Give words
 abbrev pub take_line : List (List ℕ) → Option Line
 take_line words = lender_event event.Take words
 
+abbrev pub crash_line : List (List ℕ) → Option Line
+crash_line words = lender_event event.Crash words
+
+abbrev pub cut_line : List (List ℕ) → Option Line
+cut_line words = do
+  (l, a, b) ← three_words words
+  lender ← lender_word l
+  to_lender ← small a
+  to_device ← small b
+  plain (event.Cut lender to_lender to_device)
+
+abbrev pub host_line : List (List ℕ) → Option Line
+host_line words = do
+  (l, u, w) ← three_words words
+  lender ← lender_word l
+  used ← small u
+  word ← number w
+  plain (event.Host lender used word)
+
+-- an event that has a word alone, which is a number below 2 ^ 64
+abbrev pub word_event : (ℕ → Event) → List (List ℕ) → Option Line
+word_event of words = do
+  w ← one_word words
+  word ← number w
+  plain (of word)
+
+abbrev pub tick_line : List (List ℕ) → Option Line
+tick_line words = word_event event.Tick words
+
+abbrev pub round_line : List (List ℕ) → Option Line
+round_line words = word_event event.Round words
+
 -- a form by its first word, and what its other words give
 pub record Row : Type 0 where
   pub word : List ℕ
@@ -143,6 +184,17 @@ pub record Row : Type 0 where
 abbrev pub row : List ℕ → (List (List ℕ) → Option Line) → Row
 row word reads = record { word = word; reads = reads }
 
+-- the lines that an operator may have in a trace too
+abbrev pub operator_rows : List Row
+operator_rows =
+    row (codes "map") map_line
+    ∷ row (codes "connect") connect_line
+    ∷ row (codes "cut") cut_line
+    ∷ row (codes "crash") crash_line
+    ∷ row (codes "host") host_line
+    ∷ row (codes "round") round_line
+    ∷ []
+
 abbrev pub event_rows : List Row
 event_rows =
     row (codes "out") out_line
@@ -150,20 +202,40 @@ event_rows =
     ∷ row (codes "finish") finish_line
     ∷ row (codes "start") start_line
     ∷ row (codes "disk") disk_line
-    ∷ row (codes "map") map_line
-    ∷ row (codes "connect") connect_line
+    ∷ row (codes "tick") tick_line
     ∷ row (codes "give") give_line
     ∷ row (codes "take") take_line
-    ∷ []
+    ∷ operator_rows
 
 abbrev pub by_row : List Row → List ℕ → List (List ℕ) → Option Line
 by_row [] word words = None
 by_row (r ∷ rows) word words = if is_word r.word word then r.reads words else by_row rows word words
 
--- the event of a line, by its words
+-- the event of a script's line, by its words
 abbrev pub event_line : List (List ℕ) → Option Line
 event_line [] = None
 event_line (word ∷ words) = by_row event_rows word words
+
+-- a call of a trace, by the words behind its caller
+abbrev pub call_line : Caller → List (List ℕ) → Option Line
+call_line caller [] = None
+call_line caller (word ∷ words) =
+    if is_word (codes "out") word then (two_words words >>= λ t. page_out caller t.0 t.1) else
+    (if is_word (codes "in") word then (one_word words >>= page_in caller) else None)
+
+-- a line that begins with a caller is a call, and another one an operator's
+abbrev pub call_or_operator : Option Caller → List ℕ → List (List ℕ) → Option Line
+call_or_operator (Some caller) word words = call_line caller words
+call_or_operator None word words = by_row operator_rows word words
+
+-- the event of a trace's line, by its words
+abbrev pub trace_line : List (List ℕ) → Option Line
+trace_line [] = None
+trace_line (word ∷ words) = call_or_operator (caller_word word) word words
+
+abbrev pub line_of : Grammar → List (List ℕ) → Option Line
+line_of grammar.Script words = event_line words
+line_of (grammar.Trace tcp) words = trace_line words
 
 -- the seven numbers of a geometry line
 abbrev pub sizes_words : List (List ℕ) → Option Sizes

@@ -1,5 +1,5 @@
 -- Texts by hand: what they are as scripts, or their first fault, and lines as they are printed.
-use Rattle.std.specs.Prelude.{◌≡◌, ℕ, true, false, List, [], ◌∷◌, ◌++◌, map, flat_map, replicate, codes, None, Some, Ok, Err}
+use Rattle.std.specs.Prelude.{◌≡◌, ℕ, true, false, List, [], ◌∷◌, ◌++◌, map, flat_map, replicate, codes, Option, None, Some, Ok, Err}
 use Rattle.swap_base.specs.declared.DiskWhich.TheVariants as which
 use Rattle.swap_base.specs.declared.Field.TheVariants.{PageBytes, Slots, Headroom, Extra}
 use Rattle.swap_base.specs.declared.Origin.TheVariants as origin
@@ -16,8 +16,12 @@ use Rattle.swap_record.specs.declared.Op.TheVariants as op
 use Rattle.swap_record.specs.History.{History, pushed}
 use Rattle.swap_script.specs.declared.Why.{Why}
 use Rattle.swap_script.specs.declared.Why.TheVariants as why
-use Rattle.swap_script.specs.Lines.{ended}
-use Rattle.swap_script.specs.Reading.{script}
+use Rattle.swap_script.specs.declared.Grammar.TheVariants as grammar
+use Rattle.swap_script.specs.declared.Part.{Part}
+use Rattle.swap_script.specs.declared.Part.TheVariants as part
+use Rattle.swap_script.specs.Lines.{ended, words_of}
+use Rattle.swap_script.specs.Forms.{event_line, plain}
+use Rattle.swap_script.specs.Reading.{script, reading, part_of, ◌>>=◌}
 use Rattle.swap_script.specs.Transcript.{header, lender_header, line, end_line, transcript, refusal}
 
 abbrev text : List (List ℕ) → List ℕ
@@ -138,6 +142,71 @@ LenderFaultRows =
     × Refuses (text (G ∷ L ∷ codes "connect 0" ∷ codes "connect 0" ∷ [])) 4 why.Form
     × Refuses (text (G ∷ L ∷ codes "connect 0" ∷ codes "connect 1" ∷ [])) 4 why.Form
     × Refuses (text (G ∷ L ∷ codes "tick 0" ∷ [])) 3 why.Form
+
+-- forms that the machine doesn't run yet, and those of a number that is too wide
+abbrev IsForm : List ℕ → Event → Type 0
+IsForm bytes e = event_line (words_of bytes) ≡ plain e
+
+abbrev IsNoForm : List ℕ → Type 0
+IsNoForm bytes = event_line (words_of bytes) ≡ None
+
+abbrev pub FormRows : Type 0
+FormRows =
+    IsForm (codes "tick 18446744073709551615") (event.Tick 18_446_744_073_709_551_615)
+    × IsForm (codes "cut 1 2 4294967295") (event.Cut (record { 0 = 1 }) 2 4_294_967_295)
+    × IsForm (codes "crash 7") (event.Crash (record { 0 = 7 }))
+    × IsForm (codes "host 0 12 4294967296") (event.Host (record { 0 = 0 }) 12 4_294_967_296)
+    × IsForm (codes "round 5") (event.Round 5)
+    × IsNoForm (codes "tick 18446744073709551616")
+    × IsNoForm (codes "cut 1 2 4294967296")
+    × IsNoForm (codes "host 0 4294967296 12")
+    × IsNoForm (codes "host 0 12")
+    × IsNoForm (codes "round 05")
+
+-- a trace with two lenders: two callers' lines among the operator's
+abbrev two_callers : List (List ℕ)
+two_callers =
+    G ∷ L ∷ L ∷ codes "connect 1" ∷ codes "0 out 3 aa" ∷ codes "# 0 in 9" ∷ codes "map 0 1" ∷ codes "1 in 3"
+    ∷ codes "cut 1 2 3" ∷ codes "0 in 3" ∷ codes "crash 0" ∷ codes "connect 1" ∷ codes "host 1 7 4294967296"
+    ∷ codes "round 9" ∷ []
+
+abbrev calls_of_0 : List Input
+calls_of_0 = record { event = page_out; page = replicate 8 170 } ∷ bare page_in ∷ []
+
+abbrev operators : List Input
+operators =
+    map bare (event.Connect (record { 0 = 1 }) ∷ event.Map (record { 0 = 0 }) (record { 0 = 1 })
+    ∷ event.Cut (record { 0 = 1 }) 2 3 ∷ event.Crash (record { 0 = 0 }) ∷ event.Connect (record { 0 = 1 })
+    ∷ event.Host (record { 0 = 1 }) 7 4_294_967_296 ∷ event.Round 9 ∷ [])
+
+abbrev part_is : Part → List Input → Type 0
+part_is p inputs = (reading (grammar.Trace None) (text two_callers) >>= λ s. Ok (part_of p s.inputs)) ≡ Ok inputs
+
+abbrev pub TraceRows : Type 0
+TraceRows =
+    part_is (part.CallsOf (record { 0 = 0 })) calls_of_0
+    × part_is (part.CallsOf (record { 0 = 1 })) (bare (event.PageIn (record { 0 = 1 }) (record { 0 = 3 })) ∷ [])
+    × part_is part.Operator operators
+
+abbrev TraceRefuses : Option ℕ → List ℕ → ℕ → Why → Type 0
+TraceRefuses tcp bytes n w = reading (grammar.Trace tcp) bytes ≡ Err (record { line = n; why = w })
+
+abbrev pub TraceFaultRows : Type 0
+TraceFaultRows =
+    TraceRefuses None (text (G ∷ L ∷ L ∷ L ∷ L ∷ L ∷ L ∷ L ∷ L ∷ L ∷ [])) 10 why.Lenders
+    × TraceRefuses None
+    (text (codes "geometry 4096 65536 1 4 2 4 20" ∷ codes "lender 1 1 1" ∷ codes "lender 1 1 1"
+    ∷ codes "lender 1 1 1" ∷ [])) 4 why.Lent
+    × TraceRefuses None (text (G ∷ L ∷ codes "out 0 3 aa" ∷ [])) 3 why.Form
+    × TraceRefuses None (text (G ∷ L ∷ codes "start" ∷ [])) 3 why.Form
+    × TraceRefuses None (text (G ∷ L ∷ codes "0 out 3" ∷ [])) 3 why.Form
+    × TraceRefuses None (text (G ∷ L ∷ codes "2 in 8" ∷ [])) 3 why.Caller
+    × TraceRefuses None (text (G ∷ L ∷ codes "crash 1" ∷ [])) 3 why.Lender
+    × TraceRefuses (Some 2) (text (G ∷ L ∷ codes "5 in 9" ∷ [])) 3 why.Lenders
+    × TraceRefuses (Some 2) (text (G ∷ L ∷ codes "0 in" ∷ [])) 3 why.Form
+    × TraceRefuses (Some 2) (text (G ∷ L ∷ codes "# end" ∷ [])) 4 why.Lenders
+    × TraceRefuses (Some 1) (text (G ∷ L ∷ codes "host 0 1 2" ∷ [])) 3 why.Tcp
+    × TraceRefuses (Some 1) (text (G ∷ L ∷ codes "cut 1 0 0" ∷ [])) 3 why.Lender
 
 abbrev one_page_out : History
 one_page_out = pushed [] (record { 0 = 0 }) (record { 0 = 3 }) op.PageOut (replicate 8 170)

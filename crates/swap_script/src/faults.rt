@@ -3,11 +3,12 @@ ghost use Rattle.std.specs.Prelude.{◌≡◌, ℕ, ◌+◌, ◌<◌, ◌≤◌,
 ghost use Rattle.std.specs.List.{list_any};
 ghost use Rattle.swap_base.specs.Sizes.{first_beyond};
 ghost use Rattle.swap_io.specs.Words.{pattern, piece_of, lengths};
-ghost use Rattle.swap_script.specs.Reading.{caller_of, page_of, mapped_slab, lender_of, is_connect, is_out, calls_in, may_connect, has_caller, has_page, has_slab, has_lender, tests};
+ghost use Rattle.swap_script.specs.Reading.{caller_of, page_of, mapped_slab, lender_of, is_connect, is_out, is_far, calls_in, may_run, are_addressed, is_within_reach, has_caller, has_page, has_slab, has_lender, tests};
 ghost use Rattle.swap_script.specs.Spelled.{spelled, above_of};
 
-use super::Why;
 use super::forms::Line;
+use super::today::runs_today;
+use super::{Grammar, Why};
 use swap_base::{Caller, DiskWhich, Geometry, Lender, Page, Slab};
 use swap_wire::Event;
 
@@ -88,6 +89,45 @@ pub fn is_out(event: Event) -> bool
     matches!(event, Event::PageOut { .. })
 }
 
+fn is_far(event: Event) -> bool
+    ensures { result ≡ is_far event }
+{
+    matches!(
+        event,
+        Event::Cut { .. } | Event::Crash { .. } | Event::Host { .. }
+    )
+}
+
+fn may_run(grammar: Grammar, above: Counts, event: Event) -> bool
+    ensures { result ≡ may_run grammar (above_of above) event }
+{
+    match grammar {
+        Grammar::Script => runs_today(above, event),
+        Grammar::Trace { .. } => true,
+    }
+}
+
+/// Whether so many lenders are as many as the addresses, where there are some.
+pub fn are_addressed(grammar: Grammar, lenders: u32) -> bool
+    ensures { result ≡ are_addressed grammar lenders }
+{
+    match grammar {
+        Grammar::Trace {
+            tcp: Some(addresses),
+        } => lenders == addresses,
+        _ => true,
+    }
+}
+
+fn is_within_reach(grammar: Grammar, event: Event) -> bool
+    ensures { result ≡ is_within_reach grammar event }
+{
+    match grammar {
+        Grammar::Trace { tcp: Some(_) } => !is_far(event),
+        _ => true,
+    }
+}
+
 fn calls_in(event: Event) -> u32
     ensures { result ≡ calls_in event }
 {
@@ -153,14 +193,23 @@ fn is_pattern(hex: &[u8], page_bytes: u32) -> bool
 }
 
 /// The first fault of a line that has a form, where there are so many lenders.
-pub fn fault_of(geometry: &Geometry, lenders: u32, above: Counts, line: Line<'_>) -> Option<Why>
+pub fn fault_of(
+    grammar: Grammar,
+    geometry: &Geometry,
+    lenders: u32,
+    above: Counts,
+    line: Line<'_>,
+) -> Option<Why>
     requires counts { above.calls ≤ above.events }
     requires within { above.events ≤ EVENT_LIMIT }
     requires hex { is_out line.event ≡ true → is_some (piece_of line.hex.now) ≡ true }
-    ensures { result ≡ first_beyond (tests geometry.now lenders (above_of above) (spelled line.entry)) }
+    ensures { result ≡ first_beyond (tests grammar geometry.now lenders (above_of above) (spelled line.entry)) }
 {
-    if above.connected && is_connect(line.event) {
+    if !may_run(grammar, above, line.event) {
         return Some(Why::Form);
+    }
+    if !are_addressed(grammar, lenders) {
+        return Some(Why::Lenders);
     }
     if !has_caller(geometry, line.event) {
         return Some(Why::Caller);
@@ -183,6 +232,9 @@ pub fn fault_of(geometry: &Geometry, lenders: u32, above: Counts, line: Line<'_>
     }
     if above.events >= EVENT_LIMIT {
         return Some(Why::Events);
+    }
+    if !is_within_reach(grammar, line.event) {
+        return Some(Why::Tcp);
     }
     None
 }

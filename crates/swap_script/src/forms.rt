@@ -3,12 +3,12 @@ ghost use Rattle.std.specs.Prelude.{◌≡◌, true, false, IfSome, is_some};
 ghost use Rattle.std.specs.Option.{option_map};
 ghost use Rattle.swap_io.specs.Words.{piece_of};
 ghost use Rattle.swap_script.specs.Lines.{words_of, is_word};
-ghost use Rattle.swap_script.specs.Forms.{small, caller_word, page_word, slab_word, lender_word, ok_word, which_words, out_line, in_line, finish_line, start_line, disk_line, map_line, connect_line, give_line, take_line, event_line, sizes_words};
+ghost use Rattle.swap_script.specs.Forms.{small, caller_word, page_word, slab_word, lender_word, ok_word, which_words, page_out, page_in, out_line, in_line, finish_line, start_line, disk_line, map_line, connect_line, give_line, take_line, crash_line, cut_line, host_line, tick_line, round_line, by_row, operator_rows, call_line, event_line, trace_line, line_of, sizes_words};
 ghost use Rattle.swap_script.specs.Reading.{geometry_line, within, is_out};
-ghost use Rattle.swap_script.specs.Spelled.{spelled, as_within};
+ghost use Rattle.swap_script.specs.Spelled.{spelled, as_within, first_caller, is_caller};
 
-use super::Why;
 use super::text::Words;
+use super::{Grammar, Why};
 use swap_base::{Caller, DiskWhich, FieldRefused, Geometry, Lender, Page, Slab};
 use swap_io::{is_hex, number};
 use swap_wire::Event;
@@ -78,12 +78,10 @@ fn which_words(what: &[u8], n: &[u8]) -> Option<DiskWhich>
     }
 }
 
-fn out_line<'t>(words: Words<'t>) -> Option<Line<'t>>
-    ensures line { option_map spelled result ≡ out_line words.entry }
+fn page_out<'t>(caller: Caller, p: &'t [u8], hex: &'t [u8]) -> Option<Line<'t>>
+    ensures line { option_map spelled result ≡ page_out caller p.now hex.now }
     ensures hex { IfSome result (λ line. is_some (piece_of line.hex.now) ≡ true) }
 {
-    let (c, p, hex) = words.three()?;
-    let caller = caller_word(c)?;
     let page = page_word(p)?;
     if !is_hex(hex) {
         return None;
@@ -92,15 +90,29 @@ fn out_line<'t>(words: Words<'t>) -> Option<Line<'t>>
     Some(Line { event, hex })
 }
 
+fn page_in<'t>(caller: Caller, p: &'t [u8]) -> Option<Line<'t>>
+    ensures line { option_map spelled result ≡ page_in caller p.now }
+    ensures plain { IfSome result (λ line. is_out line.event ≡ false) }
+{
+    let page = page_word(p)?;
+    let event = Event::PageIn { caller, page };
+    Some(Line { event, hex: &[] })
+}
+
+fn out_line<'t>(words: Words<'t>) -> Option<Line<'t>>
+    ensures line { option_map spelled result ≡ out_line words.entry }
+    ensures hex { IfSome result (λ line. is_some (piece_of line.hex.now) ≡ true) }
+{
+    let (c, p, hex) = words.three()?;
+    page_out(caller_word(c)?, p, hex)
+}
+
 fn in_line<'t>(words: Words<'t>) -> Option<Line<'t>>
     ensures line { option_map spelled result ≡ in_line words.entry }
     ensures plain { IfSome result (λ line. is_out line.event ≡ false) }
 {
     let (c, p) = words.two()?;
-    let caller = caller_word(c)?;
-    let page = page_word(p)?;
-    let event = Event::PageIn { caller, page };
-    Some(Line { event, hex: &[] })
+    page_in(caller_word(c)?, p)
 }
 
 fn finish_line<'t>(words: Words<'t>) -> Option<Line<'t>>
@@ -172,8 +184,101 @@ fn take_line<'t>(words: Words<'t>) -> Option<Line<'t>>
     Some(Line { event, hex: &[] })
 }
 
-/// The event of a line, if the line has the form of one.
-pub fn event_line<'t>(line: &'t [u8]) -> Option<Line<'t>>
+fn crash_line<'t>(words: Words<'t>) -> Option<Line<'t>>
+    ensures line { option_map spelled result ≡ crash_line words.entry }
+    ensures plain { IfSome result (λ line. is_out line.event ≡ false) }
+{
+    let lender = lender_word(words.one()?)?;
+    let event = Event::Crash { lender };
+    Some(Line { event, hex: &[] })
+}
+
+fn cut_line<'t>(words: Words<'t>) -> Option<Line<'t>>
+    ensures line { option_map spelled result ≡ cut_line words.entry }
+    ensures plain { IfSome result (λ line. is_out line.event ≡ false) }
+{
+    let (l, a, b) = words.three()?;
+    let lender = lender_word(l)?;
+    let to_lender = small(a)?;
+    let to_device = small(b)?;
+    let event = Event::Cut {
+        lender,
+        to_lender,
+        to_device,
+    };
+    Some(Line { event, hex: &[] })
+}
+
+fn host_line<'t>(words: Words<'t>) -> Option<Line<'t>>
+    ensures line { option_map spelled result ≡ host_line words.entry }
+    ensures plain { IfSome result (λ line. is_out line.event ≡ false) }
+{
+    let (l, u, w) = words.three()?;
+    let lender = lender_word(l)?;
+    let used = small(u)?;
+    let word = number(w)?;
+    let event = Event::Host { lender, used, word };
+    Some(Line { event, hex: &[] })
+}
+
+fn tick_line<'t>(words: Words<'t>) -> Option<Line<'t>>
+    ensures line { option_map spelled result ≡ tick_line words.entry }
+    ensures plain { IfSome result (λ line. is_out line.event ≡ false) }
+{
+    let word = number(words.one()?)?;
+    let event = Event::Tick { word };
+    Some(Line { event, hex: &[] })
+}
+
+fn round_line<'t>(words: Words<'t>) -> Option<Line<'t>>
+    ensures line { option_map spelled result ≡ round_line words.entry }
+    ensures plain { IfSome result (λ line. is_out line.event ≡ false) }
+{
+    let word = number(words.one()?)?;
+    let event = Event::Round { word };
+    Some(Line { event, hex: &[] })
+}
+
+/// An operator's line, by its first word and the others.
+fn operator_line<'t>(first: &[u8], words: Words<'t>) -> Option<Line<'t>>
+    ensures line { option_map spelled result ≡ by_row operator_rows first.now words.entry }
+    ensures plain { IfSome result (λ line. is_out line.event ≡ false) }
+{
+    if is_word(first, b"map") {
+        map_line(words)
+    } else if is_word(first, b"connect") {
+        connect_line(words)
+    } else if is_word(first, b"cut") {
+        cut_line(words)
+    } else if is_word(first, b"crash") {
+        crash_line(words)
+    } else if is_word(first, b"host") {
+        host_line(words)
+    } else if is_word(first, b"round") {
+        round_line(words)
+    } else {
+        None
+    }
+}
+
+/// A call of a trace, by the words behind its caller.
+fn call_line<'t>(caller: Caller, mut words: Words<'t>) -> Option<Line<'t>>
+    ensures line { option_map spelled result ≡ call_line caller words.entry }
+    ensures hex { IfSome result (λ line. is_out line.event ≡ true → is_some (piece_of line.hex.now) ≡ true) }
+{
+    let kind = words.next()?;
+    if is_word(kind, b"out") {
+        let (p, hex) = words.two()?;
+        page_out(caller, p, hex)
+    } else if is_word(kind, b"in") {
+        page_in(caller, words.one()?)
+    } else {
+        None
+    }
+}
+
+/// The event of a script's line, if the line has the form of one.
+fn event_line<'t>(line: &'t [u8]) -> Option<Line<'t>>
     ensures line { option_map spelled result ≡ event_line (words_of line.now) }
     ensures hex { IfSome result (λ line. is_out line.event ≡ true → is_some (piece_of line.hex.now) ≡ true) }
 {
@@ -189,16 +294,58 @@ pub fn event_line<'t>(line: &'t [u8]) -> Option<Line<'t>>
         start_line(words)
     } else if is_word(first, b"disk") {
         disk_line(words)
-    } else if is_word(first, b"map") {
-        map_line(words)
-    } else if is_word(first, b"connect") {
-        connect_line(words)
+    } else if is_word(first, b"tick") {
+        tick_line(words)
     } else if is_word(first, b"give") {
         give_line(words)
     } else if is_word(first, b"take") {
         take_line(words)
     } else {
-        None
+        operator_line(first, words)
+    }
+}
+
+/// The event of a trace's line, if the line has the form of one.
+fn trace_line<'t>(line: &'t [u8]) -> Option<Line<'t>>
+    ensures line { option_map spelled result ≡ trace_line (words_of line.now) }
+    ensures hex { IfSome result (λ line. is_out line.event ≡ true → is_some (piece_of line.hex.now) ≡ true) }
+{
+    let mut words = Words::of(line);
+    let first = words.next()?;
+    match caller_word(first) {
+        Some(caller) => call_line(caller, words),
+        None => operator_line(first, words),
+    }
+}
+
+/// The event of a line, if the line has the form of one.
+pub fn line_of<'t>(grammar: Grammar, line: &'t [u8]) -> Option<Line<'t>>
+    ensures line { option_map spelled result ≡ line_of grammar (words_of line.now) }
+    ensures hex { IfSome result (λ line. is_out line.event ≡ true → is_some (piece_of line.hex.now) ≡ true) }
+{
+    match grammar {
+        Grammar::Script => event_line(line),
+        Grammar::Trace { .. } => trace_line(line),
+    }
+}
+
+/// Whether a trace's line begins with a caller, as a call does.
+pub fn is_call(line: &[u8]) -> bool
+    ensures { result ≡ is_some (first_caller (words_of line.now)) }
+{
+    match Words::of(line).next() {
+        Some(word) => caller_word(word).is_some(),
+        None => false,
+    }
+}
+
+/// Whether a trace's line begins with this caller.
+pub fn begins_with(caller: Caller, line: &[u8]) -> bool
+    ensures { result ≡ is_caller caller (first_caller (words_of line.now)) }
+{
+    match Words::of(line).next() {
+        Some(word) => matches!(caller_word(word), Some(first) if first.0 == caller.0),
+        None => false,
     }
 }
 

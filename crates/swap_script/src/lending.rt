@@ -1,14 +1,17 @@
-//! The lender line of a text.
-ghost use Rattle.std.specs.Prelude.{◌≡◌, [], ◌∷◌, IfOk};
+//! The lender lines of a text.
+ghost use Rattle.std.specs.Prelude.{◌≡◌, ◌<◌, ◌≤◌, ◌+◌, ◌*◌, [], ◌∷◌, ◌++◌, length, slice_get, Some, IfOk};
 ghost use Rattle.std.specs.Option.{option_map};
 ghost use Rattle.swap_script.specs.Lines.{words_of};
 ghost use Rattle.swap_script.specs.Forms.{spec_words};
-ghost use Rattle.swap_script.specs.Reading.{lender_line, lender_rest, lends_within, spec_within, IsWithinLimits, MayLend};
+ghost use Rattle.swap_base.specs.Sizes.{first_beyond};
+ghost use Rattle.swap_script.specs.Reading.{lender_line, lender_rest, lending_tests, slots_of, may_follow, spec_within, IsWithinLimits, MayLend};
 ghost use Rattle.swap_script.specs.Spelled.{spec_of};
 
-use super::Why;
 use super::forms::{is_word, small};
 use super::text::Words;
+use super::today::lends_today;
+use super::{Grammar, Why};
+use std::marker::Model;
 use swap_base::{Geometry, LenderSpec};
 
 /// How many bytes all lenders may lend, at most.
@@ -52,29 +55,136 @@ fn spec_words(words: Words<'_>) -> Option<(u32, u32, u32)>
     Some((slots, headroom, extra))
 }
 
-/// Whether a lender lends no more bytes than all lenders may.
-fn lends_within(geometry: &Geometry, spec: &LenderSpec) -> bool
-    requires { IsWithinLimits spec.now }
-    ensures { result ≡ lends_within geometry.now (spec.now ∷ []) }
-{
-    geometry.limits();
-    let slab_bytes = u64::from(geometry.pages_per_slab()) * u64::from(geometry.page_bytes());
-    u64::from(spec.slots) * slab_bytes <= LENT_BYTES
+/// The most lenders that a text may have.
+const MOST_LENDERS: u32 = 8;
+
+/// The lenders of a text, in the order of their lines, and how many slots they have together.
+#[derive(Drop)]
+pub struct Lenders {
+    specs: [LenderSpec; 8],
+    count: u32,
+    slots: u64,
 }
 
-/// The lender that the words behind the first of a lender line give.
-pub fn lender_line(geometry: &Geometry, words: Words<'_>) -> Result<LenderSpec, Why>
-    ensures line { result ≡ lender_line geometry.now words.entry }
-    ensures may_lend { IfOk result (λ spec. MayLend geometry.now (spec ∷ [])) }
+impl Model for Lenders {
+    ghost use Rattle.std.specs.Prelude.{◌≡◌, ◌≤◌, ◌*◌, List, length, take};
+    ghost use Rattle.swap_base.specs.declared.geometry.LenderSpec.{LenderSpec};
+    ghost use Rattle.swap_script.specs.Reading.{slots_of};
+
+    ghost Value = { List LenderSpec };
+
+    ghost view = { λ l. take l.count l.specs };
+
+    ghost invariant = { λ l. (length l.specs ≡ 8) × (l.count ≤ 8) × (l.slots ≡ slots_of (take l.count l.specs)) × (l.slots ≤ 64 * l.count) };
+}
+
+impl Lenders {
+    pub fn none() -> Lenders
+        ensures { result ≡ [] }
+    {
+        let spec = LenderSpec {
+            slots: 0,
+            headroom: 0,
+            extra: 0,
+        };
+        Lenders {
+            specs: [spec; 8],
+            count: 0,
+            slots: 0,
+        }
+    }
+
+    pub fn again(&self) -> Lenders
+        ensures { result ≡ self.now }
+    {
+        Lenders {
+            specs: self.specs,
+            count: self.count,
+            slots: self.slots,
+        }
+    }
+
+    pub fn count(&self) -> u32
+        ensures count { result ≡ length self.now }
+        ensures within { result ≤ 8 }
+    {
+        self.count
+    }
+
+    pub fn get(&self, i: u32) -> LenderSpec
+        requires { i < length self.now }
+        ensures { slice_get self.now i ≡ Some result }
+    {
+        self.specs[i as usize]
+    }
+
+    /// How many slots these lenders have together, with one more.
+    fn slots_with(&self, spec: &LenderSpec) -> u64
+        requires { IsWithinLimits spec.now }
+        ensures slots { result ≡ slots_of (self.now ++ spec.now ∷ []) }
+        ensures within { result ≤ 64 * length self.now + 64 }
+    {
+        self.slots + u64::from(spec.slots)
+    }
+
+    /// These lenders and one more.
+    pub fn with(mut self, spec: LenderSpec) -> Lenders
+        requires count { length self < 8 }
+        requires limits { IsWithinLimits spec }
+        ensures { result ≡ self ++ spec ∷ [] }
+    {
+        self.slots = self.slots_with(&spec);
+        self.specs[self.count as usize] = spec;
+        self.count += 1;
+        self
+    }
+}
+
+/// The first fault of lenders with one more.
+fn lending_fault(geometry: &Geometry, others: &Lenders, spec: &LenderSpec) -> Option<Why>
+    requires { IsWithinLimits spec.now }
+    ensures { result ≡ first_beyond (lending_tests geometry.now (others.now ++ spec.now ∷ [])) }
 {
+    if others.count() >= MOST_LENDERS {
+        return Some(Why::Lenders);
+    }
+    geometry.limits();
+    let slab_bytes = u64::from(geometry.pages_per_slab()) * u64::from(geometry.page_bytes());
+    if others.slots_with(spec) * slab_bytes > LENT_BYTES {
+        return Some(Why::Lent);
+    }
+    None
+}
+
+fn may_follow(grammar: Grammar, others: &Lenders) -> bool
+    ensures { result ≡ may_follow grammar others.now }
+{
+    match grammar {
+        Grammar::Script => lends_today(others),
+        Grammar::Trace { .. } => true,
+    }
+}
+
+/// The lender that the words behind the first of a lender line give, behind the lenders of the lines above it.
+pub fn lender_line(
+    grammar: Grammar,
+    geometry: &Geometry,
+    others: &Lenders,
+    words: Words<'_>,
+) -> Result<LenderSpec, Why>
+    requires { MayLend geometry.now others.now }
+    ensures line { result ≡ lender_line grammar geometry.now others.now words.entry }
+    ensures may_lend { IfOk result (λ spec. MayLend geometry.now (others.now ++ spec ∷ [])) }
+    ensures limits { IfOk result (λ spec. IsWithinLimits spec) }
+{
+    if !may_follow(grammar, others) {
+        return Err(Why::Form);
+    }
     match spec_within(words) {
         Err(why) => Err(why),
-        Ok(spec) => {
-            if lends_within(geometry, &spec) {
-                Ok(spec)
-            } else {
-                Err(Why::Lent)
-            }
-        }
+        Ok(spec) => match lending_fault(geometry, others, &spec) {
+            None => Ok(spec),
+            Some(why) => Err(why),
+        },
     }
 }

@@ -20,6 +20,18 @@ pub returns-clause-lender_faults : goal.returns-clause-lender_faults
 unfolding digits
 returns-clause-lender_faults c = (refl, refl, refl, refl, refl, refl, refl, refl, refl, refl, refl, refl, refl)
 
+pub returns-clause-forms : goal.returns-clause-forms
+unfolding digits
+returns-clause-forms c = (refl, refl, refl, refl, refl, refl, refl, refl, refl, refl)
+
+pub returns-clause-traces : goal.returns-clause-traces
+unfolding digits
+returns-clause-traces c = (refl, refl, refl)
+
+pub returns-clause-trace_faults : goal.returns-clause-trace_faults
+unfolding digits
+returns-clause-trace_faults c = (refl, refl, refl, refl, refl, refl, refl, refl, refl, refl, refl, refl)
+
 pub returns-clause-printed : goal.returns-clause-printed
 unfolding digits
 returns-clause-printed c = (refl, refl, refl, refl, refl, refl, refl)
