@@ -1,5 +1,5 @@
 -- What a put is, by what the sink answered.
-use Rattle.std.proofs.Common.{◌≡◌, ℕ, ◌+◌, ◌≤◌, ◌<◌, Bool, true, false, List, length, refl, sym, ap, ◌∙◌, subst, arith, Option, None, Some}
+use Rattle.std.proofs.Common.{◌≡◌, ℕ, ◌≤◌, Bool, true, false, List, refl, sym, subst, Option, Some}
 use Rattle.std.specs.Io.KnownBytes.{Appends}
 use Rattle.swap_io.specs.Causes.{Rose, AppendsFront}
 use Rattle.swap_wire.specs.declared.Msg.{Msg}

@@ -1,14 +1,25 @@
 -- A board after a put on one of its lines.
-use Rattle.std.proofs.Common.{◌≡◌, ℕ, zero, suc, ◌+◌, ◌≤◌, ◌<◌, Bool, true, false, cond, List, [], ◌∷◌, ◌++◌, length, get_or, set, sum_by, nat_lt, All, refl, sym, ap, ◌∙◌, subst, arith, length-append, Option, None, Some}
+use Rattle.std.proofs.Common.{◌≡◌, ℕ, ◌+◌, ◌≤◌, ◌<◌, Bool, true, false, cond, List, [], ◌∷◌, ◌++◌, length, get_or, set, slice_index_or, slice_set, sum_by, nat_lt, All, refl, sym, ap, ◌∙◌, subst, arith, length-append, Option, None, Some}
 use Rattle.std.proofs.lemmas.Bool.{lt-ltb}
-use Rattle.std.proofs.lemmas.List.{get_or_default}
+use Rattle.std.proofs.lemmas.List.{get_or_default, set_past}
+use Rattle.std.proofs.Math.ListN.{get_or-eq_default}
 use Rattle.std.proofs.lemmas.List.Elements.{All-set}
 use Rattle.std.proofs.lemmas.List.Sums.{sum_by-set, sum_by-cons}
 use Rattle.swap_base.specs.declared.Link.{Link}
 use Rattle.swap_node.specs.Outlets.{Outlet}
-use Rattle.swap_node.specs.Boards.{Board, weight, IsFor, PutsLine, PutsAt, PutsOn, PutsWithin}
+use Rattle.swap_node.specs.Boards.{Board, fits_line, weight, IsFor, PutsLine, PutsOn, PutsWithin}
 
 module _ {K : Type 0} where
+  -- past the last link there is no outlet, and none is kept there
+  pub past_none : (xs : List (Option (Outlet K))) (i : ℕ) → length xs ≤ i → None ≡ slice_index_or xs i None
+  past_none xs i past = sym (get_or-eq_default xs None past)
+
+  pub past_same : (xs : List (Option (Outlet K))) (i : ℕ) (o : Option (Outlet K)) → length xs ≤ i → xs ≡ slice_set xs i o
+  past_same xs i o past = sym (set_past xs i o past)
+
+  pub fits_both : (b : Board K) (link : Link) (o : Outlet K) → fits_line b link o ≡ true → (link.0 < length b.lines) × (o.page_bytes ≡ b.page_bytes)
+  fits_both b link o fits = (grind (arith, fits), grind (arith, fits))
+
   pub all_fit : (xs : List (Option (Outlet K))) (i : ℕ) (y : Option (Outlet K)) {m : ℕ} (n : ℕ) → m ≡ n → IsFor m y → All (λ o. IsFor n o) xs → All (λ o. IsFor n o) (set xs i y)
   all_fit xs i y n e fits all = All-set (λ o. IsFor n o) xs i y (subst (λ n. IsFor n y) e fits) all
 

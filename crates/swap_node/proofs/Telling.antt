@@ -1,5 +1,5 @@
 -- The lender is told of one link more.
-use Rattle.std.proofs.Common.{◌≡◌, ℕ, List, [], ◌∷◌, refl, sym, ap, ◌∙◌, subst, Option}
+use Rattle.std.proofs.Common.{◌≡◌, ℕ, List, [], ◌∷◌, sym, subst, Option}
 use Rattle.swap_base.specs.declared.Link.{Link}
 use Rattle.swap_wire.specs.Fabric.{Parcel}
 use Rattle.swap_lender.specs.Lender.{Lender}

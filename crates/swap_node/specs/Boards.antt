@@ -1,6 +1,6 @@
 -- The outlets of a lender's links, by the numbers of the links, and the links whose last put failed and of which the
 -- lender wasn't told yet, in the order in which they failed.
-use Rattle.std.specs.Prelude.{◌≡◌, ℕ, ◌+◌, Bool, true, false, nat_lt, if◌then◌else◌, List, [], ◌∷◌, ◌++◌, length, sum_by, slice_set, slice_index_or, replicate, Option, None, Some}
+use Rattle.std.specs.Prelude.{◌≡◌, ℕ, ◌+◌, Bool, true, false, ◌&&◌, ◌==◌, nat_lt, if◌then◌else◌, List, [], ◌∷◌, ◌++◌, length, sum_by, slice_set, slice_index_or, replicate, Option, None, Some}
 use Rattle.swap_base.specs.declared.Link.{Link}
 use Rattle.swap_wire.specs.Fabric.{Parcel}
 use Rattle.swap_node.specs.Outlets.{Outlet, Puts, frame_of}
@@ -20,6 +20,10 @@ with_line b link o = record b { lines = slice_set b.lines link.0 o }
 abbrev pub is_down : {K : Type 0} → Option (Outlet K) → Bool
 is_down None = false
 is_down (Some o) = o.failed
+
+-- an outlet fits a link whose number is one of those that there may be, and pages of the board's length
+abbrev pub fits_line : {K : Type 0} → Board K → Link → Outlet K → Bool
+fits_line b link o = nat_lt link.0 (length b.lines) && (o.page_bytes == b.page_bytes)
 
 -- one where a put may still fail
 abbrev pub weight : {K : Type 0} → Option (Outlet K) → ℕ

@@ -1,5 +1,5 @@
 -- What a delivery answers, and the ear that it is made with.
-use Rattle.std.specs.Prelude.{◌≡◌, ℕ, Bool, true, false, List, Option, None, Some}
+use Rattle.std.specs.Prelude.{◌≡◌, ℕ, true, false, List, Option, None, Some}
 use Rattle.swap_base.specs.declared.Link.{Link}
 use Rattle.swap_io.specs.Memory.{raised}
 use Rattle.swap_wire.specs.declared.Msg.{Msg}
@@ -14,15 +14,10 @@ module _ {K : Type 0} (taken : K → Option (List ℕ)) (faults : K → ℕ) whe
   -- that it may send is served
   abbrev pub Delivers : Office K → Link → Msg → List ℕ → Delivered K → Office K → Type 0
   Delivers o link m page (Down outlet) now = (line_at o.board link ≡ Some outlet) × (outlet.failed ≡ true) × (now ≡ record o { board = with_line o.board link None })
-  Delivers o link m page End now = (is_down (line_at o.board link) ≡ false) × (is_welcome o.core link m ≡ false) × Departs taken faults o link now
-  Delivers o link m page Fine now = (is_down (line_at o.board link) ≡ false) × (is_welcome o.core link m ≡ true) × Serves taken faults o link m page now
+  Delivers o link m page End now = (is_down (line_at o.board link) ≡ false) × (is_welcome o.core link m page ≡ false) × Departs taken faults o link now
+  Delivers o link m page Fine now = (is_down (line_at o.board link) ≡ false) × (is_welcome o.core link m page ≡ true) × Serves taken faults o link m page now
 
 -- one message more was delivered with it
-abbrev pub ends : {K : Type 0} → Delivered K → Bool
-ends Fine = false
-ends End = true
-ends (Down outlet) = false
-
 abbrev pub heard_one : {K : Type 0} → Delivered K → Ear → Ear
 heard_one Fine ear = record ear { count = raised ear.count; ended = false }
 heard_one End ear = record ear { count = raised ear.count; ended = true }

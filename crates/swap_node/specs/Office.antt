@@ -1,5 +1,5 @@
 -- A lender with the outlets of its links: what is delivered to it, and what it sends.
-use Rattle.std.specs.Prelude.{◌≡◌, ℕ, ◌+◌, Bool, true, false, ◌&&◌, ◌==◌, if◌then◌else◌, List, [], ◌∷◌, replicate, Option, None, Some}
+use Rattle.std.specs.Prelude.{◌≡◌, ℕ, ◌+◌, Bool, true, false, ◌&&◌, ◌==◌, if◌then◌else◌, List, [], ◌∷◌, length, Option, None, Some}
 use Rattle.swap_base.specs.declared.Link.{Link}
 use Rattle.swap_wire.specs.declared.Msg.{Msg}
 use Rattle.swap_wire.specs.Fabric.{Parcel}
@@ -9,7 +9,7 @@ use Rattle.swap_lender.specs.declared.Lending.{Lending}
 use Rattle.rand_pcg.specs.Lcg.{Lcg}
 use Rattle.rand_pcg.specs.Pcg.{pcg32}
 use Rattle.swap_node.specs.Outlets.{Outlet}
-use Rattle.swap_node.specs.Boards.{Board, empty_board, with_line, PutsAll}
+use Rattle.swap_node.specs.Boards.{Board, empty_board, with_line, fits_line, PutsAll}
 
 -- how much memory the host uses itself, in slots, how many messages were taken since the last look at it, and the words to choose from
 pub record Office (K : Type 0) : Type 0 where
@@ -26,9 +26,9 @@ PERIOD = 64
 abbrev pub opened : {K : Type 0} → Lending → ℕ → Lcg → Office K
 opened s used words = record { core = fresh s; board = empty_board s.links s.page_bytes; used = used; since = 0; words = words }
 
--- whether the link is there, and the lender's table lets it send this message now
-abbrev pub is_welcome : Lender → Link → Msg → Bool
-is_welcome l link m = stands l link && may_send l link m
+-- whether the page is one of the lender's, the link is there, and the lender's table lets it send this message now
+abbrev pub is_welcome : Lender → Link → Msg → List ℕ → Bool
+is_welcome l link m page = (length page == l.lending.page_bytes) && (stands l link && may_send l link m)
 
 -- a link arrives that isn't there
 abbrev pub arrived : Lender → Link → Lender
@@ -57,11 +57,11 @@ module _ {K : Type 0} (taken : K → Option (List ℕ)) (faults : K → ℕ) whe
     pub sends : Sends (gone o.core link).lender (with_line o.board link None) (gone o.core link).parcels now.core now.board
     pub beside : IsBeside o now
 
-  -- a link arrives with its outlet; an older one of its number is gone first
+  -- a link arrives with its outlet where that fits; an older one of its number is gone first
   pub record Arrives (o : Office K) (link : Link) (outlet : Outlet K) (now : Office K) : Type 0 where
     pub mid : Office K
     pub departs : Departs o link mid
-    pub is : now ≡ record mid { core = arrived mid.core link; board = with_line mid.board link (Some outlet) }
+    pub is : now ≡ (if fits_line mid.board link outlet then record mid { core = arrived mid.core link; board = with_line mid.board link (Some outlet) } else mid)
 
   -- a message that the link may send is taken, and what is sent in answer is put
   pub record Takes (o : Office K) (link : Link) (m : Msg) (page : List ℕ) (now : Office K) : Type 0 where

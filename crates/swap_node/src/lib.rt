@@ -1,4 +1,4 @@
-//! A lender for links that come in by a door.
+//! A lender with the replies of its links: what is delivered to it, and what it writes in answer.
 #![tactic(auto)]
 
 mod lines;
@@ -8,3 +8,6 @@ mod send;
 
 pub use node::{Delivered, Ear, Node};
 pub use replies::Replies;
+
+#[cfg(test)]
+mod tests;

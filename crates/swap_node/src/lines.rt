@@ -1,6 +1,6 @@
 ghost use Rattle.std.specs.Prelude.{◌≡◌, ℕ, ◌+◌, ◌≤◌, ◌<◌, [], ◌∷◌, ◌++◌, true, false, length, sum_by, replicate, if◌then◌else◌, IfOk, MatchOption, None, Some};
 ghost use Rattle.swap_wire.specs.Frames.{frame, page_with};
-ghost use Rattle.swap_node.specs.Boards.{Board, line_at, with_line, is_down, weight, IsFor, PutsLine, PutsOn, empty_board, unsettled};
+ghost use Rattle.swap_node.specs.Boards.{Board, line_at, with_line, is_down, fits_line, weight, IsFor, PutsLine, PutsOn, empty_board, unsettled};
 
 use crate::Replies;
 use std::alloc::Global;
@@ -130,30 +130,45 @@ impl<K: Sink + Drop> Lines<K> {
     }
 
     /// Takes a link's replies out where a put on them failed.
+    #[tactic(auto, using(crate::proofs::Rows::past_none, crate::proofs::Rows::past_same))]
     pub(crate) fn take_down(&mut self, link: Link) -> Option<Replies<K>>
-        requires { link.0 < length self.old.lines }
         ensures down { MatchOption result (is_down (line_at self.old link) ≡ false) (λ r. is_down (line_at self.old link) ≡ true) }
         ensures replies { MatchOption result (self.new ≡ self.old) (λ r. (line_at self.old link ≡ Some r) × (self.new ≡ with_line self.old link None)) }
     {
-        if !self.list[link.0 as usize].is_down() {
+        let place = link.0 as usize;
+        if place >= self.list.len() {
+            return None;
+        }
+        if !self.list[place].is_down() {
             return None;
         }
         self.remove(link)
     }
 
     /// Takes a link's replies out.
+    #[tactic(auto, using(crate::proofs::Rows::past_none, crate::proofs::Rows::past_same))]
     pub(crate) fn remove(&mut self, link: Link) -> Option<Replies<K>>
-        requires { link.0 < length self.old.lines }
         ensures replies { result ≡ line_at self.old link }
         ensures lines { self.new ≡ with_line self.old link None }
     {
-        self.list[link.0 as usize].replies.take()
+        let place = link.0 as usize;
+        if place >= self.list.len() {
+            return None;
+        }
+        self.list[place].replies.take()
+    }
+
+    /// Whether a link may have these replies: its number is one of those that there may be, and the pages fit.
+    pub(crate) fn fits(&self, link: Link, replies: &Replies<K>) -> bool
+        ensures { result ≡ fits_line self.now link replies.now }
+    {
+        (link.0 as usize) < self.list.len() && replies.page_bytes() == self.page_bytes
     }
 
     /// A link has these replies from now on.
+    #[tactic(auto, using(crate::proofs::Rows::fits_both))]
     pub(crate) fn set(&mut self, link: Link, replies: Replies<K>)
-        requires link { link.0 < length self.old.lines }
-        requires replies { replies.page_bytes ≡ self.old.page_bytes }
+        requires fits { fits_line self.old link replies ≡ true }
         requires settled { self.old.failed ≡ [] }
         ensures { self.new ≡ with_line self.old link (Some replies) }
     {

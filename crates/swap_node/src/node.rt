@@ -1,6 +1,7 @@
 ghost use Rattle.std.specs.Prelude.{◌≡◌, ◌+◌, ◌<◌, ◌^◌, ◌*◌, ◌==◌, true, false, length, if◌then◌else◌, IfOk, Some};
 ghost use Rattle.swap_lender.specs.Core.{IsLending};
 ghost use Rattle.swap_node.specs.Office.{opened, is_welcome, arrived, IsBeside, Departs, Arrives, Takes, Looks, Counts, Serves, PERIOD};
+ghost use Rattle.swap_node.specs.Boards.{fits_line, with_line};
 ghost use Rattle.swap_node.specs.Delivery.{Delivers, heard_one};
 ghost use Rattle.rand_pcg.specs.Pcg.{pcg32_of_seed};
 ghost use Rattle.rand_core.specs.Pcg32Seed.{pcg32_seed};
@@ -129,7 +130,6 @@ impl<K: Sink + Drop> Node<K> {
 
     /// A link is gone: its slots are free, and what that sends to others is put on their links.
     pub fn gone(&mut self, link: Link)
-        requires { link.0 < length self.old.board.lines }
         ensures departs { Departs K.taken K.faults self.old link self.new }
         ensures lending { self.new.core.lending ≡ self.old.core.lending }
         ensures number { length self.new.board.lines ≡ length self.old.board.lines }
@@ -144,39 +144,40 @@ impl<K: Sink + Drop> Node<K> {
         );
     }
 
-    /// A link arrives, with its replies. An older link of its number is gone first.
+    /// A link arrives, with its replies. An older link of its number is gone first. One whose number isn't below the number
+    /// of links, or whose replies are for other pages, isn't there.
     pub fn arrive(&mut self, link: Link, replies: Replies<K>) -> Ear
-        requires link { link.0 < length self.old.board.lines }
-        requires replies { replies.page_bytes ≡ self.old.core.lending.page_bytes }
         ensures ear { result ≡ record { link = link; count = 0; ended = false } }
         ensures arrives { Arrives K.taken K.faults self.old link replies self.new }
         ensures lending { self.new.core.lending ≡ self.old.core.lending }
         ensures number { length self.new.board.lines ≡ length self.old.board.lines }
     {
         self.gone(link);
-        self.settle_in(link);
-        self.lines.set(link, replies);
+        if self.lines.fits(link, &replies) {
+            self.settle_in(link, replies);
+        }
         Ear::new(link)
     }
 
-    /// The lender knows of a link from now on.
-    fn settle_in(&mut self, link: Link)
-        ensures state { self.new ≡ record self.old { core = arrived self.old.core link } }
+    /// The lender knows of a link from now on, and it has its replies.
+    fn settle_in(&mut self, link: Link, replies: Replies<K>)
+        requires { fits_line self.old.board link replies ≡ true }
+        ensures state { self.new ≡ record self.old { core = arrived self.old.core link; board = with_line self.old.board link (Some replies) } }
         ensures lending { self.new.core.lending ≡ self.old.core.lending }
+        ensures number { length self.new.board.lines ≡ length self.old.board.lines }
     {
         if !self.core.stands(link) {
             self.core.arrive(link);
         }
+        self.lines.set(link, replies);
     }
 
     /// A device's message comes from the ear's link, with its page where it has one.
     ///
     /// `Down` comes exactly where a put on the link's replies failed before; they are given up. Else `End` comes exactly
-    /// where the link isn't there or may not send the message; it is gone then. Else the message is served, what the lender
+    /// where the link isn't there or may not send the message, or the page hasn't the length of a page; it is gone then. Else the message is served, what the lender
     /// sends is put on the links that it names, and after each 64th message the lender looks at its host.
     pub fn deliver(&mut self, ear: &mut Ear, msg: &Msg, page: &[u8]) -> Delivered<K>
-        requires link { ear.old.link.0 < length self.old.board.lines }
-        requires page { length page.now ≡ self.old.core.lending.page_bytes }
         ensures delivers { Delivers K.taken K.faults self.old ear.old.link msg.now page.now result self.new }
         ensures ear { ear.new ≡ heard_one result ear.old }
         ensures lending { self.new.core.lending ≡ self.old.core.lending }
@@ -199,14 +200,13 @@ impl<K: Sink + Drop> Node<K> {
 
     /// Takes a message and puts what is sent in answer; false where the link isn't there or may not send it.
     fn take(&mut self, link: Link, msg: &Msg, page: &[u8]) -> bool
-        requires { length page.now ≡ self.old.core.lending.page_bytes }
-        ensures welcome { result ≡ is_welcome self.old.core link msg.now }
+        ensures welcome { result ≡ is_welcome self.old.core link msg.now page.now }
         ensures takes { result ≡ true → Takes K.taken K.faults self.old link msg.now page.now self.new }
         ensures refused { result ≡ false → self.new ≡ self.old }
         ensures lending { self.new.core.lending ≡ self.old.core.lending }
         ensures number { length self.new.board.lines ≡ length self.old.board.lines }
     {
-        if !self.core.stands(link) {
+        if page.len() != self.page.len() || !self.core.stands(link) {
             return false;
         }
         match self.core.took(link, msg, page, &mut self.out) {

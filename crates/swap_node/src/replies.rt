@@ -1,4 +1,4 @@
-ghost use Rattle.std.specs.Prelude.{◌≡◌, ◌≤◌, false, length, is_err, IfOk, OnOk, OnErr};
+ghost use Rattle.std.specs.Prelude.{◌≡◌, ◌<◌, ◌≤◌, true, false, length, is_err, IfOk, OnOk, OnErr};
 ghost use Rattle.std.specs.Io.KnownBytes.{Appends};
 ghost use Rattle.swap_io.specs.Causes.{HasCause, AppendsFront};
 ghost use Rattle.swap_wire.specs.Frames.{frame, page_with};
@@ -87,6 +87,13 @@ impl<K: Sink + Drop> Replies<K> {
         self.failed
     }
 
+    /// How many bytes a page has.
+    pub fn page_bytes(&self) -> u32
+        ensures { result ≡ self.now.page_bytes }
+    {
+        self.page_bytes
+    }
+
     /// What is written to.
     pub fn sink(&self) -> &K
         ensures { result.now ≡ self.now.sink }
@@ -94,9 +101,10 @@ impl<K: Sink + Drop> Replies<K> {
         &self.sink
     }
 
-    /// Gives the sink up.
+    /// Gives the sink up. After a put that failed it has faults.
     pub fn into_sink(self) -> K
-        ensures { result ≡ self.sink }
+        ensures sink { result ≡ self.sink }
+        ensures faults { self.failed ≡ true → 0 < K.faults result }
     {
         self.sink
     }

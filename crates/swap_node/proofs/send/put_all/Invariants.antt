@@ -1,4 +1,4 @@
-use Rattle.std.proofs.Common.{◌≡◌, ℕ, List, length}
+use Rattle.std.proofs.Common.{◌≡◌, length}
 use Rattle.swap_lender.specs.Outbox.{leaving}
 use Rattle.swap_node.specs.Boards.{Board, PutsAll, unsettled}
 use Rattle.swap_node.proofs.send.put_all.Given as goal

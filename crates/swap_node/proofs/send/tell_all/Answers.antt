@@ -1,6 +1,5 @@
-use Rattle.std.proofs.Common.{◌≡◌, ℕ, List, [], ◌∷◌, length, refl, sym, ap, ◌∙◌, subst, Some, None, MatchOption}
-use Rattle.swap_base.specs.declared.Link.{Link}
-use Rattle.swap_lender.specs.Outbox.{Outgoing, IsReady}
+use Rattle.std.proofs.Common.{◌≡◌, ◌∷◌, length, refl, ap, ◌∙◌}
+use Rattle.swap_lender.specs.Outbox.{Outgoing}
 use Rattle.swap_node.specs.Boards.{Board}
 use Rattle.swap_node.proofs.Telling.{tell_one, tell_none}
 use Rattle.swap_node.proofs.send.tell_all.Goals as goal

@@ -1,4 +1,4 @@
-use Rattle.std.proofs.Common.{◌≡◌, ℕ, List, length}
+use Rattle.std.proofs.Common.{◌≡◌, length}
 use Rattle.swap_lender.specs.Lender.{Lender}
 use Rattle.swap_lender.specs.Outbox.{IsReady}
 use Rattle.swap_node.specs.Boards.{Board, unsettled}

@@ -1,8 +1,7 @@
-use Rattle.std.proofs.Common.{◌≡◌, ℕ, ◌≤◌, All, List, length, set, subst, sym, ap, ◌∙◌, arith, refl, Bool, cond}
+use Rattle.std.proofs.Common.{set, subst, sym, ap, ◌∙◌, arith, refl}
 use Rattle.std.proofs.lemmas.List.{length-set}
 use Rattle.swap_wire.specs.Frames.{frame, page_with}
-use Rattle.swap_base.specs.declared.Link.{Link}
-use Rattle.swap_node.specs.Boards.{Board, IsFor, PutsOn, weight}
+use Rattle.swap_node.specs.Boards.{Board, PutsOn}
 use Rattle.swap_node.proofs.Rows.{all_fit, with_failed, without_failed, puts_at}
 use Rattle.swap_node.proofs.lines.Lines.put.Goals as goal
 
