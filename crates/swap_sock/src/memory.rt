@@ -108,6 +108,9 @@ impl MemHost {
         ensures failing { result.failing ≡ failing }
         ensures calls { result.calls ≡ 0 }
         ensures faults { result.faults ≡ 0 }
+        ensures disks { result.disks ≡ record { asked = 0; gave = 0; back = 0 } }
+        ensures nets { result.nets ≡ record { asked = 0; gave = 0; back = 0 } }
+        ensures doors { result.doors ≡ record { asked = 0; gave = 0; back = 0 } }
     {
         MemHost {
             alloc,
