@@ -1,0 +1,4 @@
+pub mod Outlets
+pub mod Boards
+pub mod Office
+pub mod Delivery

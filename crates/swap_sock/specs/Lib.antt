@@ -1,0 +1,5 @@
+pub mod Dealings
+pub mod Addresses
+pub mod Making
+pub mod MemLinks
+pub mod AddressRows
