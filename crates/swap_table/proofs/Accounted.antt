@@ -193,8 +193,7 @@ newest_alone H p (Some x) h = h
 pub put_copy : (H : History) (c : Caller) (p : Page) (bytes : List ℕ) (places : Places) → AreOfEntries H p places → AreOfEntries (pushed H c p op.PageOut bytes) p (record { flying = places.flying; next = Some (record { entry = next_name H; bytes = bytes }) })
 put_copy H c p bytes places h =
     let row : Row = row_of H c p op.PageOut bytes in
-    let is = named_last H row in
-    (
+    let is = named_last H row in (
       of_stays H (row ∷ H) p places.flying (entries_on H row) h.0,
       (subst (λ o. IsOutIn p o) (sym is) (eq-eqb p.0 p.0 refl), sym (ap bytes_in is)),
       ap (λ b. cond b (Some (next_name H)) (last H p)) (eq-eqb p.0 p.0 refl),

@@ -1,5 +1,5 @@
 -- Over the disk and the lenders in memory an event without an effect leaves the whole world as it was.
-use Rattle.std.proofs.Common.{◌≡◌, ℕ, Bool, true, false, cond, ◌&&◌, nat_lt, List, [], ◌∷◌, length, get_or, set, zero, suc, refl, sym, ap, ◌∙◌, is_none, is_some, Option, None, Some}
+use Rattle.std.proofs.Common.{◌≡◌, ℕ, Bool, true, false, cond, ◌&&◌, nat_lt, List, [], ◌∷◌, length, get_or, set, zero, suc, refl, ap, ◌∙◌, is_none, is_some, Option, None, Some}
 use Rattle.swap_base.specs.declared.Page.{Page}
 use Rattle.swap_base.specs.declared.Caller.{Caller}
 use Rattle.swap_base.specs.declared.Lender.{Lender}
@@ -8,7 +8,6 @@ use Rattle.swap_base.specs.declared.DiskWhich.{DiskWhich}
 use Rattle.swap_base.specs.declared.CallKind.TheVariants as kind
 use Rattle.swap_base.specs.Sizes.{pages_of}
 use Rattle.swap_record.specs.History.{next_name}
-use Rattle.swap_wire.specs.Input.{Input}
 use Rattle.swap_wire.specs.declared.Event.{Event}
 use Rattle.swap_wire.specs.declared.Event.TheVariants as event
 use Rattle.swap_wire.specs.declared.Seen.{Seen}
