@@ -1,4 +1,4 @@
-ghost use Rattle.std.specs.Prelude.{◌≡◌, ◌≤◌, length, map, All, true, false, Some, None, IfOk, OnErr, Err};
+ghost use Rattle.std.specs.Prelude.{◌≡◌, ◌≤◌, length, map, All, true, false, Some, None, [], IfOk, OnErr, Err};
 ghost use Rattle.swap_record.specs.History.{History};
 ghost use Rattle.swap_script.specs.Reading.{script as script_of, IsWithinLimits};
 ghost use Rattle.swap_world.specs.World.{start};

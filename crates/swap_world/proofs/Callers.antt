@@ -64,26 +64,26 @@ module _ (P : CallState → Type 0) (cs : Calls) (c : Caller) where
   let_go l h = subst P (sym (ap (λ (x : Call). x.state) (get_or-map_idle (calls.with_state (calls.lost_if_through l)) cs c.0 refl))) h
 
 -- what starts nothing
-busy_starts : (e : Event) → is_start e seen.Busy ≡ false
+pub busy_starts : (e : Event) → is_start e seen.Busy ≡ false
 busy_starts (event.PageOut c p) = refl
 busy_starts (event.PageIn c p) = refl
 busy_starts (event.Finish c) = refl
 busy_starts e = refl
 
-done_starts : (e : Event) (n : EntryNo) (to : Option Lender) → is_start e (seen.Done n to) ≡ false
+pub done_starts : (e : Event) (n : EntryNo) (to : Option Lender) → is_start e (seen.Done n to) ≡ false
 done_starts (event.PageOut c p) n to = refl
 done_starts (event.PageIn c p) n to = refl
 done_starts (event.Finish c) n to = refl
 done_starts e n to = refl
 
-rest_starts : (e : Event) (s : Seen) → is_new e ≡ false → is_rest s ≡ true → is_start e s ≡ false
+pub rest_starts : (e : Event) (s : Seen) → is_new e ≡ false → is_rest s ≡ true → is_start e s ≡ false
 rest_starts (event.PageOut c p) s new rest = cc
 rest_starts (event.PageIn c p) s new rest = cc
 rest_starts (event.Finish c) (seen.Again v) new rest = cc
 rest_starts (event.Finish c) s new rest = refl
 rest_starts e s new rest = refl
 
-link_starts : (e : Event) (s : Seen) → is_new e ≡ false → is_of_link s ≡ true → is_start e s ≡ false
+pub link_starts : (e : Event) (s : Seen) → is_new e ≡ false → is_of_link s ≡ true → is_start e s ≡ false
 link_starts (event.PageOut c p) s new of_link = cc
 link_starts (event.PageIn c p) s new of_link = cc
 link_starts (event.Finish c) (seen.Again v) new of_link = cc

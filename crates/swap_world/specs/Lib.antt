@@ -1,5 +1,6 @@
 pub mod World
 pub mod Laws
+pub mod Since
 pub mod Rows
 pub mod Answered
 pub mod Runs

@@ -2,6 +2,7 @@
 #![tactic(auto)]
 
 ghost use Rattle.swap_world.specs.Laws.{AgreesAfterEach, AlwaysAgrees, AlwaysLegal, EachCallOnce, EntriesAreSeen, HistoriesGoOn, HoldsAfterEach, NothingChanges, StepsAreNext};
+ghost use Rattle.swap_world.specs.Since.{AgainHasCause, GivesWhatWasHanded};
 ghost use Rattle.swap_world.specs.Rows.{PageOutWithoutRoomFailsWhereAWriteFailed, ReadOvertakenByAPageOutAlreadyOnTheDisk, FailedDiskReadFailsThePageIn, FailedDiskReadWithANewerPageOut, AnotherCallersReadFails, PageInFromALender};
 
 mod events;
@@ -43,6 +44,18 @@ pub fn agrees_over_any_ports<D: DiskPort, F: Fabric>()
 {
     ports_promise::<D, F>();
 }
+
+/// Over any disk and any fabric, after every list of events: a page-in that a read answered gives exactly the bytes that
+/// `take` handed over for its caller's last started read.
+pub fn reads_give_what_was_handed<D: DiskPort, F: Fabric>()
+    ensures { GivesWhatWasHanded D.moves F.moves }
+{}
+
+/// Over any disk and any fabric, after every list of events: a call that reads anew has its cause. Since its last start
+/// a page-out of its page was accepted, or the link ended through which it waited.
+pub fn again_has_cause<D: DiskPort, F: Fabric>()
+    ensures { AgainHasCause D.DiskPort F.Fabric }
+{}
 
 /// So they do over the disk and the lenders in memory.
 pub fn always_agrees()

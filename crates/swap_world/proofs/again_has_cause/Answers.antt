@@ -1,0 +1,5 @@
+use Rattle.swap_world.proofs.Since as since
+use Rattle.swap_world.proofs.again_has_cause.Goals as goal
+
+pub returns : goal.returns
+returns g c = since.again_has_cause _ _

@@ -1,0 +1,5 @@
+use Rattle.swap_world.proofs.Since as since
+use Rattle.swap_world.proofs.reads_give_what_was_handed.Goals as goal
+
+pub returns : goal.returns
+returns g c = since.gives_what_was_handed _ _
