@@ -1,5 +1,5 @@
 -- A call is newer where a page-out of its page was accepted since its last start, and lost where its link ended since.
-use Rattle.std.proofs.Common.{◌≡◌, ℕ, ◌⊎◌, Bool, true, false, cond, ◌==◌, ◌||◌, List, [], ◌∷◌, ◌++◌, map, refl, sym, ap, ◌∙◌, subst, inl, inr, Option, None, Some}
+use Rattle.std.proofs.Common.{◌≡◌, ℕ, ◌⊎◌, Bool, true, false, cond, ◌==◌, List, [], ◌∷◌, ◌++◌, map, refl, sym, ap, ◌∙◌, subst, inl, inr, Option, None, Some}
 use Rattle.std.proofs.lemmas.Bool.{eq-eqb, eqb-true}
 use Rattle.swap_base.specs.declared.Page.{Page}
 use Rattle.swap_base.specs.declared.Caller.{Caller}
@@ -9,17 +9,16 @@ use Rattle.swap_base.specs.declared.DiskWhich.{DiskWhich}
 use Rattle.swap_base.specs.declared.DiskWhich.TheVariants as which
 use Rattle.swap_base.specs.declared.Via.{Via}
 use Rattle.swap_base.specs.declared.Via.TheVariants as via
-use Rattle.swap_record.specs.declared.Op.TheVariants as op
-use Rattle.swap_record.specs.History.{History, pushed, last, next_name}
+use Rattle.swap_record.specs.History.{last, next_name}
 use Rattle.swap_queue.specs.Queue as queue
 use Rattle.swap_queue.specs.Queue.{Copy}
 use Rattle.swap_disk.specs.Disk.{Taken}
-use Rattle.swap_disk.specs.Port.{DiskCall, DiskAnswer, TakeDone}
+use Rattle.swap_disk.specs.Port.{DiskCall, DiskAnswer}
 use Rattle.swap_wire.specs.Input.{Input}
 use Rattle.swap_wire.specs.declared.Event.{Event}
 use Rattle.swap_wire.specs.declared.Seen.{Seen}
 use Rattle.swap_wire.specs.declared.fabric.Sent.TheVariants as sent
-use Rattle.swap_wire.specs.Fabric.{Parcel, LinkLost, FabricCall, FabricAnswer, Connect, Send, Take, End}
+use Rattle.swap_wire.specs.Fabric.{Parcel, LinkLost, FabricCall, FabricAnswer, Send, Take, End}
 use Rattle.swap_calls.specs.Calls as calls
 use Rattle.swap_calls.specs.Calls.{Call, Calls, state_of, call_of, idle}
 use Rattle.swap_calls.specs.declared.Arrived.{Arrived}
@@ -29,10 +28,10 @@ use Rattle.swap_calls.specs.declared.CallState.TheVariants.{Idle, Room, Reading}
 use Rattle.swap_rings.specs.Rings.{is_up}
 use Rattle.swap_table.specs.declared.DiskStep.{DiskStep}
 use Rattle.swap_table.specs.Ports.{Prog, Ret, AskDisk, AskFabric, Along}
-use Rattle.swap_table.specs.Device.{Device, enter, lost, wrote, took, took_back, disk_take, without_link}
+use Rattle.swap_table.specs.Device.{Device, enter, lost, wrote, took, took_back}
 use Rattle.swap_table.specs.Happens.{happens}
 use Rattle.swap_table.specs.Goes.{Asked, Nothing, OfDisk, OfFabric, Goes, ends, first, asks_disk, asks_fabric, After, by}
-use Rattle.swap_table.specs.Moves.{Within, anything, Speaker, quiet, Sends, write, read, borrow, Hears, lent, refused, written, brought, Move, enters, gives, faults, waits_for_room, starts, waits_for_disk, takes, lets_finish, sends, finds_down, raises, speaks, speaks_to_nobody, hears, hears_nothing, loses, misunderstands, breaks_off, far}
+use Rattle.swap_table.specs.Moves.{anything, Speaker, quiet, Sends, write, read, borrow, Hears, lent, refused, written, brought, Move, enters, gives, faults, waits_for_room, starts, waits_for_disk, takes, lets_finish, sends, finds_down, raises, speaks, speaks_to_nobody, hears, hears_nothing, loses, misunderstands, breaks_off, far}
 use Rattle.swap_table.specs.Comes.{Linked, Comes, refuses, rests, accepts, gives_page, fails, keeps_page, reads, starts_write, takes_back, links, brings}
 use Rattle.swap_table.proofs.Comings.{linked_keep, names_anything, happens_comes}
 use Rattle.swap_table.proofs.Programs.{Leads-Along}
@@ -174,7 +173,7 @@ module _ (d0 : Device) (c : Caller) where
   loses_link : (before : List Asked) (call : FabricCall) (r : FabricAnswer call) (d : Device) (m : Lender) → ((l : Lender) → m.0 ≡ l.0 → ends_by l call r ≡ true) → LossIsAsked before d → LossIsAsked (before ++ OfFabric call r ∷ []) (lost d m)
   loses_link before call r d m ends_it was l is =
       elim (lost_through l m (state_of d.calls c) (map_back (IsLostBy l) (λ x. x) c d.calls (calls.lost_if_through m) refl is)) [
-        inl n ↦ elim (was l n) [ inl x ↦ inl x | inr x ↦ inr (ends_more l before (OfFabric call r) x) ]
+        | inl n ↦ elim (was l n) [ inl x ↦ inl x | inr x ↦ inr (ends_more l before (OfFabric call r) x) ]
         | inr same ↦ inr (ends_last l before (OfFabric call r) (ends_it l same))
       ]
 

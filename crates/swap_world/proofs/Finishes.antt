@@ -1,5 +1,5 @@
 -- What a page-in's steps add to the history, and when one reads anew.
-use Rattle.std.proofs.Common.{◌≡◌, ℕ, ◌⊎◌, Bool, true, false, cond, nat_lt, List, [], ◌∷◌, refl, sym, ap, ◌∙◌, inl, inr, Option, None, Some}
+use Rattle.std.proofs.Common.{◌≡◌, ℕ, ◌⊎◌, Bool, true, false, cond, nat_lt, List, ◌∷◌, refl, inl, inr, Option, None, Some}
 use Rattle.swap_base.specs.declared.Page.{Page}
 use Rattle.swap_base.specs.declared.Caller.{Caller}
 use Rattle.swap_base.specs.declared.EntryNo.{EntryNo}
@@ -18,10 +18,8 @@ use Rattle.swap_wire.specs.Fabric.{FabricCall, FabricAnswer}
 use Rattle.swap_wire.specs.declared.Event.TheVariants as event
 use Rattle.swap_wire.specs.declared.Seen.{Seen}
 use Rattle.swap_wire.specs.declared.Seen.TheVariants as seen
-use Rattle.swap_wire.specs.declared.fabric.Sent.{Sent}
 use Rattle.swap_wire.specs.declared.fabric.Sent.TheVariants as sent
-use Rattle.swap_calls.specs.Calls as calls
-use Rattle.swap_calls.specs.Calls.{Calls, state_of, call_of, is_idle}
+use Rattle.swap_calls.specs.Calls.{state_of, call_of, is_idle}
 use Rattle.swap_calls.specs.declared.Arrived.{Arrived}
 use Rattle.swap_calls.specs.declared.Arrived.TheVariants as arrived
 use Rattle.swap_calls.specs.declared.CallState.{CallState}
@@ -29,7 +27,6 @@ use Rattle.swap_calls.specs.declared.CallState.TheVariants.{Idle, Room, Reading}
 use Rattle.swap_remote.specs.Remote as remote
 use Rattle.swap_table.specs.declared.InStep.{InStep}
 use Rattle.swap_table.specs.declared.InStep.TheVariants as ins
-use Rattle.swap_table.specs.declared.OutStep.{OutStep}
 use Rattle.swap_table.specs.declared.Step.{Step}
 use Rattle.swap_table.specs.declared.Step.TheVariants as steps
 use Rattle.swap_table.specs.Ports.{Prog, Ret, AskDisk, AskFabric, answering, Leads}

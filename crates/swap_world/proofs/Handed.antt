@@ -1,5 +1,5 @@
 -- What take handed over for a caller's last started read is what its call keeps once it came.
-use Rattle.std.proofs.Common.{◌≡◌, ℕ, ◌⊎◌, ◌<◌, Bool, true, false, cond, ◌&&◌, ◌==◌, nat_lt, List, [], ◌∷◌, length, map, set, get_or, refl, sym, ap, ◌∙◌, subst, inl, inr, Option, None, Some}
+use Rattle.std.proofs.Common.{◌≡◌, ℕ, ◌⊎◌, Bool, true, false, cond, ◌&&◌, ◌==◌, nat_lt, List, [], ◌∷◌, refl, sym, ap, ◌∙◌, subst, inl, inr, Option, None, Some}
 use Rattle.std.proofs.lemmas.Bool.{eq-eqb, and_from, eqb-true}
 use Rattle.swap_base.specs.declared.Page.{Page}
 use Rattle.swap_base.specs.declared.Slab.{Slab}
@@ -19,23 +19,20 @@ use Rattle.swap_disk.specs.Port.{DiskCall, DiskAnswer, StartWrite, StartRead, Ta
 use Rattle.swap_wire.specs.declared.Event.{Event}
 use Rattle.swap_wire.specs.declared.Event.TheVariants as event
 use Rattle.swap_wire.specs.declared.Seen.{Seen}
-use Rattle.swap_wire.specs.declared.Seen.TheVariants as seen
 use Rattle.swap_wire.specs.declared.fabric.Sent.TheVariants as sent
 use Rattle.swap_wire.specs.declared.Msg.{Msg}
 use Rattle.swap_wire.specs.declared.Msg.TheVariants as msg
 use Rattle.swap_wire.specs.Fabric.{Parcel, Handed, Brought, NothingCame, LinkLost, FabricCall, FabricAnswer, Connect, Send, Take, End, Give, Cut, Crash, Host, is_page}
 use Rattle.swap_calls.specs.Calls as calls
 use Rattle.swap_calls.specs.Calls.{Call, Calls, state_of, call_of, is_waiting, is_idle, idle}
-use Rattle.swap_calls.specs.declared.Arrived.{Arrived}
 use Rattle.swap_calls.specs.declared.Arrived.TheVariants as arrived
 use Rattle.swap_calls.specs.declared.CallState.{CallState}
 use Rattle.swap_calls.specs.declared.CallState.TheVariants.{Idle, Room, Reading}
-use Rattle.swap_slabs.specs.Slabs as slabs
 use Rattle.swap_rings.specs.Rings.{is_up, ring_of, oldest}
 use Rattle.swap_rings.specs.declared.Request.{Request}
 use Rattle.swap_rings.specs.declared.Request.TheVariants as request
 use Rattle.swap_remote.specs.Remote as remote
-use Rattle.swap_table.specs.Goes.{Asked, OfDisk, OfFabric}
+use Rattle.swap_table.specs.Goes.{OfDisk}
 use Rattle.swap_base.specs.declared.Link.{Link}
 use Rattle.swap_table.specs.declared.OutStep.{OutStep}
 use Rattle.swap_table.specs.declared.Step.{Step}
@@ -46,14 +43,14 @@ use Rattle.swap_table.specs.Ports.{Prog, Ret, AskDisk, AskFabric, answering, Alo
 use Rattle.swap_table.specs.Device as device
 use Rattle.swap_table.specs.Device.{Device, enter, lost, wrote, took, took_back, heard, understood, took_from, borrow_reply, borrow_answered, lent_or_refused, write_reply, write_answered, read_reply, read_answered}
 use Rattle.swap_table.specs.Happens.{happens, seen_by, taken_if, see_take}
-use Rattle.swap_table.specs.Comes.{Linked, Comes, refuses, rests, accepts, gives_page, fails, keeps_page, reads, starts_write, takes_back, links, brings, begins_in, goes_on_in, StepIn}
+use Rattle.swap_table.specs.Comes.{Linked, Comes, refuses, rests, accepts, gives_page, fails, keeps_page, reads, starts_write, takes_back, links, brings, begins_in, goes_on_in}
 use Rattle.swap_table.proofs.Comings.{linked_keep, happens_comes}
 use Rattle.swap_table.proofs.Programs.{Leads-Along}
 use Rattle.swap_table.proofs.Links.{first_of-none}
 use Rattle.swap_table.proofs.Lists.{by_caller, not_eqb, chosen}
 use Rattle.swap_table.proofs.Agree.{get_or-map_idle}
 use Rattle.swap_table.proofs.Places.{set_either}
-use Rattle.swap_world.specs.Failures.{is_start_of, is_start, is_of}
+use Rattle.swap_world.specs.Failures.{is_start_of, is_of}
 use Rattle.swap_world.specs.Since.{is_read_back, from_disk, is_of_caller, from_link, by_disk_call, by_fabric_call, handed_in, asked_along, last_handed}
 use Rattle.swap_world.specs.Runs.{IsRun, begin, effect, without, polled}
 use Rattle.swap_wire.specs.Input.{Input}

@@ -1,5 +1,5 @@
 -- So a page-in that a read answered gives what was handed over, and a call that reads anew has its cause.
-use Rattle.std.proofs.Common.{◌≡◌, ℕ, ◌+◌, ◌⊎◌, Bool, true, false, List, [], ◌∷◌, length, get_or, replicate, zero, suc, refl, sym, ap, ◌∙◌, subst, inl, inr, arith, Option, None, Some}
+use Rattle.std.proofs.Common.{◌≡◌, ℕ, ◌⊎◌, Bool, true, false, List, ◌∷◌, length, get_or, replicate, zero, suc, refl, sym, ap, ◌∙◌, subst, inl, inr, arith, Option, None, Some}
 use Rattle.swap_base.specs.declared.Page.{Page}
 use Rattle.swap_base.specs.declared.Caller.{Caller}
 use Rattle.swap_base.specs.declared.Lender.{Lender}
@@ -17,7 +17,6 @@ use Rattle.swap_disk.specs.Disk.{Taken}
 use Rattle.swap_disk.specs.Port.{DiskCall, DiskAnswer}
 use Rattle.swap_wire.specs.Fabric.{FabricCall, FabricAnswer}
 use Rattle.swap_disk.specs.declared.port.DiskPort.{Ghosts as DiskMeaning}
-use Rattle.swap_wire.specs.Input.{Input}
 use Rattle.swap_wire.specs.declared.Event.{Event}
 use Rattle.swap_wire.specs.declared.Event.TheVariants as event
 use Rattle.swap_wire.specs.declared.Seen.{Seen}
@@ -32,11 +31,9 @@ use Rattle.swap_calls.specs.declared.CallState.TheVariants.{Idle, Room, Reading}
 use Rattle.swap_table.specs.Device.{Device, new, enter, wrote, took, took_back}
 use Rattle.swap_table.specs.Ports.{Along}
 use Rattle.swap_table.specs.Happens.{happens}
-use Rattle.swap_table.specs.Comes.{Linked, StepOut, begins_out, goes_on_out, StepIn, begins_in, goes_on_in, Comes, refuses, rests, accepts, gives_page, fails, keeps_page, reads, starts_write, takes_back, links, brings}
+use Rattle.swap_table.specs.Comes.{Linked, begins_in, goes_on_in, Comes, refuses, rests, accepts, gives_page, fails, keeps_page, reads, starts_write, takes_back, links, brings}
 use Rattle.swap_table.proofs.Comings.{linked_keep, happens_comes}
 use Rattle.swap_table.proofs.Programs.{Leads-Along}
-use Rattle.swap_world.specs.World.{IsStep}
-use Rattle.swap_world.specs.Runs.{IsRun}
 use Rattle.swap_world.specs.Since.{is_read_op, last_handed, AcceptedSince, EndedSince, GivesWhatWasHanded, HasAgainCause, AgainHasCause}
 use Rattle.swap_world.proofs.Finishes.{IsCame, MayGoOn, ReadsAnew, AddsNoRead, AddsKept, finish_rows, finish_anew, page_in_rows}
 use Rattle.swap_world.proofs.Handed.{run_holds}

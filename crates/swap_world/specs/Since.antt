@@ -1,6 +1,6 @@
 -- What disk and fabric were asked along a run, and what became of a caller's call since its last start: what was handed
 -- over to it, whether its page was paged out, and whether its link ended.
-use Rattle.std.specs.Prelude.{◌≡◌, ◌<◌, ◌⊎◌, Bool, true, false, ◌&&◌, ◌==◌, if◌then◌else◌, List, [], ◌∷◌, ℕ, Option, None, Some}
+use Rattle.std.specs.Prelude.{◌≡◌, ◌⊎◌, Bool, true, false, ◌&&◌, ◌==◌, if◌then◌else◌, List, [], ◌∷◌, ℕ, Option, None, Some}
 use Rattle.swap_base.specs.declared.Page.{Page}
 use Rattle.swap_base.specs.declared.Caller.{Caller}
 use Rattle.swap_base.specs.declared.Lender.{Lender}
@@ -14,7 +14,7 @@ use Rattle.swap_base.specs.declared.Via.TheVariants as via
 use Rattle.swap_base.specs.Sizes.{Sizes}
 use Rattle.swap_record.specs.declared.Op.{Op}
 use Rattle.swap_record.specs.declared.Op.TheVariants as op
-use Rattle.swap_record.specs.History.{History, Row, next_name, last}
+use Rattle.swap_record.specs.History.{Row, next_name, last}
 use Rattle.swap_queue.specs.Queue.{first_of}
 use Rattle.swap_disk.specs.Disk.{Taken}
 use Rattle.swap_disk.specs.Port.{DiskCall, DiskAnswer, TakeDone}
@@ -25,7 +25,7 @@ use Rattle.swap_wire.specs.declared.Seen.TheVariants as seen
 use Rattle.swap_wire.specs.declared.Event.TheVariants as event
 use Rattle.swap_wire.specs.declared.fabric.Sent.TheVariants as sent
 use Rattle.swap_wire.specs.declared.fabric.Fabric.{Ghosts as FabricMeaning}
-use Rattle.swap_wire.specs.Fabric.{Parcel, Handed, Brought, NothingCame, LinkLost, FabricCall, FabricAnswer, Connect, Send, Take, End, Give, Cut, Crash, Host, is_page}
+use Rattle.swap_wire.specs.Fabric.{Handed, Brought, NothingCame, LinkLost, FabricCall, FabricAnswer, Connect, Send, Take, End, Give, Cut, Crash, Host, is_page}
 use Rattle.swap_calls.specs.Calls.{state_of, is_waiting}
 use Rattle.swap_calls.specs.declared.Arrived.{Arrived}
 use Rattle.swap_calls.specs.declared.CallState.TheVariants.{Reading}
