@@ -1,12 +1,13 @@
 -- What a device keeps of its lenders: the pages that remote memory has, the state of each slab, and the links.
-use Rattle.std.specs.Prelude.{ℕ, ◌+◌, Bool, true, false, ◌&&◌, ◌==◌, not, if◌then◌else◌, List, [], ◌∷◌, Option, None, Some}
+use Rattle.std.specs.Prelude.{ℕ, ◌+◌, ◌*◌, Bool, true, false, ◌&&◌, ◌==◌, not, if◌then◌else◌, List, [], ◌∷◌, Option, None, Some}
 use Rattle.swap_base.specs.declared.Page.{Page}
 use Rattle.swap_base.specs.declared.Slab.{Slab}
 use Rattle.swap_base.specs.declared.Lender.{Lender}
 use Rattle.swap_base.specs.declared.Lease.{Lease}
 use Rattle.swap_base.specs.Sizes.{Sizes, pages_of, slab_of, place_of}
-use Rattle.swap_bits.specs.Bits.{no_numbers, has, with_number, without_number}
+use Rattle.swap_bits.specs.Bits.{no_numbers, has, with_number, without_number, without_range}
 use Rattle.swap_slabs.specs.Slabs as slabs
+use Rattle.swap_slabs.specs.declared.Reply.TheVariants as reply
 use Rattle.swap_slabs.specs.declared.SlabState.{SlabState}
 use Rattle.swap_slabs.specs.declared.SlabState.TheVariants.{Local, Asking, Borrowing, Mapped, Draining}
 use Rattle.swap_slabs.specs.declared.TheConstants.{MOST_LENDERS}
@@ -53,6 +54,18 @@ open_at s links (Some place) = if rings.may_send s.window (rings.link_of links p
 abbrev pub target : Sizes → Remote → Page → Option (Lender × Lease)
 target s r page = open_at s r.links (mapping (state_for s r.slabs page))
 
+-- the lenders from the n-th on whose link is up, of those that meet a test
+abbrev pub up_from : (Lender → Bool) → List LinkState → ℕ → List ℕ
+up_from test [] n = []
+up_from test (link ∷ links) n = if link.up && test (record { 0 = n }) then n ∷ up_from test links (n + 1) else up_from test links (n + 1)
+
+-- the lenders that may be asked for a slab: those that hold none, and the others
+abbrev pub fresh : Remote → List ℕ
+fresh r = up_from (λ l. not (slabs.holds r.slabs l)) r.links 0
+
+abbrev pub others : Remote → List ℕ
+others r = up_from (λ l. slabs.holds r.slabs l) r.links 0
+
 -- remote memory can be read for this page
 abbrev pub has_page : Remote → Page → Bool
 has_page r page = has r.bits page.0
@@ -68,6 +81,18 @@ changed r page = record r { bits = without_number r.bits page.0 }
 -- a request for a page was sent to the lender of its slab
 abbrev pub sent_for : Sizes → Remote → Lender → Page → Request → Remote
 sent_for s r lender page item = record r { slabs = slabs.begun r.slabs (slab_for s page); links = rings.sent r.links lender item }
+
+-- a slab was asked for: of one lender, or of a second beside the first
+abbrev pub query_sent : Remote → Slab → Option Lender → Lender → Remote
+query_sent r slab None lender = record r { slabs = slabs.asked r.slabs slab lender None; links = rings.sent r.links lender (request.Query slab) }
+query_sent r slab (Some first) lender = record r { slabs = slabs.asked r.slabs slab first (Some lender); links = rings.sent r.links lender (request.Query slab) }
+
+-- a lender that was asked tells how many slots are free, or is gone
+abbrev pub told : Remote → Lender → Slab → ℕ → Remote
+told r lender slab free = record r { slabs = slabs.answered r.slabs slab lender (reply.Free free); links = rings.answered r.links lender }
+
+abbrev pub gone : Remote → Lender → Slab → Remote
+gone r lender slab = record r { slabs = slabs.answered r.slabs slab lender reply.Gone }
 
 -- a slab is borrowed, lent, or refused
 abbrev pub borrow_sent : Remote → Slab → Lender → Remote
@@ -90,6 +115,18 @@ with_page_if false r page = r
 
 abbrev pub written : Sizes → Remote → Lender → Page → Bool → Remote
 written s r lender page newest = with_page_if (newest && slabs.is_mapped (state_for s r.slabs page)) (settled_for s r lender page) page
+
+-- the slab that is mapped at the lender with this lease
+abbrev pub only_mapped : List SlabState → Option Slab → Option Slab
+only_mapped states None = None
+only_mapped states (Some slab) = if slabs.is_mapped (slabs.state_of states slab) then Some slab else None
+
+abbrev pub mapped_by : List SlabState → Lender → Lease → Option Slab
+mapped_by states lender lease = only_mapped states (slabs.by_lease states lender lease)
+
+-- a mapped slab is taken back: no page of it can be read, and it drains
+abbrev pub evicted : Sizes → Remote → Slab → Remote
+evicted s r slab = record r { bits = without_range r.bits (slab.0 * s.pages_per_slab) (slab.0 * s.pages_per_slab + s.pages_per_slab); slabs = slabs.evicted r.slabs slab }
 
 -- the pages from n on that aren't at a lender
 abbrev pub left_from : Sizes → List SlabState → Lender → List Bool → ℕ → List Bool

@@ -1,5 +1,5 @@
 -- The device table: what each call makes of the device, what it asks of disk and fabric, and what it answers.
-use Rattle.std.specs.Prelude.{ℕ, ◌+◌, Bool, true, false, ◌&&◌, ◌==◌, nat_lt, if◌then◌else◌, List, [], ◌∷◌, is_none, Option, None, Some}
+use Rattle.std.specs.Prelude.{ℕ, zero, suc, ◌+◌, Bool, true, false, ◌&&◌, ◌==◌, nat_lt, if◌then◌else◌, List, [], ◌∷◌, length, is_none, Option, None, Some}
 use Rattle.swap_base.specs.declared.Page.{Page}
 use Rattle.swap_base.specs.declared.Caller.{Caller}
 use Rattle.swap_base.specs.declared.EntryNo.{EntryNo}
@@ -30,6 +30,15 @@ use Rattle.swap_wire.specs.declared.fabric.Gave.{Gave}
 use Rattle.swap_wire.specs.declared.fabric.Hosted.{Hosted}
 use Rattle.swap_wire.specs.Fabric.{Parcel, parcel_of, Handed, Brought, NothingCame, LinkLost, Connect, Send, Take, End, Give, Cut, Crash, Host, FabricOf}
 use Rattle.swap_slabs.specs.Slabs as slabs
+use Rattle.swap_slabs.specs.declared.Reply.TheVariants as reply
+use Rattle.swap_slabs.specs.declared.Chosen.{Chosen}
+use Rattle.swap_slabs.specs.declared.Chosen.TheVariants as chosen
+use Rattle.swap_slabs.specs.declared.TheConstants.{MOST_LENDERS}
+use Rattle.swap_activity.specs.Rates.{Activity}
+use Rattle.swap_rates.specs.Table as rates
+use Rattle.swap_choice.specs.declared.lenders.Asked.{Asked}
+use Rattle.swap_choice.specs.declared.lenders.Asked.TheVariants as picked
+use Rattle.swap_choice.specs.Asked as choice
 use Rattle.swap_rings.specs.Rings as rings
 use Rattle.swap_rings.specs.declared.Request.{Request}
 use Rattle.swap_rings.specs.declared.Request.TheVariants as request
@@ -48,10 +57,11 @@ use Rattle.swap_table.specs.declared.Step.{Step}
 use Rattle.swap_table.specs.declared.Step.TheVariants as steps
 use Rattle.swap_table.specs.declared.DiskStep.{DiskStep}
 use Rattle.swap_table.specs.declared.DiskStep.TheVariants as disk
+use Rattle.swap_table.specs.declared.Placed.{Placed}
 use Rattle.swap_table.specs.declared.LinkStep.{LinkStep}
 use Rattle.swap_table.specs.declared.LinkStep.TheVariants as link
 use Rattle.swap_table.specs.declared.TheConstants.{MOST_LINKS, WIRE_VERSION}
-use Rattle.swap_table.specs.Ports.{Prog, Ret, AskDisk, AskFabric, answering}
+use Rattle.swap_table.specs.Ports.{Prog, Ret, AskDisk, AskFabric, answering, then}
 
 -- The newest entry of a page is the history's last page-out of it, and isn't kept beside the history.
 pub record Device : Type 0 where
@@ -63,6 +73,7 @@ pub record Device : Type 0 where
   pub failed_writes : ℕ
   pub failed_reads : ℕ
   pub remote : Remote
+  pub rates : List Activity
   pub links_made : ℕ
 
 -- a device beside its disk and its fabric, and the entries that its history has room for
@@ -87,6 +98,7 @@ new s lenders =
       failed_writes = 0;
       failed_reads = 0;
       remote = remote.none s;
+      rates = rates.all_still s.slabs;
       links_made = 0;
     }
 
@@ -117,7 +129,15 @@ wait_for_room d c p bytes = record d { calls = calls.waits_for_room d.calls c p 
 abbrev pub wait_for_disk : Device → Caller → Page → EntryNo → Device
 wait_for_disk d c p newest = record d { calls = calls.reads d.calls c p newest via.Disk d.failed_reads }
 
--- a link that is lost: the slabs at its lender are local, and the calls that wait through it are lost
+-- a page's slab is hit, and each slab's period ends
+abbrev pub hit : Device → Page → Device
+hit d p = record d { rates = rates.hit d.rates (remote.slab_for d.sizes p) }
+
+abbrev pub periods_ended : Device → Device
+periods_ended d = record d { rates = rates.periods_ended d.rates }
+
+-- a link that is lost, but for the slabs that asked its lender: those at its lender are local, and the calls that wait
+-- through it are lost
 abbrev pub lost : Device → Lender → Device
 lost d l = record d { remote = remote.lost d.sizes d.remote l; calls = calls.lost d.calls l }
 
@@ -128,14 +148,59 @@ write_sent d l p e = record d { remote = remote.sent_for d.sizes d.remote l p (r
 abbrev pub read_sent : Device → Lender → Caller → Page → EntryNo → Device
 read_sent d l c p newest = record d { remote = remote.sent_for d.sizes d.remote l p (request.Read c p); calls = calls.reads d.calls c p newest (via.Lender l) d.failed_reads }
 
+-- a local slab is borrowed from a lender whose link takes a request; `down` is what happens where the link is down
+abbrev pub may_map : Device → Slab → Lender → Bool
+may_map d slab l = slabs.is_local (slabs.state_of d.remote.slabs slab) && rings.may_send d.sizes.window (rings.link_of d.remote.links l)
+
+abbrev pub after_borrow : (Device → Lender → Prog Device) → Device → Slab → Lender → Sent → Prog Device
+after_borrow down d slab l sent.Sent = Ret (record d { remote = remote.borrow_sent d.remote slab l })
+after_borrow down d slab l sent.Down = down d l
+
+abbrev pub borrow_from : (Device → Lender → Prog Device) → Device → Slab → Lender → Prog Device
+borrow_from down d slab l = if may_map d slab l then AskFabric (Send l (parcel_of (msg.Borrow slab) [])) (after_borrow down d slab l) else Ret d
+
+-- the slab and the lender of a choice that is due
+abbrev pub chosen_for : Slab → Option Chosen → Option (Slab × Lender)
+chosen_for slab None = None
+chosen_for slab (Some chosen.Nobody) = None
+chosen_for slab (Some (chosen.Lender l)) = Some (slab, l)
+
+-- a slab whose lenders have all replied is borrowed from the one that was chosen, and stays local where that can't be
+abbrev pub choose : (Device → Lender → Prog Device) → Device → Option (Slab × Lender) → Prog Device
+choose down d None = Ret d
+choose down d (Some at) = borrow_from down d at.0 at.1
+
+-- a slab that asked a lender which is gone waits no more for its reply
+abbrev pub give_up_one : (Device → Lender → Prog Device) → Device → Lender → Slab → Prog Device
+give_up_one down d l slab = choose down (record d { remote = remote.gone d.remote l slab }) (chosen_for slab (slabs.answer_choice (slabs.state_of d.remote.slabs slab) l reply.Gone))
+
+-- so each such slab of these many from the n-th on, in order
+abbrev pub give_up : (Device → Lender → Prog Device) → ℕ → ℕ → Device → Lender → Prog Device
+give_up down zero n d l = Ret d
+give_up down (suc left) n d l =
+    then (if slabs.asks l (slabs.state_of d.remote.slabs (record { 0 = n })) then give_up_one down d l (record { 0 = n }) else Ret d) (λ e. give_up down left (n + 1) e l)
+
+-- A link is lost: the slabs at its lender are local, the calls that wait through it are lost, and each slab that asked
+-- its lender waits no more. A choice that is due then may find the next link down. Each loss takes one link, so that no
+-- more follow than there are links.
+abbrev pub lose_with : ℕ → Device → Lender → Prog Device
+lose_with zero d l = give_up (λ e m. Ret (lost e m)) (length d.remote.slabs) 0 (lost d l) l
+lose_with (suc more) d l = give_up (lose_with more) (length d.remote.slabs) 0 (lost d l) l
+
+abbrev pub lose : Device → Lender → Prog Device
+lose d l = lose_with MOST_LENDERS d l
+
 -- a page goes to the lender of its slab, where the slab is mapped and the link takes a request
-abbrev pub after_write : Device → Lender → Page → EntryNo → Sent → Device × Option Lender
-after_write d l p e sent.Sent = (write_sent d l p e, Some l)
-after_write d l p e sent.Down = (lost d l, None)
+abbrev pub sent_nowhere : Device → Device × Option Lender
+sent_nowhere d = (d, None)
+
+abbrev pub after_write : Device → Lender → Page → EntryNo → Sent → Prog (Device × Option Lender)
+after_write d l p e sent.Sent = Ret (write_sent d l p e, Some l)
+after_write d l p e sent.Down = answering sent_nowhere (lose d l)
 
 abbrev pub write_to : Device → Page → EntryNo → List ℕ → Option (Lender × Lease) → Prog (Device × Option Lender)
 write_to d p e bytes None = Ret (d, None)
-write_to d p e bytes (Some at) = AskFabric (Send at.0 (parcel_of (msg.Write at.1 (place_of d.sizes p.0)) bytes)) (λ r. Ret (after_write d at.0 p e r))
+write_to d p e bytes (Some at) = AskFabric (Send at.0 (parcel_of (msg.Write at.1 (place_of d.sizes p.0)) bytes)) (after_write d at.0 p e)
 
 abbrev pub accept : Device → Caller → Page → List ℕ → Prog (Device × Option Lender)
 accept d c p bytes = write_to (enter d c p bytes) p (next_name d.history) bytes (remote.target d.sizes d.remote p)
@@ -147,11 +212,11 @@ read_disk d c p newest = AskDisk (StartRead c p) (λ _. Ret (wait_for_disk d c p
 -- a read of the lender, and of the disk where the link is down
 abbrev pub after_read : Device → Lender → Caller → Page → EntryNo → Sent → Prog (Device × InStep)
 after_read d l c p newest sent.Sent = Ret (read_sent d l c p newest, ins.Wait (via.Lender l))
-after_read d l c p newest sent.Down = read_disk (lost d l) c p newest
+after_read d l c p newest sent.Down = then (lose d l) (λ e. read_disk e c p newest)
 
 abbrev pub read_at : Device → Caller → Page → EntryNo → Option (Lender × Lease) → Prog (Device × InStep)
 read_at d c p newest None = read_disk d c p newest
-read_at d c p newest (Some at) = AskFabric (Send at.0 (parcel_of (msg.Read at.1 (place_of d.sizes p.0)) [])) (λ r. after_read d at.0 c p newest r)
+read_at d c p newest (Some at) = AskFabric (Send at.0 (parcel_of (msg.Read at.1 (place_of d.sizes p.0)) [])) (after_read d at.0 c p newest)
 
 -- where remote memory can be read for a page now
 abbrev pub source : Device → Page → Option (Lender × Lease)
@@ -170,13 +235,16 @@ route d c p = route_by d c p (last d.history p) (queue.newest d.queue p)
 abbrev pub accepted : EntryNo → Device × Option Lender → Device × OutStep
 accepted entry r = (r.0, outs.Done entry r.1)
 
-abbrev pub out : Device → Caller → Page → List ℕ → Prog (Device × OutStep)
-out d c p bytes =
+abbrev pub put : Device → Caller → Page → List ℕ → Prog (Device × OutStep)
+put d c p bytes =
     if queue.has_room d.queue p then answering (accepted (next_name d.history)) (accept d c p bytes) else Ret (wait_for_room d c p bytes, outs.Room)
+
+abbrev pub out : Device → Caller → Page → List ℕ → Prog (Device × OutStep)
+out d c p bytes = put (hit d p) c p bytes
 
 -- a page-in's first step
 abbrev pub read : Device → Caller → Page → Prog (Device × InStep)
-read d c p = route d c p
+read d c p = route (hit d p) c p
 
 -- a page-in that was routed again
 abbrev pub routed_again : Device × InStep → Device × Step
@@ -247,7 +315,11 @@ disk_take d = AskDisk TakeDone (λ taken. Ret (took_back d taken))
 abbrev pub disk_finish : Device → DiskWhich → Bool → Prog (Device × Bool)
 disk_finish d which ok = AskDisk (LetFinish which ok) (λ done. Ret (d, done))
 
--- which requests a message answers: a slab that was lent or refused, a page that was written or read
+-- which requests a message answers: a slab that was asked for, lent or refused, a page that was written or read
+abbrev pub query_reply : Msg → Option (Slab × ℕ)
+query_reply (msg.Room slab free) = Some (slab, free)
+query_reply _ = None
+
 abbrev pub borrow_reply : Msg → Option (Slab × Option Lease)
 borrow_reply (msg.Lent slab lease) = Some (slab, Some lease)
 borrow_reply (msg.Refused slab) = Some (slab, None)
@@ -261,12 +333,43 @@ abbrev pub read_reply : Msg → Option (Lease × ℕ)
 read_reply (msg.PageIs lease place) = Some (lease, place)
 read_reply _ = None
 
--- a slab that was lent is mapped, where no slab at the lender has this lease; one that was refused is local
-abbrev pub lent_or_refused : Device → Lender → Slab → Option Lease → Option Device
-lent_or_refused d l slab None = Some (record d { remote = remote.refused d.remote l slab })
-lent_or_refused d l slab (Some lease) = if is_none (slabs.by_lease d.remote.slabs l lease) then Some (record d { remote = remote.lent d.remote l slab lease }) else None
+-- the lease whose rate a message asks for, and the one that it takes back; neither answers a request
+abbrev pub rate_asked : Msg → Option Lease
+rate_asked (msg.AskRates lease) = Some lease
+rate_asked _ = None
 
-abbrev pub borrow_answered : Device → Lender → Slab → Option (Slab × Option Lease) → Option Device
+abbrev pub taken_back : Msg → Option Lease
+taken_back (msg.Evict lease) = Some lease
+taken_back _ = None
+
+-- what a message makes of the device, what the device says at once in answer, and the slab that is borrowed then
+pub record Heard : Type 0 where
+  pub device : Device
+  pub word : Option Parcel
+  pub choice : Option (Slab × Lender)
+
+abbrev pub only : Device → Heard
+only d = record { device = d; word = None; choice = None }
+
+-- a lease is given back, where there is one to give
+abbrev pub done_word : Option Lease → Option Parcel
+done_word None = None
+done_word (Some lease) = Some (parcel_of (msg.Done lease) [])
+
+-- a lender that was asked has told how many slots are free
+abbrev pub query_answered : Device → Lender → Slab → Option (Slab × ℕ) → Option Heard
+query_answered d l slab None = None
+query_answered d l slab (Some told) =
+    if told.0.0 == slab.0
+    then Some (record { device = record d { remote = remote.told d.remote l slab told.1 }; word = None; choice = chosen_for slab (slabs.answer_choice (slabs.state_of d.remote.slabs slab) l (reply.Free told.1)) })
+    else None
+
+-- a slab that was lent is mapped, where no slab at the lender has this lease; one that was refused is local
+abbrev pub lent_or_refused : Device → Lender → Slab → Option Lease → Option Heard
+lent_or_refused d l slab None = Some (only (record d { remote = remote.refused d.remote l slab }))
+lent_or_refused d l slab (Some lease) = if is_none (slabs.by_lease d.remote.slabs l lease) then Some (only (record d { remote = remote.lent d.remote l slab lease })) else None
+
+abbrev pub borrow_answered : Device → Lender → Slab → Option (Slab × Option Lease) → Option Heard
 borrow_answered d l slab None = None
 borrow_answered d l slab (Some reply) = if reply.0.0 == slab.0 then lent_or_refused d l slab reply.1 else None
 
@@ -275,47 +378,136 @@ abbrev pub is_newest : Option EntryNo → EntryNo → Bool
 is_newest None e = false
 is_newest (Some newest) e = newest.0 == e.0
 
-abbrev pub write_answered : Device → Lender → Page → EntryNo → Option (Lease × ℕ) → Option Device
+-- the lease of a page's slab, where it is given back with the answer to this request
+abbrev pub settled_word : Device → Page → Option Parcel
+settled_word d p = done_word (slabs.settled_lease (remote.state_for d.sizes d.remote.slabs p))
+
+abbrev pub write_answered : Device → Lender → Page → EntryNo → Option (Lease × ℕ) → Option Heard
 write_answered d l p e None = None
-write_answered d l p e (Some at) = if remote.names_page d.sizes d.remote l p at.0 at.1 then Some (record d { remote = remote.written d.sizes d.remote l p (is_newest (last d.history p) e) }) else None
+write_answered d l p e (Some at) =
+    if remote.names_page d.sizes d.remote l p at.0 at.1
+    then Some (record { device = record d { remote = remote.written d.sizes d.remote l p (is_newest (last d.history p) e) }; word = settled_word d p; choice = None })
+    else None
 
 -- a read that came back
-abbrev pub read_answered : Device → Lender → Caller → Page → List ℕ → Option (Lease × ℕ) → Option Device
+abbrev pub read_answered : Device → Lender → Caller → Page → List ℕ → Option (Lease × ℕ) → Option Heard
 read_answered d l c p bytes None = None
-read_answered d l c p bytes (Some at) = if remote.names_page d.sizes d.remote l p at.0 at.1 then Some (record d { remote = remote.settled_for d.sizes d.remote l p; calls = calls.came d.calls c bytes }) else None
+read_answered d l c p bytes (Some at) =
+    if remote.names_page d.sizes d.remote l p at.0 at.1
+    then Some (record { device = record d { remote = remote.settled_for d.sizes d.remote l p; calls = calls.came d.calls c bytes }; word = settled_word d p; choice = None })
+    else None
 
--- what a message does that answers the oldest request of its link; no other is allowed
-abbrev pub heard : Device → Lender → Parcel → Option Request → Option Device
-heard d l parcel None = None
-heard d l parcel (Some (request.Query slab)) = None
-heard d l parcel (Some (request.Borrow slab)) = borrow_answered d l slab (borrow_reply parcel.msg)
-heard d l parcel (Some (request.Write p e)) = write_answered d l p e (write_reply parcel.msg)
-heard d l parcel (Some (request.Read c p)) = read_answered d l c p parcel.page (read_reply parcel.msg)
+-- what a message does that answers the oldest request of its link
+abbrev pub answered : Device → Lender → Parcel → Option Request → Option Heard
+answered d l parcel None = None
+answered d l parcel (Some (request.Query slab)) = query_answered d l slab (query_reply parcel.msg)
+answered d l parcel (Some (request.Borrow slab)) = borrow_answered d l slab (borrow_reply parcel.msg)
+answered d l parcel (Some (request.Write p e)) = write_answered d l p e (write_reply parcel.msg)
+answered d l parcel (Some (request.Read c p)) = read_answered d l c p parcel.page (read_reply parcel.msg)
+
+-- a lender asks for the rate of the slab that is mapped there with this lease
+abbrev pub rate_told : Device → Lease → Option Slab → Option Heard
+rate_told d lease None = None
+rate_told d lease (Some slab) = Some (record { device = d; word = Some (parcel_of (msg.Rates lease (rates.value_of d.rates slab)) []); choice = None })
+
+-- a lender takes it back: no page of it can be read, and it drains
+abbrev pub evicted : Device → Option Slab → Option Heard
+evicted d None = None
+evicted d (Some slab) = Some (record { device = record d { remote = remote.evicted d.sizes d.remote slab }; word = done_word (slabs.evicted_lease (slabs.state_of d.remote.slabs slab)); choice = None })
+
+-- what a message does; no other is allowed
+abbrev pub heard_by : Device → Lender → Parcel → Option Request → Option Lease → Option Lease → Option Heard
+heard_by d l parcel oldest (Some lease) back = rate_told d lease (remote.mapped_by d.remote.slabs l lease)
+heard_by d l parcel oldest None (Some lease) = evicted d (remote.mapped_by d.remote.slabs l lease)
+heard_by d l parcel oldest None None = answered d l parcel oldest
+
+abbrev pub heard : Device → Lender → Parcel → Option Request → Option Heard
+heard d l parcel oldest = heard_by d l parcel oldest (rate_asked parcel.msg) (taken_back parcel.msg)
+
+-- something is said on a link that isn't a request
+abbrev pub after_word : Device → Lender → Sent → Prog Device
+after_word d l sent.Sent = Ret d
+after_word d l sent.Down = lose d l
+
+abbrev pub say : Device → Lender → Option Parcel → Prog Device
+say d l None = Ret d
+say d l (Some parcel) = AskFabric (Send l parcel) (after_word d l)
+
+-- what follows on a message in the same step
+abbrev pub follow : Heard → Lender → Prog Device
+follow h l = then (say h.device l h.word) (λ e. choose lose e h.choice)
+
+abbrev pub with_step : LinkStep → Device → Device × LinkStep
+with_step step d = (d, step)
 
 -- a link that brought a message which isn't allowed is ended, and lost
-abbrev pub understood : Device → Lender → Msg → Option Device → Prog (Device × LinkStep)
-understood d l m (Some heard) = Ret (heard, link.Got m)
-understood d l m None = AskFabric (End l) (λ _. Ret (lost d l, link.Lied))
+abbrev pub understood : Device → Lender → Msg → Option Heard → Prog (Device × LinkStep)
+understood d l m (Some heard) = answering (with_step (link.Got m)) (follow heard l)
+understood d l m None = AskFabric (End l) (λ _. answering (with_step link.Lied) (lose d l))
 
 abbrev pub took_from : Device → Lender → Handed → Prog (Device × LinkStep)
 took_from d l (Brought parcel) = understood d l parcel.msg (heard d l parcel (rings.oldest (rings.ring_of d.remote.links l)))
 took_from d l NothingCame = Ret (d, link.Nothing)
-took_from d l LinkLost = Ret (lost d l, link.Lost)
+took_from d l LinkLost = answering (with_step link.Lost) (lose d l)
 
 -- a message is taken from a link that is up
 abbrev pub link_take : Device → Lender → Prog (Device × LinkStep)
 link_take d l = if rings.is_up d.remote.links l then AskFabric (Take l) (took_from d l) else Ret (d, link.Nothing)
 
--- a local slab is borrowed from a lender whose link takes a request
-abbrev pub after_borrow : Device → Slab → Lender → Sent → Device × Bool
-after_borrow d slab l sent.Sent = (record d { remote = remote.borrow_sent d.remote slab l }, true)
-after_borrow d slab l sent.Down = (lost d l, true)
-
-abbrev pub may_map : Device → Slab → Lender → Bool
-may_map d slab l = slabs.is_local (slabs.state_of d.remote.slabs slab) && rings.may_send d.sizes.window (rings.link_of d.remote.links l)
+-- a local slab is borrowed from a lender that a caller names
+abbrev pub mapped_now : Device → Device × Bool
+mapped_now d = (d, true)
 
 abbrev pub map : Device → Slab → Lender → Prog (Device × Bool)
-map d slab l = if may_map d slab l then AskFabric (Send l (parcel_of (msg.Borrow slab) [])) (λ r. Ret (after_borrow d slab l r)) else Ret (d, false)
+map d slab l = if may_map d slab l then answering mapped_now (borrow_from lose d slab l) else Ret (d, false)
+
+-- A slab is asked for: of one lender while it's local, or of a second beside the first. Whether the query was sent.
+abbrev pub may_ask : Device → Slab → Option Lender → Lender → Bool
+may_ask d slab None l = may_map d slab l
+may_ask d slab (Some first) l = rings.may_send d.sizes.window (rings.link_of d.remote.links l)
+
+abbrev pub not_asked : Device → Device × Bool
+not_asked d = (d, false)
+
+abbrev pub after_query : Device → Slab → Option Lender → Lender → Sent → Prog (Device × Bool)
+after_query d slab first l sent.Sent = Ret (record d { remote = remote.query_sent d.remote slab first l }, true)
+after_query d slab first l sent.Down = answering not_asked (lose d l)
+
+abbrev pub query : Device → Slab → Option Lender → Lender → Prog (Device × Bool)
+query d slab first l = if may_ask d slab first l then AskFabric (Send l (parcel_of (msg.Query slab) [])) (after_query d slab first l) else Ret (d, false)
+
+-- those that were asked, of a first and a second
+abbrev pub placed_at : Slab → Lender → Bool → Option Placed
+placed_at slab first true = Some (record { slab = slab; first = first; second = None })
+placed_at slab first false = None
+
+abbrev pub placed_beside : Slab → Lender → Lender → Bool → Option Placed
+placed_beside slab first second true = Some (record { slab = slab; first = first; second = Some second })
+placed_beside slab first second false = placed_at slab first true
+
+abbrev pub ask_one : Device → Slab → Lender → Prog (Device × Option Placed)
+ask_one d slab l = answering (λ r. (r.0, placed_at slab l r.1)) (query d slab None l)
+
+abbrev pub ask_second : Slab → Lender → Lender → Device × Bool → Prog (Device × Option Placed)
+ask_second slab first second (d, true) = answering (λ r. (r.0, placed_beside slab first second r.1)) (query d slab (Some first) second)
+ask_second slab first second (d, false) = ask_one d slab second
+
+abbrev pub ask : Device → Slab → Asked → Prog (Device × Option Placed)
+ask d slab picked.Nobody = Ret (d, None)
+ask d slab (picked.One n) = ask_one d slab (record { 0 = n })
+ask d slab (picked.Two n m) = then (query d slab None (record { 0 = n })) (ask_second slab (record { 0 = n }) (record { 0 = m }))
+
+-- the hottest local slab is asked for, of two lenders
+abbrev pub place_at : Device → ℕ → Option Slab → Prog (Device × Option Placed)
+place_at d word None = Ret (d, None)
+place_at d word (Some slab) = ask d slab (choice.asked word (remote.fresh d.remote) (remote.others d.remote))
+
+abbrev pub place : Device → ℕ → Prog (Device × Option Placed)
+place d word = place_at d word (rates.hottest d.sizes.hot d.remote.slabs d.rates)
+
+-- each slab's period ends, and the hottest local slab is placed
+abbrev pub tick : Device → ℕ → Prog (Device × Option Placed)
+tick d word = place (periods_ended d) word
 
 -- a link is made, with the next number, in place of the one that is up, and greeted
 abbrev pub raised : Device → Lender → Device
@@ -327,18 +519,17 @@ next_link d = record { 0 = d.links_made }
 abbrev pub hello : Sizes → Parcel
 hello s = parcel_of (msg.Hello WIRE_VERSION s.page_bytes s.pages_per_slab) []
 
-abbrev pub after_hello : Device → Lender → Sent → Device
-after_hello d l sent.Sent = d
-after_hello d l sent.Down = lost d l
+abbrev pub with_link : Link → Device → Device × Option Link
+with_link n d = (d, Some n)
 
 abbrev pub connect_on : Device → Lender → Prog (Device × Option Link)
-connect_on d l = AskFabric (Connect l (next_link d)) (λ _. AskFabric (Send l (hello d.sizes)) (λ r. Ret (after_hello (raised d l) l r, Some (next_link d))))
+connect_on d l = AskFabric (Connect l (next_link d)) (λ _. answering (with_link (next_link d)) (say (raised d l) l (Some (hello d.sizes))))
 
-abbrev pub without_link : Device → Lender → Device
-without_link d l = if rings.is_up d.remote.links l then lost d l else d
+abbrev pub without_link : Device → Lender → Prog Device
+without_link d l = if rings.is_up d.remote.links l then lose d l else Ret d
 
 abbrev pub connect : Device → Lender → Prog (Device × Option Link)
-connect d l = if nat_lt d.links_made MOST_LINKS then connect_on (without_link d l) l else Ret (d, None)
+connect d l = if nat_lt d.links_made MOST_LINKS then then (without_link d l) (λ e. connect_on e l) else Ret (d, None)
 
 -- the far side of the links moves, where the fabric holds it
 abbrev pub give_to : Device → Lender → Prog (Device × Gave)

@@ -4,7 +4,7 @@
 ghost use Rattle.swap_table.specs.Laws.{EachCallKeeps, NewAgrees};
 ghost use Rattle.swap_table.specs.Promises.{FollowsItsMoves, Promises};
 
-use swap_base::{Caller, EntryNo, Lender, Page, Via};
+use swap_base::{Caller, EntryNo, Lender, Page, Slab, Via};
 use swap_disk::DiskPort;
 use swap_wire::{Fabric, Msg};
 
@@ -61,6 +61,14 @@ pub enum DiskStep {
     Dropped { page: Page, entry: EntryNo },
     Came { caller: Caller, page: Page },
     Failed { caller: Caller, page: Page },
+}
+
+/// A slab that was asked for, of one lender or of two.
+#[derive(Clone, Copy, Debug, PartialEq, Eq)]
+pub struct Placed {
+    pub slab: Slab,
+    pub first: Lender,
+    pub second: Option<Lender>,
 }
 
 /// What became of a take from a link.
