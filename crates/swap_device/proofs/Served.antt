@@ -19,7 +19,7 @@ use Rattle.swap_rings.specs.declared.Request.{Request}
 use Rattle.swap_rings.specs.declared.Request.TheVariants as request
 use Rattle.swap_remote.specs.Remote.{slab_for, state_for}
 use Rattle.swap_table.specs.Device.{Device, lost, understood}
-use Rattle.swap_table.specs.Serves.{Keeping, Owing, is_for_slab, flying_for, IsMappedTo, WaitsFrom, IsAwaited, SlabFits, Serves}
+use Rattle.swap_table.specs.Serves.{Keeping, Owing, is_for_slab, flying_for, IsLeasedFrom, WaitsFrom, IsAwaited, SlabFits, Serves}
 use Rattle.swap_table.proofs.Lists.{one_if}
 use Rattle.swap_table.proofs.Links.{flying-cons}
 use Rattle.swap_table.proofs.Sends.{slab_within}
@@ -41,7 +41,7 @@ waits_is l p (Reading q n (via.Lender m) arrived.Failed newer since) w = absurd 
 waits_is l p (Reading q n (via.Lender m) arrived.Lost newer since) w = absurd w
 
 -- at least the oldest request flies for its page's slab
-flies_one : (keeps : Keeping) (owes : Owing) (n : ℕ) (d : Device) (l : Lender) (p : Page) (x : Request) (rest : List Request) → Serves keeps owes d.sizes n d.history d.calls d.remote → p.0 < pages_of d.sizes → IsMappedTo l (state_for d.sizes d.remote.slabs p) → ring_of d.remote.links l ≡ x ∷ rest
+flies_one : (keeps : Keeping) (owes : Owing) (n : ℕ) (d : Device) (l : Lender) (p : Page) (x : Request) (rest : List Request) → Serves keeps owes d.sizes n d.history d.calls d.remote → p.0 < pages_of d.sizes → IsLeasedFrom l (state_for d.sizes d.remote.slabs p) → ring_of d.remote.links l ≡ x ∷ rest
     → is_for_slab d.sizes (slab_for d.sizes p) x ≡ true → 0 < flying_of (state_for d.sizes d.remote.slabs p)
 flies_one keeps owes n d l p x rest k within mapped ring here =
     let s : Sizes = d.sizes in

@@ -35,14 +35,15 @@ use Rattle.swap_rings.specs.declared.Request.TheVariants as request
 use Rattle.swap_remote.specs.Remote as remote
 use Rattle.swap_remote.specs.Remote.{Remote}
 use Rattle.swap_disk.specs.declared.port.DiskPort.{Ghosts as DiskMeaning}
+use Rattle.swap_activity.specs.Rates.{Activity}
 use Rattle.swap_wire.specs.declared.fabric.Fabric.{Ghosts as FabricMeaning}
-use Rattle.swap_table.specs.Device.{Device, new, enter, give, fault, lost, wait_for_room, wait_for_disk, write_sent, read_sent, wrote, took, took_back, raised, without_link, is_newest}
+use Rattle.swap_table.specs.Device.{Device, Heard, new, enter, give, fault, lost, wait_for_room, wait_for_disk, write_sent, read_sent, wrote, took, took_back, raised, is_newest}
 use Rattle.swap_table.specs.Fits.{WaitsFor, IsExpected}
 use Rattle.swap_table.specs.Serves.{IsAwaited, WaitsFrom, OwesReads}
 use Rattle.swap_table.specs.Accounts.{is_read_of, IsUnderWayBy, IsAccounted, IsOfEntry, IsOfLast, AreOfEntries, Accounts}
 use Rattle.swap_table.specs.Promises.{FollowsItsMoves, Promises}
 use Rattle.swap_table.specs.Goes.{stay, by_disk, by_fabric, EachKeepsWhere}
-use Rattle.swap_table.specs.Moves.{Within, Speaker, Outs, Ins, Sends, write, read, borrow, Hears, lent, refused, written, brought, Move, enters, gives, faults, waits_for_room, starts, waits_for_disk, takes, lets_finish, sends, finds_down, raises, speaks, speaks_to_nobody, hears, hears_nothing, loses, misunderstands, breaks_off, far}
+use Rattle.swap_table.specs.Moves.{Within, Speaker, Outs, Ins, Sends, write, read, borrow, query, query_too, Hears, roomy, lent, refused, written, brought, asked_rate, told_to_go, Move, enters, gives, faults, waits_for_room, rates_change, lets_go, gives_up, starts, waits_for_disk, takes, lets_finish, sends, finds_down, raises, speaks, speaks_to_nobody, hears, hears_nothing, loses, misunderstands, breaks_off, far}
 use Rattle.swap_table.proofs.Lists.{All-implies, not_eqb}
 use Rattle.swap_table.proofs.Agree.{IdleFor, get_or-map_idle, found}
 use Rattle.swap_table.proofs.Entries.{last_out}
@@ -214,12 +215,15 @@ module _ (A : List ℕ → List ℕ → Type 0) where
     copies = a.copies;
   }
 
-  let_go_first : (d : Device) (l : Lender) (fs : List Flight) → Accounts A d fs → Accounts A (without_link d l) fs
-  let_go_first d l fs a = go (is_up d.remote.links l)
-    where
-      go : (up : Bool) → Accounts A (cond up (lost d l) d) fs
-      go true = let_go d l fs a
-      go false = a
+  -- lenders' slabs change, and links stay; or rates change
+  stays_on : (d : Device) (r : Remote) (fs : List Flight) → r.links ≡ d.remote.links → Accounts A d fs → Accounts A (record d { remote = r }) fs
+  stays_on d r fs same a = record {
+    calls = λ c. let P : List LinkState → Type 0 = λ x. IsAccounted A d.failed_writes d.history fs x c (call_of d.calls c).bytes (state_of d.calls c) in subst P (sym same) (a.calls c);
+    copies = a.copies;
+  }
+
+  rates_on : (d : Device) (rates : List Activity) (fs : List Flight) → Accounts A d fs → Accounts A (record d { rates = rates }) fs
+  rates_on d rates fs a = record { calls = a.calls; copies = a.copies }
 
 module _ {D F : Type 0} (disk : DiskMeaning D) (follows : FollowsItsMoves disk) (fabric : FabricMeaning F) (laws : Promises fabric) (T : Bool) (o : FabricOf) (far_may : Lender → Type 0) (bytes_may : List ℕ → Type 0) where
   abbrev pub There : Within
@@ -269,12 +273,16 @@ module _ {D F : Type 0} (disk : DiskMeaning D) (follows : FollowsItsMoves disk) 
   base_has d k l q e base (write {c = c} {p = p} {bytes = bytes} outs is) a = entered fabric.answers d c p bytes (disk.means k).flights a
   base_has d k l q e base (read ins within is none at) a = a
   base_has d k l q e base (borrow within may) a = a
+  base_has d k l q e base (query within may) a = a
+  base_has d k l q e base (query_too within state other may) a = a
 
   sent_has : (d : Device) (k : D) (f : F) (l : Lender) (q : Parcel) (e base : Device) → Agree d k f → Sends There d l q e base → AccountsOf d k → AccountsOf e k
   sent_has d k f l q e base h (write {c = c} {p = p} {bytes = bytes} outs is) a =
       let x : Device = enter d c p bytes in
       others_stay fabric.answers x (disk.means k).flights (disk.means k).flights _ x.links_made (λ b. acc.sent_reads b (disk.means k).flights d.remote.links l _) (entered fabric.answers d c p bytes (disk.means k).flights a)
   sent_has d k f l q e base h (borrow {t = t} within may) a = others_stay fabric.answers d (disk.means k).flights (disk.means k).flights _ d.links_made (λ b. acc.sent_reads b (disk.means k).flights d.remote.links l _) a
+  sent_has d k f l q e base h (query {t = t} within may) a = others_stay fabric.answers d (disk.means k).flights (disk.means k).flights _ d.links_made (λ b. acc.sent_reads b (disk.means k).flights d.remote.links l _) a
+  sent_has d k f l q e base h (query_too {t = t} within state other may) a = others_stay fabric.answers d (disk.means k).flights (disk.means k).flights _ d.links_made (λ b. acc.sent_reads b (disk.means k).flights d.remote.links l _) a
   sent_has d k f l q e base h (read {c = c} {p = p} {k = j} {n = n} ins within is none at) a =
       let fs : List Flight = (disk.means k).flights in
       let idles = keep.ins_wait There d c p ins in
@@ -290,16 +298,19 @@ module _ {D F : Type 0} (disk : DiskMeaning D) (follows : FollowsItsMoves disk) 
       find_read b ys = find (is_read_of b) ys
 
   -- a message that answers the oldest request
-  heard_has : (d : Device) (k : D) (f g : F) (l : Lender) (q : Parcel) (e : Device) → Agree d k f → is_up d.remote.links l ≡ true → Hears d l q e → fabric.moves f (Take l) (Brought q) g → AccountsOf d k → AccountsOf e k
-  heard_has d k f g l q e h up (lent {t = t} {rest = rest} ring says same none) moved a = others_stay fabric.answers d (disk.means k).flights (disk.means k).flights _ d.links_made (λ b. acc.answered_reads b (disk.means k).flights d.remote.links l (request.Borrow t) rest ring refl) a
-  heard_has d k f g l q e h up (refused {t = t} {rest = rest} ring says same) moved a = others_stay fabric.answers d (disk.means k).flights (disk.means k).flights _ d.links_made (λ b. acc.answered_reads b (disk.means k).flights d.remote.links l (request.Borrow t) rest ring refl) a
-  heard_has d k f g l q e h up (written {p = p} {e = n} {rest = rest} ring says named) moved a =
+  heard_has : (d : Device) (k : D) (f g : F) (l : Lender) (q : Parcel) (x : Heard) → Agree d k f → is_up d.remote.links l ≡ true → Hears d l q x → fabric.moves f (Take l) (Brought q) g → AccountsOf d k → AccountsOf x.device k
+  heard_has d k f g l q x h up (roomy {t = t} {rest = rest} ring says same) moved a = others_stay fabric.answers d (disk.means k).flights (disk.means k).flights _ d.links_made (λ b. acc.answered_reads b (disk.means k).flights d.remote.links l (request.Query t) rest ring refl) a
+  heard_has d k f g l q x h up (asked_rate says at) moved a = a
+  heard_has d k f g l q x h up (told_to_go {t = t} says at) moved a = stays_on fabric.answers d (remote.evicted d.sizes d.remote t) (disk.means k).flights refl a
+  heard_has d k f g l q x h up (lent {t = t} {rest = rest} ring says same none) moved a = others_stay fabric.answers d (disk.means k).flights (disk.means k).flights _ d.links_made (λ b. acc.answered_reads b (disk.means k).flights d.remote.links l (request.Borrow t) rest ring refl) a
+  heard_has d k f g l q x h up (refused {t = t} {rest = rest} ring says same) moved a = others_stay fabric.answers d (disk.means k).flights (disk.means k).flights _ d.links_made (λ b. acc.answered_reads b (disk.means k).flights d.remote.links l (request.Borrow t) rest ring refl) a
+  heard_has d k f g l q x h up (written {p = p} {e = n} {rest = rest} ring says named) moved a =
       let fs : List Flight = (disk.means k).flights in
       let settled : List LinkState = rings.answered d.remote.links l in
       let now : Remote = remote.written d.sizes d.remote l p (is_newest (last d.history p) n) in
       let same : now.links ≡ settled = written_links _ _ p in
       others_stay fabric.answers d fs fs now d.links_made (λ b. subst (λ x. ReadStays b fs fs d.remote.links x) (sym same) (acc.answered_reads b fs d.remote.links l (request.Write p n) rest ring refl)) a
-  heard_has d k f g l q e h up (brought {c = c} {p = p} {at = at} {rest = rest} ring says named) moved a =
+  heard_has d k f g l q x h up (brought {c = c} {p = p} {at = at} {rest = rest} ring says named) moved a =
       let fs : List Flight = (disk.means k).flights in
       let r = promised.page_is q.msg at says in
       let owed = owes_first (fabric.owes f) d.history d.calls l c p rest (subst (λ ys. OwesReads (fabric.owes f) d.history d.calls l ys) ring ((h.fits.serves.link l).owed up)) in
@@ -315,6 +326,9 @@ module _ {D F : Type 0} (disk : DiskMeaning D) (follows : FollowsItsMoves disk) 
   each_accounts x asked y k k' f f' (faults {d = d} {c = c} {p = p} {k = kind} {since = since} {at = at} {bytes = bytes} fails) stay h a = answered fabric.answers d c (row_of d.history c p (op.Failed kind since at) bytes) (disk.means k).flights (λ q. refl) a
   each_accounts x asked y k k' f f' (waits_for_room {d = d} c p bytes e within hands) stay h a =
       one_set fabric.answers d (disk.means k).flights (disk.means k).flights d.remote c (record { state = _; bytes = bytes }) (λ b other q v w. w) (omega arith) a
+  each_accounts x asked y k k' f f' (rates_change {d = d} rates) stay h a = rates_on fabric.answers d rates (disk.means k).flights a
+  each_accounts x asked y k k' f f' (lets_go {d = d} l up) stay h a = let_go fabric.answers d l (disk.means k).flights a
+  each_accounts x asked y k k' f f' (gives_up {d = d} l t off asks) stay h a = stays_on fabric.answers d (remote.gone d.remote l t) (disk.means k).flights refl a
   each_accounts x asked y k k' f f' (starts {d = d} {p = p} {line = line} {copy = copy} {r = r} el ec) (by_disk moved) h a =
       flying_now (record d { queue = queue.start d.queue }) k' _ (ap (λ (x : Port). x.flights) (follows k (StartWrite p copy.bytes) r k' moved)) (one_started fabric.answers d (disk.means k).flights p line copy _ el ec a)
   each_accounts x asked y k k' f f' (waits_for_disk {d = d} {c = c} {p = p} {n = n} {r = r} ins within is none) (by_disk moved) h a = disk_waited d k k' f c p n r h ins is moved a
@@ -323,14 +337,11 @@ module _ {D F : Type 0} (disk : DiskMeaning D) (follows : FollowsItsMoves disk) 
       flying_now d k' (disk.means k).flights (finish_flights (disk.means k) (disk.means k') _ _ _ ok done (follows k (LetFinish w ok) done k' moved)) a
   each_accounts x asked y k k' f f' (sends {d = d} {e = e} {base = base} {l = l} {q = q} one) (by_fabric moved) h a = sent_has d k f l q e base h one a
   each_accounts x asked y k k' f f' (finds_down {d = d} {e = e} {base = base} {l = l} {q = q} one) (by_fabric moved) h a = let_go fabric.answers base l (disk.means k).flights (base_has d k l q e base one a)
-  each_accounts x asked y k k' f f' (raises {d = d} {l = l} within) (by_fabric moved) h a =
-      let here : l.0 < d.lenders = subst (λ (x : FabricOf). l.0 < x.lenders) (sym h.is) within in
-      let w = keep.without_kept disk follows fabric laws T o far_may bytes_may d k f l h here in
-      let e : Device = without_link d l in
-      others_stay fabric.answers e (disk.means k).flights (disk.means k).flights (remote.raised e.remote l) (e.links_made + 1) (λ b. acc.raised_reads b (disk.means k).flights e.remote.links l w.1) (let_go_first fabric.answers d l (disk.means k).flights a)
+  each_accounts x asked y k k' f f' (raises {d = d} {l = l} within off) (by_fabric moved) h a =
+      others_stay fabric.answers d (disk.means k).flights (disk.means k).flights (remote.raised d.remote l) (d.links_made + 1) (λ b. acc.raised_reads b (disk.means k).flights d.remote.links l off) a
   each_accounts x asked y k k' f f' (speaks word) (by_fabric moved) h a = a
   each_accounts x asked y k k' f f' (speaks_to_nobody {d = d} {l = l} word) (by_fabric moved) h a = let_go fabric.answers d l (disk.means k).flights a
-  each_accounts x asked y k k' f f' (hears {d = d} {e = e} {l = l} {q = q} up one) (by_fabric moved) h a = heard_has d k f f' l q e h up one moved a
+  each_accounts x asked y k k' f f' (hears {d = d} {h = heard} {l = l} {q = q} up one) (by_fabric moved) h a = heard_has d k f f' l q heard h up one moved a
   each_accounts x asked y k k' f f' (hears_nothing up) (by_fabric moved) h a = a
   each_accounts x asked y k k' f f' (loses {d = d} {l = l} up) (by_fabric moved) h a = let_go fabric.answers d l (disk.means k).flights a
   each_accounts x asked y k k' f f' (misunderstands up) (by_fabric moved) h a = a

@@ -23,6 +23,7 @@ use Rattle.swap_calls.specs.declared.CallState.TheVariants.{Idle, Room, Reading}
 use Rattle.swap_bits.specs.Bits.{has, without_number}
 use Rattle.swap_remote.specs.Remote.{Remote, has_page}
 use Rattle.swap_table.specs.Device.{Device, enter, give, fault, lost, read_sent}
+use Rattle.swap_activity.specs.Rates.{Activity}
 use Rattle.swap_table.specs.Fits.{KeepsNewest, WaitsFor, IsExpected, IsFair, FitsDisk}
 use Rattle.swap_table.specs.Serves.{Keeping, Owing, WaitsFrom, IsContent, Serves}
 use Rattle.swap_table.proofs.Lists.{All-set, All-get_or, All-map, All-implies, or_false, by_page, by_caller, not_eqb}
@@ -33,6 +34,10 @@ use Rattle.swap_table.proofs.Shifts.{IsShift, PageStays, shifted_serves}
 -- lenders and links don't matter to the disk
 pub remote_disk : (T : Bool) (A : List ℕ → List ℕ → Type 0) (d : Device) (p : Port) (r : Remote) (made : ℕ) → FitsDisk T A d p → FitsDisk T A (record d { remote = r; links_made = made }) p
 remote_disk T A d p r made k = record { sizes = k.sizes; in_order = record { ordered = k.in_order.ordered; calls = k.in_order.calls }; agrees = k.agrees }
+
+-- rates change
+pub rates_disk : (T : Bool) (A : List ℕ → List ℕ → Type 0) (d : Device) (p : Port) (rates : List Activity) → FitsDisk T A d p → FitsDisk T A (record d { rates = rates }) p
+rates_disk T A d p rates k = record { sizes = k.sizes; in_order = record { ordered = k.in_order.ordered; calls = k.in_order.calls }; agrees = k.agrees }
 
 -- a read through a lender begins
 pub read_sent_disk : (T : Bool) (A : List ℕ → List ℕ → Type 0) (d : Device) (p : Port) (l : Lender) (c : Caller) (page : Page) (n : EntryNo) → FitsDisk T A d p → IdleFor d.calls c → page.0 < pages_of d.sizes → last d.history page ≡ Some n → newest d.queue page ≡ None

@@ -70,12 +70,13 @@ module _ {D F : Type 0} (disk : DiskMeaning D) (follows : FollowsItsMoves disk) 
   pub each_call_keeps : EachCallKeeps disk fabric
   each_call_keeps = record {
     out = λ T d k f c p bytes h idle within. fares_keep T d bytes _ _ _ k f (walk.out_fares (there d) d bytes c p idle within tt) h;
-    read = λ T d k f c p h idle caller within. fares_keep T d [] _ _ _ k f (walk.read_in_fares (there d) d [] c p idle caller within) h;
+    read = λ T d k f c p h idle caller within. fares_keep T d [] _ _ _ k f (walk.read_fares_hit (there d) d [] c p idle caller within) h;
     finish = λ T d k f c h caller. fares_keep T d [] _ _ _ k f (walk.finish_fares (there d) d [] c caller) h;
     disk_start = λ T d k f h. fares_keep T d [] _ _ _ k f (walk.disk_start_fares (there d) d []) h;
     disk_take = λ T d k f h. fares_keep T d [] _ _ _ k f (walk.disk_take_fares (there d) d [] (which.Write (record { 0 = 0 })) true) h;
     disk_finish = λ T d k f w ok h. goes_keep T d _ k f (walk.disk_finish_goes (there d) d [] w ok) h;
     link_take = λ T d k f l h. fares_keep T d [] _ _ _ k f (walk.link_take_fares (there d) d [] l) h;
+    tick = λ T d k f word h. fares_keep T d [] _ _ _ k f (walk.tick_fares (there d) d [] word) h;
     map = λ T d k f t l h within. fares_keep T d [] _ _ _ k f (walk.map_fares (there d) d [] t l within) h;
     connect = λ T d k f l h within. fares_keep T d [] _ _ _ k f (walk.connect_fares (there d) d [] l within) h;
     give = λ T d k f l h. fares_keep T d [] _ _ _ k f (walk.give_fares (there d) d [] l tt) h;

@@ -4,7 +4,7 @@ use Rattle.swap_disk.specs.Port.{DiskCall, DiskAnswer}
 use Rattle.swap_wire.specs.Fabric.{FabricCall, FabricAnswer}
 use Rattle.swap_table.specs.Ports.{Prog, Ret, AskDisk, AskFabric, answering, Along, Leads, run}
 use Rattle.swap_table.proofs.Programs.{Leads-Along}
-use Rattle.swap_table.specs.Ports.{then}
+use Rattle.swap_table.specs.Ports.{and_then}
 use Rattle.swap_table.specs.Goes.{Asked, Nothing, OfDisk, OfFabric, Goes, ends, first, asks_disk, asks_fabric, After, by, PortsGo, stay, by_disk, by_fabric, EachKeeps, EachKeepsWhere, AllAsked}
 
 module _ {S : Type 0} (Move : S → Asked → S → Type 0) where
@@ -19,13 +19,13 @@ module _ {S : Type 0} (Move : S → Asked → S → Type 0) where
     After-implies Q R each (by m g) = by m (Goes-implies Q R each g)
 
   mutual
-    pub Goes-then : {A B : Type 0} (Q : A → S → Type 0) (R : B → S → Type 0) (next : A → Prog B) → ((a : A) (t : S) → Q a t → Goes Move R t (next a)) → {s : S} {p : Prog A} → Goes Move Q s p → Goes Move R s (then p next)
+    pub Goes-then : {A B : Type 0} (Q : A → S → Type 0) (R : B → S → Type 0) (next : A → Prog B) → ((a : A) (t : S) → Q a t → Goes Move R t (next a)) → {s : S} {p : Prog A} → Goes Move Q s p → Goes Move R s (and_then p next)
     Goes-then Q R next each (ends q) = each _ _ q
     Goes-then Q R next each (first m g) = first m (Goes-then Q R next each g)
     Goes-then Q R next each (asks_disk g) = asks_disk (λ r. After-then Q R next each (g r))
     Goes-then Q R next each (asks_fabric g) = asks_fabric (λ r. After-then Q R next each (g r))
 
-    After-then : {A B : Type 0} (Q : A → S → Type 0) (R : B → S → Type 0) (next : A → Prog B) → ((a : A) (t : S) → Q a t → Goes Move R t (next a)) → {s : S} {asked : Asked} {p : Prog A} → After Move Q s asked p → After Move R s asked (then p next)
+    After-then : {A B : Type 0} (Q : A → S → Type 0) (R : B → S → Type 0) (next : A → Prog B) → ((a : A) (t : S) → Q a t → Goes Move R t (next a)) → {s : S} {asked : Asked} {p : Prog A} → After Move Q s asked p → After Move R s asked (and_then p next)
     After-then Q R next each (by m g) = by m (Goes-then Q R next each g)
 
   mutual

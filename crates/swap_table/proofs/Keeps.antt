@@ -4,6 +4,7 @@ use Rattle.std.proofs.lemmas.Bool.{ltb-true, eq-eqb}
 use Rattle.std.specs.List.{AllByRecursion}
 use Rattle.swap_base.specs.declared.Page.{Page}
 use Rattle.swap_base.specs.declared.Caller.{Caller}
+use Rattle.swap_base.specs.declared.Slab.{Slab}
 use Rattle.swap_base.specs.declared.Lender.{Lender}
 use Rattle.swap_base.specs.declared.Lease.{Lease}
 use Rattle.swap_base.specs.declared.EntryNo.{EntryNo}
@@ -21,7 +22,10 @@ use Rattle.swap_queue.specs.Queue.{Queue, Copy}
 use Rattle.swap_disk.specs.declared.DiskDone.{DiskDone}
 use Rattle.swap_disk.specs.Disk.{Flight, Read, Write, Taken, which_of}
 use Rattle.swap_disk.specs.Port.{Port, StartWrite, StartRead, TakeDone, LetFinish, Takes}
+use Rattle.swap_wire.specs.declared.Msg.{Msg}
 use Rattle.swap_wire.specs.declared.Msg.TheVariants as msg
+use Rattle.swap_activity.specs.Rates.{Activity}
+use Rattle.swap_remote.proofs.Asked.{evicted_bit, length-evicted}
 use Rattle.swap_wire.specs.declared.fabric.Sent.TheVariants as sent
 use Rattle.swap_wire.specs.Fabric.{Parcel, parcel_of, Brought, FabricCall, Send, Take, FabricAnswer, FabricOf, ends_keeping, changes_owing, lends, is_page, is_read, replaces}
 use Rattle.swap_calls.specs.Calls as calls
@@ -39,7 +43,7 @@ use Rattle.swap_rings.specs.declared.Request.{Request}
 use Rattle.swap_rings.specs.declared.Request.TheVariants as request
 use Rattle.swap_remote.specs.Remote as remote
 use Rattle.swap_remote.specs.Remote.{Remote, has_page, target}
-use Rattle.swap_table.specs.Device.{Device, of_device, enter, give, fault, lost, wait_for_room, wait_for_disk, source, origin_of, wrote, took, took_back, raised, next_link, without_link, is_newest}
+use Rattle.swap_table.specs.Device.{Device, of_device, enter, give, fault, lost, wait_for_room, wait_for_disk, source, origin_of, wrote, took, took_back, raised, next_link, Heard, done_word, is_newest}
 use Rattle.swap_table.specs.Fits.{KeepsNewest, IsBlock, block_in, WaitsFor, IsExpected, IsFair, FitsDisk}
 use Rattle.swap_table.specs.Serves.{Keeping, Owing, IsOutIn, bytes_in, WaitsFrom, IsAwaited, MayPrecede, OwesReads, Serves}
 use Rattle.swap_table.specs.Promises.{FollowsItsMoves, Promises}
@@ -50,16 +54,18 @@ use Rattle.swap_table.proofs.Order.{call_keeps, from_via}
 use Rattle.swap_table.proofs.Agree.{found}
 use Rattle.swap_table.proofs.Kept.{array-none, enter_fits, give_fits, fault_fits, room_wait_fits, disk_wait_fits, start_fits, took_back_fits, took_back_of, lets_finish_fits}
 use Rattle.swap_table.proofs.Entries.{out_within, named_last}
-use Rattle.swap_table.proofs.Links.{link-same}
+use Rattle.swap_table.proofs.Sends.{pages_some}
 use Rattle.swap_table.proofs.Requests.{OwesOthers, call_serves, write_sent_serves, read_sent_serves}
 use Rattle.swap_table.proofs.Lendings.{borrow_sent_serves, lent_serves, refused_serves}
+use Rattle.swap_table.proofs.Asking.{query_sent_serves, query_too_serves, told_serves, gone_serves}
+use Rattle.swap_table.proofs.Evictions.{evicted_serves, given_serves, settled_free, evicted_free, mapped_by_is, asks_within}
 use Rattle.swap_table.proofs.Returns.{owes_first, written_serves, brought_serves}
 use Rattle.swap_table.proofs.Losses.{KeepsOthers, all_serves, lost_serves, raised_serves}
-use Rattle.swap_table.proofs.Acts.{cleared_here, waits_not, remote_disk, read_sent_disk, brought_disk, lost_disk, enter_serves, give_serves, fault_serves}
+use Rattle.swap_table.proofs.Acts.{cleared_here, waits_not, remote_disk, rates_disk, read_sent_disk, brought_disk, lost_disk, enter_serves, give_serves, fault_serves}
 use Rattle.swap_table.proofs.Promised as promised
 use Rattle.swap_table.proofs.Waits.{WaitsForNone, may_read_waits, room_waits, waits_none, Target, target_is, may_send_is}
 use Rattle.swap_table.specs.Goes.{stay, by_disk, by_fabric, EachKeeps}
-use Rattle.swap_table.specs.Moves.{Within, of_sizes, Speaker, Owed, Says, Ends, Outs, new_out, late_out, Ins, new_in, late_in, Gives, zero, copied, came, Faults, full, unread, Sends, write, read, borrow, Hears, lent, refused, written, brought, IsWord, greeting, IsFar, far_give, far_cut, far_crash, far_host, Move, enters, gives, faults, waits_for_room, starts, waits_for_disk, takes, lets_finish, sends, finds_down, raises, speaks, speaks_to_nobody, hears, hears_nothing, loses, misunderstands, breaks_off, far}
+use Rattle.swap_table.specs.Moves.{Within, of_sizes, Speaker, Owed, Says, Ends, words, owing, Outs, new_out, late_out, Ins, new_in, late_in, Gives, zero, copied, came, Faults, full, unread, Finds, told, there, Sends, write, read, borrow, query, query_too, Hears, roomy, lent, refused, written, brought, asked_rate, told_to_go, IsWord, greeting, rating, giving_back, IsFar, far_give, far_cut, far_crash, far_host, Move, enters, gives, faults, waits_for_room, rates_change, lets_go, gives_up, starts, waits_for_disk, takes, lets_finish, sends, finds_down, raises, speaks, speaks_to_nobody, hears, hears_nothing, loses, misunderstands, breaks_off, far}
 
 -- a caller whose call may go on waits for nothing
 idle_is : (state : CallState) → is_idle state ≡ true → state ≡ Idle
@@ -108,10 +114,17 @@ pub sends_up : (W : Within) (d : Device) (l : Lender) (q : Parcel) (e base : Dev
 sends_up W d l q e base (write {p = p} {k = j} outs is) = (target_is d.sizes d.remote p (l, j) is).up
 sends_up W d l q e base (read {p = p} {k = j} ins within is none at) = (source_is d p (l, j) at).1.up
 sends_up W d l q e base (borrow {t = t} within open_) = (may_send_is d.sizes.window (link_of d.remote.links l) (both (slabs.is_local (slabs.state_of d.remote.slabs t)) _ open_).1).0
+sends_up W d l q e base (query {t = t} within open_) = (may_send_is d.sizes.window (link_of d.remote.links l) (both (slabs.is_local (slabs.state_of d.remote.slabs t)) _ open_).1).0
+sends_up W d l q e base (query_too within state other open_) = (may_send_is d.sizes.window (link_of d.remote.links l) open_).0
 
--- a word replaces no page, and asks for none
-word_quiet : (d : Device) (q : Parcel) → IsWord d q → ((k : Lease) (i : ℕ) → replaces k i q.msg ≡ false) × (is_read q.msg ≡ false)
-word_quiet d q greeting = ((λ k i. refl), refl)
+-- a lease is given back that no slab of the lender has
+abbrev pub MaySay : Device → Lender → Msg → Type 0
+MaySay d l (msg.Done k) = slabs.by_lease d.remote.slabs l k ≡ None
+MaySay d l _ = Unit {0}
+
+with_page_slabs : (b : Bool) (r : Remote) (p : Page) → (remote.with_page_if b r p).slabs ≡ r.slabs
+with_page_slabs true r p = refl
+with_page_slabs false r p = refl
 
 -- what came back from the disk changes no call that waits for a lender
 read_waits : (T : Bool) (N C : ℕ) (q : Queue) (cs : Calls) (flight : Flight) (c : Caller) → IsExpected T N C q cs flight → which_of flight ≡ which.Read c → (m : Lender) (r : Page) → WaitsFrom m r (state_of cs c) → ⊥
@@ -146,7 +159,7 @@ module _ {D F : Type 0} (disk : DiskMeaning D) (follows : FollowsItsMoves disk) 
 
   abbrev pub AgreeOwing : List Owed → Device → D → F → Type 0
   AgreeOwing [] d k f = Agree d k f
-  AgreeOwing (Says l q ∷ owed) d k f = Agree d k f × (l.0 < d.lenders)
+  AgreeOwing (Says l q ∷ owed) d k f = Agree d k f × (l.0 < d.lenders) × MaySay d l q.msg
   AgreeOwing (Ends l ∷ owed) d k f = AgreeBut l d k f
 
   abbrev pub Agrees : Speaker → D → F → Type 0
@@ -164,6 +177,15 @@ module _ {D F : Type 0} (disk : DiskMeaning D) (follows : FollowsItsMoves disk) 
 
   newest_as : (d : Device) (k : D) (f : F) (c : Caller) (state : CallState) → Agree d k f → state_of d.calls c ≡ state → KeepsNewest d.history d.failed_reads state
   newest_as d k f c state h is = let P : CallState → Type 0 = λ x. KeepsNewest d.history d.failed_reads x in subst P is (call_keeps d c h.fits.disk.in_order)
+
+  -- rates change
+  rates_kept : (d : Device) (k : D) (f : F) (rates : List Activity) → Agree d k f → Agree (record d { rates = rates }) k f
+  rates_kept d k f rates h = record { fits = record { disk = rates_disk T fabric.answers d (disk.means k) rates h.fits.disk; serves = h.fits.serves }; is = h.is; of_f = h.of_f }
+
+  -- a slab that is named is one of the slabs
+  finds_within : (d : Device) (k : D) (f : F) (t : Slab) → Agree d k f → Finds There d t → t.0 < d.sizes.slabs
+  finds_within d k f t h (told within) = sized (λ z. t.0 < z.slabs) d k f h within
+  finds_within d k f t h (there within) = subst (λ n. t.0 < n) h.fits.serves.slabs_len within
 
   outs_within : (d : Device) (k : D) (f : F) (c : Caller) (p : Page) (bytes : List ℕ) → Agree d k f → Outs There d c p bytes → p.0 < pages_of d.sizes
   outs_within d k f c p bytes h (new_out e within hands) = sized (λ z. p.0 < pages_of z) d k f h within
@@ -310,6 +332,20 @@ module _ {D F : Type 0} (disk : DiskMeaning D) (follows : FollowsItsMoves disk) 
   base_kept d k f l q e base h (write {c = c} {p = p} {bytes = bytes} outs is) = enter_kept d k f c p bytes h outs
   base_kept d k f l q e base h (read ins within is none at) = h
   base_kept d k f l q e base h (borrow within may) = h
+  base_kept d k f l q e base h (query within may) = h
+  base_kept d k f l q e base h (query_too within state other may) = h
+
+  -- a slab that asks a lender whose link is down waits no more for it
+  gone_kept : (d : Device) (k : D) (f : F) (l : Lender) (t : Slab) → Agree d k f → is_up d.remote.links l ≡ false → slabs.asks l (slabs.state_of d.remote.slabs t) ≡ true → Agree (record d { remote = remote.gone d.remote l t }) k f
+  gone_kept d k f l t h off asks = record {
+    fits =
+        record {
+          disk = remote_disk T fabric.answers d (disk.means k) (remote.gone d.remote l t) d.links_made h.fits.disk;
+          serves = gone_serves (fabric.keeps f) (fabric.owes f) d.sizes d.lenders d.history d.calls d.remote l t h.fits.serves (subst (λ n. t.0 < n) h.fits.serves.slabs_len (asks_within d.remote.slabs l t asks)) off asks;
+        };
+    is = h.is;
+    of_f = h.of_f;
+  }
 
   sent_kept : (d : Device) (k : D) (f g : F) (l : Lender) (q : Parcel) (e base : Device) → Agree d k f → Sends There d l q e base → fabric.moves f (Send l q) sent.Sent g → Agree e k g
   sent_kept d k f g l q e base h (write {c = c} {p = p} {k = j} {bytes = bytes} outs is) moved =
@@ -355,66 +391,40 @@ module _ {D F : Type 0} (disk : DiskMeaning D) (follows : FollowsItsMoves disk) 
             record {
               disk = remote_disk T fabric.answers d (disk.means k) (remote.borrow_sent d.remote t l) d.links_made h.fits.disk;
               serves =
-                  borrow_sent_serves (fabric.keeps f) (fabric.keeps g) (fabric.owes f) (fabric.owes g) d.sizes d.lenders d.history d.calls d.remote t l h.fits.serves (sized (λ z. t.0 < z.slabs) d k f h within) (local_is (slabs.state_of d.remote.slabs t) parts.0) (may_send_is d.sizes.window (link_of d.remote.links l) parts.1).0
+                  borrow_sent_serves (fabric.keeps f) (fabric.keeps g) (fabric.owes f) (fabric.owes g) d.sizes d.lenders d.history d.calls d.remote t l h.fits.serves (finds_within d k f t h within) (local_is (slabs.state_of d.remote.slabs t) parts.0) (may_send_is d.sizes.window (link_of d.remote.links l) parts.1).0
                   (promised.other_keeps fabric laws f g l (parcel_of (msg.Borrow t) []) moved (λ j i. refl)) (promised.other_owes fabric laws f g l (parcel_of (msg.Borrow t) []) moved refl);
             };
         is = h.is;
         of_f = laws.keep_of f _ _ g moved ∙ h.of_f;
       }
 
-  -- a message that fabric.answers the oldest request
-  heard_kept : (d : Device) (k : D) (f g : F) (l : Lender) (q : Parcel) (e : Device) → Agree d k f → is_up d.remote.links l ≡ true → Hears d l q e → fabric.moves f (Take l) (Brought q) g → Agree e k g
-  heard_kept d k f g l q e h up (lent {t = t} {u = u} {k = j} {rest = rest} ring says same none) moved =
-      let r = promised.lent_is q.msg u j says in
+  sent_kept d k f g l q e base h (query {t = t} within may) moved =
+      let parts = both (slabs.is_local (slabs.state_of d.remote.slabs t)) (may_send d.sizes.window (link_of d.remote.links l)) may in
       record {
         fits =
             record {
-              disk = remote_disk T fabric.answers d (disk.means k) (remote.lent d.remote l t j) d.links_made h.fits.disk;
-              serves = lent_serves (fabric.keeps f) (fabric.keeps g) (fabric.owes f) (fabric.owes g) d.sizes d.lenders d.history d.calls d.remote l t j rest h.fits.serves up ring none (promised.lent_keeps fabric laws f g l q j moved r.0) (promised.took_owes fabric laws f g l q moved r.1);
-            };
-        is = h.is;
-        of_f = laws.keep_of f _ _ g moved ∙ h.of_f;
-      }
-  heard_kept d k f g l q e h up (refused {t = t} {u = u} {rest = rest} ring says same) moved =
-      let r = promised.refused_is q.msg u says in
-      record {
-        fits =
-            record {
-              disk = remote_disk T fabric.answers d (disk.means k) (remote.refused d.remote l t) d.links_made h.fits.disk;
-              serves = refused_serves (fabric.keeps f) (fabric.keeps g) (fabric.owes f) (fabric.owes g) d.sizes d.lenders d.history d.calls d.remote l t rest h.fits.serves up ring (promised.took_keeps fabric laws f g l q moved r.0) (promised.took_owes fabric laws f g l q moved r.1);
-            };
-        is = h.is;
-        of_f = laws.keep_of f _ _ g moved ∙ h.of_f;
-      }
-  heard_kept d k f g l q e h up (written {p = p} {e = n} {at = at} {rest = rest} ring says named) moved =
-      let r = promised.wrote_is q.msg at says in
-      record {
-        fits =
-            record {
-              disk = remote_disk T fabric.answers d (disk.means k) (remote.written d.sizes d.remote l p (is_newest (last d.history p) n)) d.links_made h.fits.disk;
+              disk = remote_disk T fabric.answers d (disk.means k) (remote.query_sent d.remote t None l) d.links_made h.fits.disk;
               serves =
-                  written_serves (fabric.keeps f) (fabric.keeps g) (fabric.owes f) (fabric.owes g) d.sizes d.lenders d.history d.calls d.remote l p n rest h.fits.serves up ring (promised.took_keeps fabric laws f g l q moved r.0) (promised.took_owes fabric laws f g l q moved r.1);
+                  query_sent_serves (fabric.keeps f) (fabric.keeps g) (fabric.owes f) (fabric.owes g) d.sizes d.lenders d.history d.calls d.remote t l h.fits.serves (subst (λ n. t.0 < n) h.fits.serves.slabs_len within) (local_is (slabs.state_of d.remote.slabs t) parts.0) (may_send_is d.sizes.window (link_of d.remote.links l) parts.1).0
+                  (promised.other_keeps fabric laws f g l (parcel_of (msg.Query t) []) moved (λ j i. refl)) (promised.other_owes fabric laws f g l (parcel_of (msg.Query t) []) moved refl);
             };
         is = h.is;
         of_f = laws.keep_of f _ _ g moved ∙ h.of_f;
       }
-  heard_kept d k f g l q e h up (brought {c = c} {p = p} {at = at} {rest = rest} ring says named) moved =
-      let r = promised.page_is q.msg at says in
-      let owed = owes_first (fabric.owes f) d.history d.calls l c p rest (subst (λ ys. OwesReads (fabric.owes f) d.history d.calls l ys) ring ((h.fits.serves.link l).owed up)) in
-      let awaited : AllByRecursion (IsAwaited d.sizes d.history d.calls d.remote.slabs l) (request.Read c p ∷ rest) = subst (λ ys. AllByRecursion (IsAwaited d.sizes d.history d.calls d.remote.slabs l) ys) ring (h.fits.serves.link l).awaited in
-      record {
-        fits =
-            record {
-              disk = brought_disk T fabric.answers d (disk.means k) l c p owed.page q.page (remote.settled_for d.sizes d.remote l p) h.fits.disk awaited.0.3 (laws.page_answers f l q g owed.page owed.more moved r.1 owed.owed) owed.content;
-              serves =
-                  brought_serves (fabric.keeps f) (fabric.keeps g) (fabric.owes f) (fabric.owes g) d.sizes d.lenders d.history d.calls d.remote l c p q.page rest h.fits.serves up ring (promised.took_keeps fabric laws f g l q moved r.0) (promised.page_owes fabric laws f g l q moved)
-                  (λ page more was. laws.page_was_owed f l q g page more moved r.1 was);
-            };
-        is = h.is;
-        of_f = laws.keep_of f _ _ g moved ∙ h.of_f;
-      }
+  sent_kept d k f g l q e base h (query_too {t = t} {m = m} within state other may) moved = record {
+    fits =
+        record {
+          disk = remote_disk T fabric.answers d (disk.means k) (remote.query_sent d.remote t (Some m) l) d.links_made h.fits.disk;
+          serves =
+              query_too_serves (fabric.keeps f) (fabric.keeps g) (fabric.owes f) (fabric.owes g) d.sizes d.lenders d.history d.calls d.remote t m l h.fits.serves (subst (λ n. t.0 < n) h.fits.serves.slabs_len within) state other (may_send_is d.sizes.window (link_of d.remote.links l) may).0
+              (promised.other_keeps fabric laws f g l (parcel_of (msg.Query t) []) moved (λ j i. refl)) (promised.other_owes fabric laws f g l (parcel_of (msg.Query t) []) moved refl);
+        };
+    is = h.is;
+    of_f = laws.keep_of f _ _ g moved ∙ h.of_f;
+  }
 
-  -- a message that fabric.answers nothing, and one that is said
+  -- a message that fabric.answers the oldest request
+  -- a message that is brought and changes nothing that is kept
   taken_kept : (d : Device) (k : D) (f g : F) (l : Lender) (q : Parcel) → Agree d k f → fabric.moves f (Take l) (Brought q) g → ((m : Lease) → lends m q.msg ≡ false) × (is_page q.msg ≡ false) → Agree d k g
   taken_kept d k f g l q h moved none = record {
     fits =
@@ -426,12 +436,125 @@ module _ {D F : Type 0} (disk : DiskMeaning D) (follows : FollowsItsMoves disk) 
     of_f = laws.keep_of f _ _ g moved ∙ h.of_f;
   }
 
-  said_kept : (d : Device) (k : D) (f g : F) (l : Lender) (q : Parcel) → Agree d k f → IsWord d q → fabric.moves f (Send l q) sent.Sent g → Agree d k g
-  said_kept d k f g l q h word moved = record {
+  pub up_below : (d : Device) (k : D) (f : F) (l : Lender) → Agree d k f → is_up d.remote.links l ≡ true → l.0 < d.lenders
+  up_below d k f l h up = (h.fits.serves.link l).lender up
+
+  -- a lease is given back, where there is one to give
+  owing_done : (e : Device) (k : D) (g : F) (l : Lender) (lease : Option Lease) → Agree e k g → l.0 < e.lenders → ((j : Lease) → lease ≡ Some j → slabs.by_lease e.remote.slabs l j ≡ None) → AgreeOwing (words l (done_word lease)) e k g
+  owing_done e k g l None h within free = h
+  owing_done e k g l (Some j) h within free = (h, within, free j refl)
+
+  -- a message that is heard
+  heard_kept : (d : Device) (k : D) (f g : F) (l : Lender) (q : Parcel) (x : Heard) → Agree d k f → is_up d.remote.links l ≡ true → Hears d l q x → fabric.moves f (Take l) (Brought q) g → Agrees (owing x l) k g
+  heard_kept d k f g l q x h up (roomy {t = t} {u = u} {free = free} {rest = rest} ring says same) moved =
+      let r = promised.room_is q.msg (u, free) says in
+      record {
+        fits =
+            record {
+              disk = remote_disk T fabric.answers d (disk.means k) (remote.told d.remote l t free) d.links_made h.fits.disk;
+              serves = told_serves (fabric.keeps f) (fabric.keeps g) (fabric.owes f) (fabric.owes g) d.sizes d.lenders d.history d.calls d.remote l t free rest h.fits.serves up ring (promised.took_keeps fabric laws f g l q moved r.0) (promised.took_owes fabric laws f g l q moved r.1);
+            };
+        is = h.is;
+        of_f = laws.keep_of f _ _ g moved ∙ h.of_f;
+      }
+  heard_kept d k f g l q x h up (lent {t = t} {u = u} {k = j} {rest = rest} ring says same none) moved =
+      let r = promised.lent_is q.msg u j says in
+      record {
+        fits =
+            record {
+              disk = remote_disk T fabric.answers d (disk.means k) (remote.lent d.remote l t j) d.links_made h.fits.disk;
+              serves = lent_serves (fabric.keeps f) (fabric.keeps g) (fabric.owes f) (fabric.owes g) d.sizes d.lenders d.history d.calls d.remote l t j rest h.fits.serves up ring none (promised.lent_keeps fabric laws f g l q j moved r.0) (promised.took_owes fabric laws f g l q moved r.1);
+            };
+        is = h.is;
+        of_f = laws.keep_of f _ _ g moved ∙ h.of_f;
+      }
+  heard_kept d k f g l q x h up (refused {t = t} {u = u} {rest = rest} ring says same) moved =
+      let r = promised.refused_is q.msg u says in
+      record {
+        fits =
+            record {
+              disk = remote_disk T fabric.answers d (disk.means k) (remote.refused d.remote l t) d.links_made h.fits.disk;
+              serves = refused_serves (fabric.keeps f) (fabric.keeps g) (fabric.owes f) (fabric.owes g) d.sizes d.lenders d.history d.calls d.remote l t rest h.fits.serves up ring (promised.took_keeps fabric laws f g l q moved r.0) (promised.took_owes fabric laws f g l q moved r.1);
+            };
+        is = h.is;
+        of_f = laws.keep_of f _ _ g moved ∙ h.of_f;
+      }
+  heard_kept d k f g l q x h up (written {p = p} {e = n} {at = at} {rest = rest} ring says named) moved =
+      let r = promised.wrote_is q.msg at says in
+      let after : Agree (record d { remote = remote.written d.sizes d.remote l p (is_newest (last d.history p) n) }) k g = record {
+        fits =
+            record {
+              disk = remote_disk T fabric.answers d (disk.means k) (remote.written d.sizes d.remote l p (is_newest (last d.history p) n)) d.links_made h.fits.disk;
+              serves =
+                  written_serves (fabric.keeps f) (fabric.keeps g) (fabric.owes f) (fabric.owes g) d.sizes d.lenders d.history d.calls d.remote l p n rest h.fits.serves up ring (promised.took_keeps fabric laws f g l q moved r.0) (promised.took_owes fabric laws f g l q moved r.1);
+            };
+        is = h.is;
+        of_f = laws.keep_of f _ _ g moved ∙ h.of_f;
+      } in
+      owing_done (record d { remote = remote.written d.sizes d.remote l p (is_newest (last d.history p) n) }) k g l (slabs.settled_lease (remote.state_for d.sizes d.remote.slabs p)) after (up_below d k f l h up)
+      (λ lease gives.
+      let awaited : AllByRecursion (IsAwaited d.sizes d.history d.calls d.remote.slabs l) (request.Write p n ∷ rest) = subst (λ ys. AllByRecursion (IsAwaited d.sizes d.history d.calls d.remote.slabs l) ys) ring (h.fits.serves.link l).awaited in
+      ap (λ states. slabs.by_lease states l lease) (with_page_slabs (is_newest (last d.history p) n && slabs.is_mapped (remote.state_for d.sizes d.remote.slabs p)) (remote.settled_for d.sizes d.remote l p) p)
+      ∙ settled_free d.remote.slabs (remote.slab_for d.sizes p) l lease h.fits.serves.single awaited.0.1 gives)
+
+  heard_kept d k f g l q x h up (brought {c = c} {p = p} {at = at} {rest = rest} ring says named) moved =
+      let r = promised.page_is q.msg at says in
+      let owed = owes_first (fabric.owes f) d.history d.calls l c p rest (subst (λ ys. OwesReads (fabric.owes f) d.history d.calls l ys) ring ((h.fits.serves.link l).owed up)) in
+      let awaited : AllByRecursion (IsAwaited d.sizes d.history d.calls d.remote.slabs l) (request.Read c p ∷ rest) = subst (λ ys. AllByRecursion (IsAwaited d.sizes d.history d.calls d.remote.slabs l) ys) ring (h.fits.serves.link l).awaited in
+      let after : Agree (record d { remote = remote.settled_for d.sizes d.remote l p; calls = calls.came d.calls c q.page }) k g = record {
+        fits =
+            record {
+              disk = brought_disk T fabric.answers d (disk.means k) l c p owed.page q.page (remote.settled_for d.sizes d.remote l p) h.fits.disk awaited.0.3 (laws.page_answers f l q g owed.page owed.more moved r.1 owed.owed) owed.content;
+              serves =
+                  brought_serves (fabric.keeps f) (fabric.keeps g) (fabric.owes f) (fabric.owes g) d.sizes d.lenders d.history d.calls d.remote l c p q.page rest h.fits.serves up ring (promised.took_keeps fabric laws f g l q moved r.0) (promised.page_owes fabric laws f g l q moved)
+                  (λ page more was. laws.page_was_owed f l q g page more moved r.1 was);
+            };
+        is = h.is;
+        of_f = laws.keep_of f _ _ g moved ∙ h.of_f;
+      } in
+      owing_done (record d { remote = remote.settled_for d.sizes d.remote l p; calls = calls.came d.calls c q.page }) k g l (slabs.settled_lease (remote.state_for d.sizes d.remote.slabs p)) after (up_below d k f l h up)
+      (λ lease gives. settled_free d.remote.slabs (remote.slab_for d.sizes p) l lease h.fits.serves.single awaited.0.2 gives)
+  heard_kept d k f g l q x h up (asked_rate {t = t} {k = j} says at) moved =
+      let r = promised.rate_is q.msg j says in (taken_kept d k f g l q h moved r, up_below d k f l h up, tt)
+  heard_kept d k f g l q x h up (told_to_go {t = t} {k = j} says at) moved =
+      let r = promised.back_is q.msg j says in
+      let m = mapped_by_is d.remote.slabs l j t at in
+      let within : t.0 < d.sizes.slabs = subst (λ n. t.0 < n) h.fits.serves.slabs_len m.within in
+      let some : (p : Page) → p.0 < pages_of d.sizes → 0 < d.sizes.pages_per_slab = λ p p_in. pages_some d.sizes p.0 p_in in
+      let after : Agree (record d { remote = remote.evicted d.sizes d.remote t }) k g = record {
+        fits =
+            record {
+              disk = remote_disk T fabric.answers d (disk.means k) (remote.evicted d.sizes d.remote t) d.links_made h.fits.disk;
+              serves =
+                  evicted_serves (fabric.keeps f) (fabric.keeps g) (fabric.owes f) (fabric.owes g) d.sizes d.lenders d.history d.calls d.remote l t j m.flying h.fits.serves within m.is (length-evicted d.sizes d.remote t within h.fits.serves.bits_len)
+                  (λ p p_in. evicted_bit d.sizes d.remote t p.0 within h.fits.serves.bits_len (some p p_in)) (promised.took_keeps fabric laws f g l q moved r.0) (promised.took_owes fabric laws f g l q moved r.1);
+            };
+        is = h.is;
+        of_f = laws.keep_of f _ _ g moved ∙ h.of_f;
+      } in
+      owing_done (record d { remote = remote.evicted d.sizes d.remote t }) k g l (slabs.evicted_lease (slabs.state_of d.remote.slabs t)) after (up_below d k f l h up)
+      (λ lease gives. evicted_free d.remote.slabs t l j lease m.flying h.fits.serves.single m.is gives)
+
+  -- a word is said
+  quiet_kept : (d : Device) (k : D) (f g : F) (l : Lender) (q : Parcel) → Agree d k f → ((j : Lease) (i : ℕ) → replaces j i q.msg ≡ false) → is_read q.msg ≡ false → fabric.moves f (Send l q) sent.Sent g → Agree d k g
+  quiet_kept d k f g l q h keeps_on owes_on moved = record {
     fits =
         record {
           disk = h.fits.disk;
-          serves = all_serves (fabric.keeps f) (fabric.keeps g) (fabric.owes f) (fabric.owes g) d.sizes d.lenders d.history d.calls d.remote (promised.other_keeps fabric laws f g l q moved (word_quiet d q word).0) (promised.other_owes fabric laws f g l q moved (word_quiet d q word).1) h.fits.serves;
+          serves = all_serves (fabric.keeps f) (fabric.keeps g) (fabric.owes f) (fabric.owes g) d.sizes d.lenders d.history d.calls d.remote (promised.other_keeps fabric laws f g l q moved keeps_on) (promised.other_owes fabric laws f g l q moved owes_on) h.fits.serves;
+        };
+    is = h.is;
+    of_f = laws.keep_of f _ _ g moved ∙ h.of_f;
+  }
+
+  said_kept : (d : Device) (k : D) (f g : F) (l : Lender) (q : Parcel) → Agree d k f → IsWord d q → MaySay d l q.msg → fabric.moves f (Send l q) sent.Sent g → Agree d k g
+  said_kept d k f g l q h greeting free moved = quiet_kept d k f g l q h (λ j i. refl) refl moved
+  said_kept d k f g l q h (rating lease value) free moved = quiet_kept d k f g l q h (λ j i. refl) refl moved
+  said_kept d k f g l q h (giving_back lease) free moved = record {
+    fits =
+        record {
+          disk = h.fits.disk;
+          serves = given_serves (fabric.keeps f) (fabric.keeps g) (fabric.owes f) (fabric.owes g) d.sizes d.lenders d.history d.calls d.remote l lease free (promised.done_keeps fabric laws f g l lease moved) (promised.other_owes fabric laws f g l q moved refl) h.fits.serves;
         };
     is = h.is;
     of_f = laws.keep_of f _ _ g moved ∙ h.of_f;
@@ -451,18 +574,6 @@ module _ {D F : Type 0} (disk : DiskMeaning D) (follows : FollowsItsMoves disk) 
     of_f = laws.keep_of f _ _ g moved ∙ h.of_f;
   }
 
-  pub without_kept : (d : Device) (k : D) (f : F) (l : Lender) → Agree d k f → l.0 < d.lenders → Agree (without_link d l) k f × (is_up (without_link d l).remote.links l ≡ false)
-  without_kept d k f l h within = go (is_up d.remote.links l) refl
-    where
-      go : (up : Bool) → is_up d.remote.links l ≡ up → let e : Device = cond up (lost d l) d in Agree e k f × (is_up e.remote.links l ≡ false)
-      go false is = (h, is)
-      go true is =
-          let link_in : l.0 < length d.remote.links = subst (λ m. l.0 < m) (sym h.fits.serves.links_len) (few d k f l h within) in
-          (lost_kept d k f f l h within (λ m other j i b x. x) (λ m other pages x. x) h.of_f, ap (λ (x : LinkState). x.up) (link-same d.remote.links l rings.down link_in))
-
-  pub up_below : (d : Device) (k : D) (f : F) (l : Lender) → Agree d k f → is_up d.remote.links l ≡ true → l.0 < d.lenders
-  up_below d k f l h up = (h.fits.serves.link l).lender up
-
   pub link_within : (d : Device) (k : D) (f : F) (l : Lender) → Agree d k f → is_up d.remote.links l ≡ true → l.0 < length d.remote.links
   link_within d k f l h up = subst (λ m. l.0 < m) (sym h.fits.serves.links_len) (few d k f l h (up_below d k f l h up))
 
@@ -478,6 +589,9 @@ module _ {D F : Type 0} (disk : DiskMeaning D) (follows : FollowsItsMoves disk) 
   each_keeps x asked y k k' f f' (gives {d = d} {c = c} {p = p} {named = named} {from = from} {bytes = bytes} given) stay h = give_kept d k f c p named from bytes h given
   each_keeps x asked y k k' f f' (faults {d = d} {c = c} {p = p} {k = kind} {since = since} {at = at} {bytes = bytes} fails) stay h = fault_kept d k f c p kind since at bytes h fails
   each_keeps x asked y k k' f f' (waits_for_room {d = d} c p bytes e within hands) stay h = room_wait_kept d k f c p bytes h e within
+  each_keeps x asked y k k' f f' (rates_change {d = d} rates) stay h = rates_kept d k f rates h
+  each_keeps x asked y k k' f f' (lets_go {d = d} l up) stay h = lost_kept d k f f l h (up_below d k f l h up) (λ m other j i b w. w) (λ m other pages w. w) h.of_f
+  each_keeps x asked y k k' f f' (gives_up {d = d} l t off asks) stay h = gone_kept d k f l t h off asks
   each_keeps x asked y k k' f f' (starts {d = d} {p = p} {line = line} {copy = copy} {r = r} el ec) (by_disk moved) h = start_kept d k k' f p line copy r h el ec moved
   each_keeps x asked y k k' f f' (waits_for_disk {d = d} {c = c} {p = p} {n = n} {r = r} ins within is none) (by_disk moved) h = disk_wait_kept d k k' f c p n r h ins within is none moved
   each_keeps x asked y k k' f f' (takes {d = d} {taken = taken}) (by_disk moved) h = take_kept d k k' f taken h moved
@@ -486,13 +600,11 @@ module _ {D F : Type 0} (disk : DiskMeaning D) (follows : FollowsItsMoves disk) 
   each_keeps x asked y k k' f f' (finds_down {d = d} {e = e} {base = base} {l = l} {q = q} one) (by_fabric moved) h =
       let there = base_kept d k f l q e base h one in
       lost_kept base k f f' l there (subst (λ (x : FabricOf). l.0 < x.lenders) (h.is ∙ sym there.is) (up_below d k f l h (sends_up There d l q e base one))) (promised.down_keeps fabric laws f f' l q moved) (promised.down_owes fabric laws f f' l q moved) (laws.keep_of f _ _ f' moved ∙ h.of_f)
-  each_keeps x asked y k k' f f' (raises {d = d} {l = l} within) (by_fabric moved) h =
-      let here : l.0 < d.lenders = subst (λ (x : FabricOf). l.0 < x.lenders) (sym h.is) within in
-      let w = without_kept d k f l h here in
-      let there : l.0 < (without_link d l).lenders = subst (λ (x : FabricOf). l.0 < x.lenders) (sym w.0.is) within in (raised_kept (without_link d l) k f f' l w.0 w.1 there moved, there)
-  each_keeps x asked y k k' f f' (speaks {d = d} {l = l} {q = q} word) (by_fabric moved) h = said_kept d k f f' l q h.0 word moved
+  each_keeps x asked y k k' f f' (raises {d = d} {l = l} within off) (by_fabric moved) h =
+      let here : l.0 < d.lenders = subst (λ (x : FabricOf). l.0 < x.lenders) (sym h.is) within in (raised_kept d k f f' l h off here moved, here, tt)
+  each_keeps x asked y k k' f f' (speaks {d = d} {l = l} {q = q} word) (by_fabric moved) h = said_kept d k f f' l q h.0 word h.2 moved
   each_keeps x asked y k k' f f' (speaks_to_nobody {d = d} {l = l} {q = q} word) (by_fabric moved) h = lost_kept d k f f' l h.0 h.1 (promised.down_keeps fabric laws f f' l q moved) (promised.down_owes fabric laws f f' l q moved) (laws.keep_of f _ _ f' moved ∙ h.0.of_f)
-  each_keeps x asked y k k' f f' (hears {d = d} {e = e} {l = l} {q = q} up one) (by_fabric moved) h = heard_kept d k f f' l q e h up one moved
+  each_keeps x asked y k k' f f' (hears {d = d} {h = heard} {l = l} {q = q} up one) (by_fabric moved) h = heard_kept d k f f' l q heard h up one moved
   each_keeps x asked y k k' f f' (hears_nothing {d = d} {l = l} up) (by_fabric moved) h = record {
     fits =
         record {

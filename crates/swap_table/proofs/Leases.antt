@@ -20,6 +20,16 @@ leased l k state = slabs.has_lease l k state
 pub single_same : (states : List SlabState) (t : Slab) (x : SlabState) → t.0 < length states → ((l : Lender) (k : Lease) → slabs.has_lease l k x ≡ slabs.has_lease l k (slabs.state_of states t)) → AreSingle states → AreSingle (slabs.with_state states t x)
 single_same states t x within same h l k = let e = count_by-set_same (leased l k) states t.0 x Local within (same l k) in subst (λ n. n ≤ 1) (sym e) (h l k)
 
+-- a slab has a new state that has no lease but those that it had
+pub single_fewer : (states : List SlabState) (t : Slab) (x : SlabState) → t.0 < length states → ((l : Lender) (k : Lease) → slabs.has_lease l k x ≡ true → slabs.has_lease l k (slabs.state_of states t) ≡ true) → AreSingle states → AreSingle (slabs.with_state states t x)
+single_fewer states t x within fewer h l k = go (slabs.has_lease l k x) refl (slabs.has_lease l k (slabs.state_of states t)) refl
+  where
+    go : (b : Bool) → slabs.has_lease l k x ≡ b → (c : Bool) → slabs.has_lease l k (slabs.state_of states t) ≡ c → count_by (leased l k) (slabs.with_state states t x) ≤ 1
+    go true now true was = let e = count_by-set_same (leased l k) states t.0 x Local within (now ∙ sym was) in subst (λ n. n ≤ 1) (sym e) (h l k)
+    go false now false was = let e = count_by-set_same (leased l k) states t.0 x Local within (now ∙ sym was) in subst (λ n. n ≤ 1) (sym e) (h l k)
+    go true now false was = let e : true ≡ false = sym (fewer l k now) ∙ was in cc
+    go false now true was = let e = count_by-set_less (leased l k) states t.0 x Local within now was in omega (arith, e, h l k)
+
 -- no slab has a lease that isn't found
 no_place : {X : Type 0} (f : ℕ → X) (o : Option ℕ) → option_map f o ≡ None → o ≡ None
 no_place f None e = refl

@@ -10,6 +10,8 @@ pub mod Leases
 pub mod Shifts
 pub mod Sends
 pub mod Requests
+pub mod Asking
+pub mod Evictions
 pub mod Replies
 pub mod Lendings
 pub mod Returns
@@ -20,6 +22,8 @@ pub mod Accounted
 pub mod Promised
 pub mod Waits
 pub mod Going
+pub mod Losing
+pub mod Placing
 pub mod Walks
 pub mod Comings
 pub mod Keeps

@@ -26,7 +26,7 @@ use Rattle.swap_rings.specs.declared.Request.TheVariants.{Query, Borrow, Write, 
 use Rattle.swap_remote.specs.Remote as remote
 use Rattle.swap_remote.specs.Remote.{Remote, slab_for, state_for, has_page, left_from}
 use Rattle.swap_remote.proofs.Left.{length-left, get_or-left}
-use Rattle.swap_table.specs.Serves.{Keeping, Owing, flying_for, latest, IsMappedTo, WaitsFrom, IsAwaited, IsContent, AreOwed, LinkFits, SlabFits, PageFits, Serves}
+use Rattle.swap_table.specs.Serves.{Keeping, Owing, flying_for, latest, IsLeasedFrom, WaitsFrom, IsAwaited, IsContent, AreOwed, LinkFits, SlabFits, PageFits, Serves}
 use Rattle.swap_table.proofs.Lists.{All-implies}
 use Rattle.swap_table.proofs.Leases.{single_lost, single_local}
 use Rattle.swap_table.proofs.Links.{by_lender, link-same, link-other}
@@ -83,16 +83,28 @@ content_lost l H page p (Reading q newest (via.Lender o) arrived.Came newer sinc
 content_lost l H page p (Reading q newest (via.Lender o) arrived.Failed newer since) h = h
 content_lost l H page p (Reading q newest (via.Lender o) arrived.Lost newer since) h = h
 
-mapped_lost : (l m : Lender) (state : SlabState) → (m.0 ≡ l.0 → ⊥) → IsMappedTo m state → IsMappedTo m (slabs.after_lost l state)
+mapped_lost : (l m : Lender) (state : SlabState) → (m.0 ≡ l.0 → ⊥) → IsLeasedFrom m state → IsLeasedFrom m (slabs.after_lost l state)
 mapped_lost l m Local other h = absurd h
 mapped_lost l m (Asking pair) other h = absurd h
 mapped_lost l m (Borrowing o) other h = absurd h
-mapped_lost l m (Draining o lease flying) other h = absurd h
 mapped_lost l m (Mapped o lease flying) other h = go (o.0 == l.0) refl
   where
-    go : (b : Bool) → (o.0 == l.0) ≡ b → IsMappedTo m (cond b Local (Mapped o lease flying))
+    go : (b : Bool) → (o.0 == l.0) ≡ b → IsLeasedFrom m (cond b Local (Mapped o lease flying))
     go true e = absurd (other (sym h ∙ eqb-true o.0 l.0 e))
     go false e = h
+mapped_lost l m (Draining o lease flying) other h = go (o.0 == l.0) refl
+  where
+    go : (b : Bool) → (o.0 == l.0) ≡ b → IsLeasedFrom m (cond b Local (Draining o lease flying))
+    go true e = absurd (other (sym h ∙ eqb-true o.0 l.0 e))
+    go false e = h
+
+-- a slab that asks goes on asking
+asks_lost : (l m : Lender) (state : SlabState) → slabs.asks m state ≡ true → slabs.asks m (slabs.after_lost l state) ≡ true
+asks_lost l m Local h = cc
+asks_lost l m (Asking pair) h = h
+asks_lost l m (Borrowing o) h = cc
+asks_lost l m (Mapped o lease flying) h = cc
+asks_lost l m (Draining o lease flying) h = cc
 
 borrowing_lost : (l m : Lender) (state : SlabState) → (m.0 ≡ l.0 → ⊥) → state ≡ Borrowing m → slabs.after_lost l state ≡ Borrowing m
 borrowing_lost l m state other is = ap (slabs.after_lost l) is ∙ go (m.0 == l.0) refl
@@ -102,13 +114,13 @@ borrowing_lost l m state other is = ap (slabs.after_lost l) is ∙ go (m.0 == l.
     go false e = refl
 
 awaited_lost : (s : Sizes) (H : History) (cs : Calls) (states : List SlabState) (l m : Lender) (y : Request) → (m.0 ≡ l.0 → ⊥) → IsAwaited s H cs states m y → IsAwaited s H (calls.lost cs l) (slabs.lost states l) m y
-awaited_lost s H cs states l m (Query u) other k = absurd k
+awaited_lost s H cs states l m (Query u) other k = (k.0, ap (slabs.asks m) (state-lost states l u.0) ∙ asks_lost l m (slabs.state_of states u) k.1)
 awaited_lost s H cs states l m (Borrow u) other k = (k.0, state-lost states l u.0 ∙ borrowing_lost l m (slabs.state_of states u) other k.1)
-awaited_lost s H cs states l m (Write p e) other k = (k.0, subst (λ y. IsMappedTo m y) (sym (state-lost states l (slab_of s p.0))) (mapped_lost l m (state_for s states p) other k.1), k.2)
+awaited_lost s H cs states l m (Write p e) other k = (k.0, subst (λ y. IsLeasedFrom m y) (sym (state-lost states l (slab_of s p.0))) (mapped_lost l m (state_for s states p) other k.1), k.2)
 awaited_lost s H cs states l m (Read c p) other k = (
   k.0,
   k.1,
-  subst (λ y. IsMappedTo m y) (sym (state-lost states l (slab_of s p.0))) (mapped_lost l m (state_for s states p) other k.2),
+  subst (λ y. IsLeasedFrom m y) (sym (state-lost states l (slab_of s p.0))) (mapped_lost l m (state_for s states p) other k.2),
   let P : CallState → Type 0 = λ y. WaitsFrom m p y in subst P (sym (call-lost cs l c.0)) (waits_lost l m p (state_of cs c) other k.3),
 )
 
@@ -125,8 +137,7 @@ owed_lost H cs l (Read c p ∷ ring) (page ∷ pages) o =
 -- a slab after a loss
 slab_lost : (s : Sizes) (links : List LinkState) (l : Lender) (u : Slab) (state : SlabState) → SlabFits s links u state → SlabFits s (rings.lost links l) u (slabs.after_lost l state)
 slab_lost s links l u Local k = tt
-slab_lost s links l u (Asking pair) k = absurd k
-slab_lost s links l u (Draining m lease flying) k = absurd k
+slab_lost s links l u (Asking pair) k = tt
 slab_lost s links l u (Borrowing m) k = go (m.0 == l.0) refl
   where
     go : (b : Bool) → (m.0 == l.0) ≡ b → SlabFits s (rings.lost links l) u (cond b Local (Borrowing m))
@@ -135,6 +146,15 @@ slab_lost s links l u (Borrowing m) k = go (m.0 == l.0) refl
 slab_lost s links l u (Mapped m lease flying) k = go (m.0 == l.0) refl
   where
     go : (b : Bool) → (m.0 == l.0) ≡ b → SlabFits s (rings.lost links l) u (cond b Local (Mapped m lease flying))
+    go true e = tt
+    go false e =
+        let P : LinkState → Type 0 = λ y. (y.up ≡ true) × (flying ≡ count_for y) in subst P (sym (link-other links l m down (eqb-false m.0 l.0 e))) k
+      where
+        count_for : LinkState → ℕ
+        count_for y = flying_for s u y.ring
+slab_lost s links l u (Draining m lease flying) k = go (m.0 == l.0) refl
+  where
+    go : (b : Bool) → (m.0 == l.0) ≡ b → SlabFits s (rings.lost links l) u (cond b Local (Draining m lease flying))
     go true e = tt
     go false e =
         let P : LinkState → Type 0 = λ y. (y.up ≡ true) × (flying ≡ count_for y) in subst P (sym (link-other links l m down (eqb-false m.0 l.0 e))) k
@@ -207,8 +227,12 @@ up_of : (s : Sizes) (links : List LinkState) (u : Slab) (m : Lender) (j : Lease)
 up_of s links u m j Local k has = cc
 up_of s links u m j (Asking pair) k has = cc
 up_of s links u m j (Borrowing o) k has = cc
-up_of s links u m j (Draining o lease flying) k has = absurd k
 up_of s links u m j (Mapped o lease flying) k has = subst (λ n. is_up links (record { 0 = n }) ≡ true) (eqb-true o.0 m.0 (and_first (o.0 == m.0) (lease.0 == j.0) has)) k.0
+  where
+    and_first : (a b : Bool) → (a && b) ≡ true → a ≡ true
+    and_first true b is = refl
+    and_first false b is = cc
+up_of s links u m j (Draining o lease flying) k has = subst (λ n. is_up links (record { 0 = n }) ≡ true) (eqb-true o.0 m.0 (and_first (o.0 == m.0) (lease.0 == j.0) has)) k.0
   where
     and_first : (a b : Bool) → (a && b) ≡ true → a ≡ true
     and_first true b is = refl
@@ -216,13 +240,17 @@ up_of s links u m j (Mapped o lease flying) k has = subst (λ n. is_up links (re
 
 slab_raised : (s : Sizes) (links : List LinkState) (l : Lender) (u : Slab) (state : SlabState) → is_up links l ≡ false → SlabFits s links u state → SlabFits s (rings.raised links l) u state
 slab_raised s links l u Local off k = tt
-slab_raised s links l u (Asking pair) off k = absurd k
-slab_raised s links l u (Draining m lease flying) off k = absurd k
+slab_raised s links l u (Asking pair) off k = tt
 slab_raised s links l u (Borrowing m) off k = ap (λ (y : LinkState). y.up) (link-other links l m fresh (λ e. up_and_down links l m e off k)) ∙ k
   where
     up_and_down : (links : List LinkState) (l m : Lender) → m.0 ≡ l.0 → is_up links l ≡ false → is_up links m ≡ true → ⊥
     up_and_down links l m e off up = let down' : is_up links m ≡ false = subst (λ n. is_up links (record { 0 = n }) ≡ false) (sym e) off in cc
 slab_raised s links l u (Mapped m lease flying) off k =
+    let P : LinkState → Type 0 = λ y. (y.up ≡ true) × (flying ≡ flying_for s u y.ring) in subst P (sym (link-other links l m fresh (λ e. up_and_down links l m e off k.0))) k
+  where
+    up_and_down : (links : List LinkState) (l m : Lender) → m.0 ≡ l.0 → is_up links l ≡ false → is_up links m ≡ true → ⊥
+    up_and_down links l m e off up = let down' : is_up links m ≡ false = subst (λ n. is_up links (record { 0 = n }) ≡ false) (sym e) off in cc
+slab_raised s links l u (Draining m lease flying) off k =
     let P : LinkState → Type 0 = λ y. (y.up ≡ true) × (flying ≡ flying_for s u y.ring) in subst P (sym (link-other links l m fresh (λ e. up_and_down links l m e off k.0))) k
   where
     up_and_down : (links : List LinkState) (l m : Lender) → m.0 ≡ l.0 → is_up links l ≡ false → is_up links m ≡ true → ⊥

@@ -1,5 +1,5 @@
 -- What a fabric's promises make of what its lenders keep and owe, call by call.
-use Rattle.std.proofs.Common.{◌≡◌, ℕ, Bool, true, false, ◌==◌, ◌&&◌, List, refl, sym, ap, ◌∙◌, Option, None, Some}
+use Rattle.std.proofs.Common.{◌≡◌, ℕ, Bool, true, false, ◌==◌, ◌&&◌, List, [], refl, sym, ap, ◌∙◌, Option, None, Some}
 use Rattle.std.proofs.lemmas.Bool.{eqb-true, and_left, and_right}
 use Rattle.std.proofs.Math.Bool.{and-false}
 use Rattle.swap_base.specs.declared.Slab.{Slab}
@@ -9,8 +9,8 @@ use Rattle.swap_base.specs.declared.Lease.{Lease}
 use Rattle.swap_wire.specs.declared.Msg.{Msg}
 use Rattle.swap_wire.specs.declared.Msg.TheVariants as msg
 use Rattle.swap_wire.specs.declared.fabric.Sent.TheVariants as sent
-use Rattle.swap_wire.specs.Fabric.{Parcel, write_parcel, read_parcel, Brought, NothingCame, LinkLost, FabricCall, Connect, Send, Take, End, FabricAnswer, is_page, is_read, lends, replaces, same_lender, ends_keeping, changes_owing}
-use Rattle.swap_table.specs.Device.{borrow_reply, write_reply, read_reply}
+use Rattle.swap_wire.specs.Fabric.{Parcel, parcel_of, write_parcel, read_parcel, Brought, NothingCame, LinkLost, FabricCall, Connect, Send, Take, End, FabricAnswer, is_page, is_read, lends, replaces, same_lender, ends_keeping, changes_owing}
+use Rattle.swap_table.specs.Device.{query_reply, borrow_reply, write_reply, read_reply, rate_asked, taken_back}
 use Rattle.swap_wire.specs.declared.fabric.Fabric.{Ghosts as FabricMeaning}
 use Rattle.swap_table.specs.Promises.{Promises}
 use Rattle.swap_table.proofs.Lists.{not_eqb}
@@ -41,6 +41,54 @@ wrote_is (msg.Wrote k i) at is = ((λ j. refl), refl)
 wrote_is (msg.PageIs k i) at is = cc
 wrote_is (msg.AskRates k) at is = cc
 wrote_is (msg.Evict k) at is = cc
+
+pub room_is : (m : Msg) (at : Slab × ℕ) → query_reply m ≡ Some at → ((k : Lease) → lends k m ≡ false) × (is_page m ≡ false)
+room_is (msg.Hello v b n) at is = cc
+room_is (msg.Query t) at is = cc
+room_is (msg.Borrow t) at is = cc
+room_is (msg.Write k i) at is = cc
+room_is (msg.Read k i) at is = cc
+room_is (msg.Rates k v) at is = cc
+room_is (msg.Done k) at is = cc
+room_is (msg.Room t f) at is = ((λ j. refl), refl)
+room_is (msg.Lent t k) at is = cc
+room_is (msg.Refused t) at is = cc
+room_is (msg.Wrote k i) at is = cc
+room_is (msg.PageIs k i) at is = cc
+room_is (msg.AskRates k) at is = cc
+room_is (msg.Evict k) at is = cc
+
+pub rate_is : (m : Msg) (at : Lease) → rate_asked m ≡ Some at → ((k : Lease) → lends k m ≡ false) × (is_page m ≡ false)
+rate_is (msg.Hello v b n) at is = cc
+rate_is (msg.Query t) at is = cc
+rate_is (msg.Borrow t) at is = cc
+rate_is (msg.Write k i) at is = cc
+rate_is (msg.Read k i) at is = cc
+rate_is (msg.Rates k v) at is = cc
+rate_is (msg.Done k) at is = cc
+rate_is (msg.Room t f) at is = cc
+rate_is (msg.Lent t k) at is = cc
+rate_is (msg.Refused t) at is = cc
+rate_is (msg.Wrote k i) at is = cc
+rate_is (msg.PageIs k i) at is = cc
+rate_is (msg.AskRates k) at is = ((λ j. refl), refl)
+rate_is (msg.Evict k) at is = cc
+
+pub back_is : (m : Msg) (at : Lease) → taken_back m ≡ Some at → ((k : Lease) → lends k m ≡ false) × (is_page m ≡ false)
+back_is (msg.Hello v b n) at is = cc
+back_is (msg.Query t) at is = cc
+back_is (msg.Borrow t) at is = cc
+back_is (msg.Write k i) at is = cc
+back_is (msg.Read k i) at is = cc
+back_is (msg.Rates k v) at is = cc
+back_is (msg.Done k) at is = cc
+back_is (msg.Room t f) at is = cc
+back_is (msg.Lent t k) at is = cc
+back_is (msg.Refused t) at is = cc
+back_is (msg.Wrote k i) at is = cc
+back_is (msg.PageIs k i) at is = cc
+back_is (msg.AskRates k) at is = cc
+back_is (msg.Evict k) at is = ((λ j. refl), refl)
 
 pub page_is : (m : Msg) (at : Lease × ℕ) → read_reply m ≡ Some at → ((k : Lease) → lends k m ≡ false) × (is_page m ≡ true)
 page_is (msg.Hello v b n) at is = cc
@@ -135,6 +183,14 @@ module _ {F : Type 0} (fabric : FabricMeaning F) (laws : Promises fabric) where
 
   pub other_owes : (f g : F) (l : Lender) (p : Parcel) → fabric.moves f (Send l p) sent.Sent g → is_read p.msg ≡ false → OwesAll (fabric.owes f) (fabric.owes g)
   other_owes f g l p moved none = owed_all f (Send l p) sent.Sent g moved (λ m. and_right (same_lender m l) (is_read p.msg) none)
+
+  pub done_keeps : (f g : F) (l : Lender) (lease : Lease) → fabric.moves f (Send l (parcel_of (msg.Done lease) [])) sent.Sent g → KeepsButLease l lease (fabric.keeps f) (fabric.keeps g)
+  done_keeps f g l lease moved m k i bytes other h = laws.kept_until f (Send l (parcel_of (msg.Done lease) [])) sent.Sent g m k i bytes moved h (ends (same_lender m l) refl (lease.0 == k.0) refl)
+    where
+      ends : (a : Bool) → same_lender m l ≡ a → (b : Bool) → (lease.0 == k.0) ≡ b → (a && b) ≡ false
+      ends false ea b eb = refl
+      ends true ea false eb = refl
+      ends true ea true eb = absurd (other (eqb-true m.0 l.0 ea) (sym (eqb-true lease.0 k.0 eb)))
 
   pub down_keeps : (f g : F) (l : Lender) (p : Parcel) → fabric.moves f (Send l p) sent.Down g → KeepsOthers l (fabric.keeps f) (fabric.keeps g)
   down_keeps f g l p moved = kept_others f (Send l p) sent.Down g l moved (λ m other k i. another_and l m true other)

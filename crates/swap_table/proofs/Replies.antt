@@ -40,10 +40,10 @@ flying-answered s links l m x rest t within is off =
 
 slab_answered : (s : Sizes) (links : List LinkState) (l : Lender) (x : Request) (rest : List Request) (t : Slab) (state : SlabState) → l.0 < length links → ring_of links l ≡ x ∷ rest → is_for_slab s t x ≡ false → SlabFits s links t state → SlabFits s (rings.answered links l) t state
 slab_answered s links l x rest t Local within is off k = tt
-slab_answered s links l x rest t (Asking pair) within is off k = absurd k
+slab_answered s links l x rest t (Asking pair) within is off k = tt
 slab_answered s links l x rest t (Borrowing m) within is off k = answered-up links l m within ∙ k
 slab_answered s links l x rest t (Mapped m lease flying) within is off k = (answered-up links l m within ∙ k.0, k.1 ∙ sym (flying-answered s links l m x rest t within is off))
-slab_answered s links l x rest t (Draining m lease flying) within is off k = absurd k
+slab_answered s links l x rest t (Draining m lease flying) within is off k = (answered-up links l m within ∙ k.0, k.1 ∙ sym (flying-answered s links l m x rest t within is off))
 
 -- what an answer may do: a slab has a new state, calls change, and what is awaited on every link stays so
 pub record IsAnswer (owes owes' : Owing) (s : Sizes) (H : History) (cs cs' : Calls) (r : Remote) (l : Lender) (x : Request) (rest : List Request) (t : Slab) (state : SlabState) : Type 0 where
@@ -54,7 +54,7 @@ pub record IsAnswer (owes owes' : Owing) (s : Sizes) (H : History) (cs cs' : Cal
   pub single : AreSingle (slabs.with_state r.slabs t state)
   pub fits : SlabFits s (rings.answered r.links l) t state
   pub calls_len : length cs' ≡ length cs
-  pub here : (y : Request) → MayPrecede x y → IsAwaited s H cs r.slabs l y → IsAwaited s H cs' (slabs.with_state r.slabs t state) l y
+  pub here : AllByRecursion (MayPrecede x) rest → AllByRecursion (IsAwaited s H cs r.slabs l) rest → AllByRecursion (IsAwaited s H cs' (slabs.with_state r.slabs t state) l) rest
   pub there : (m : Lender) → (m.0 ≡ l.0 → ⊥) → (y : Request) → IsAwaited s H cs r.slabs m y → IsAwaited s H cs' (slabs.with_state r.slabs t state) m y
   pub owed : AllByRecursion (MayPrecede x) rest → OwesReads owes H cs l (x ∷ rest) → OwesReads owes' H cs' l rest
   pub others : (m : Lender) → (m.0 ≡ l.0 → ⊥) → AllByRecursion (IsAwaited s H cs r.slabs m) (ring_of r.links m) → OwesReads owes H cs m (ring_of r.links m) → OwesReads owes' H cs' m (ring_of r.links m)
@@ -73,7 +73,7 @@ link_answered owes owes' s n H cs cs' r l x rest t state link up ring a k =
     record {
       quiet = λ down. absurd (both up down);
       lender = k.lender;
-      awaited = subst (λ ys. AllByRecursion (IsAwaited s H cs' (slabs.with_state r.slabs t state) l) ys) (sym left) (All-with (MayPrecede x) (IsAwaited s H cs r.slabs l) (IsAwaited s H cs' (slabs.with_state r.slabs t state) l) rest a.here ordered.0 awaited.1);
+      awaited = subst (λ ys. AllByRecursion (IsAwaited s H cs' (slabs.with_state r.slabs t state) l) ys) (sym left) (a.here ordered.0 awaited.1);
       ordered = subst AreInOrder (sym left) ordered.1;
       owed = λ _. subst (λ ys. OwesReads owes' H cs' l ys) (sym left) (a.owed ordered.0 (subst (λ ys. OwesReads owes H cs l ys) ring (k.owed up)));
     }

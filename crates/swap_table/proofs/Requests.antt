@@ -26,7 +26,7 @@ use Rattle.swap_rings.specs.Rings.{LinkState, link_of, ring_of}
 use Rattle.swap_rings.specs.declared.Request.{Request}
 use Rattle.swap_rings.specs.declared.Request.TheVariants.{Query, Borrow, Write, Read}
 use Rattle.swap_remote.specs.Remote.{Remote, slab_for, state_for, has_page, sent_for}
-use Rattle.swap_table.specs.Serves.{Keeping, Owing, entry_to, latest, IsOut, bytes_of, IsMappedTo, WaitsFrom, IsAwaited, MayPrecede, IsContent, AreOwed, IsWriteKept, IsReadable, PageFits, AreSingle, Serves}
+use Rattle.swap_table.specs.Serves.{Keeping, Owing, entry_to, latest, IsOut, bytes_of, IsLeasedFrom, WaitsFrom, IsAwaited, MayPrecede, IsContent, AreOwed, IsWriteKept, IsReadable, PageFits, AreSingle, Serves}
 use Rattle.swap_table.proofs.Lists.{by_page, by_caller, not_eqb}
 use Rattle.swap_table.proofs.Entries.{last_out, last_bytes}
 use Rattle.swap_table.proofs.Leases.{only_slab}
@@ -63,6 +63,14 @@ owed-append_borrow H cs (Borrow t ∷ ring) pages u o = owed-append_borrow H cs 
 owed-append_borrow H cs (Write q f ∷ ring) pages u o = owed-append_borrow H cs ring pages u o
 owed-append_borrow H cs (Read c q ∷ ring) [] u o = o
 owed-append_borrow H cs (Read c q ∷ ring) (page ∷ pages) u o = (o.0, owed-append_borrow H cs ring pages u o.1)
+
+pub owed-append_query : (H : History) (cs : Calls) (ring : List Request) (pages : List (List ℕ)) (u : Slab) → AreOwed H cs ring pages → AreOwed H cs (ring ++ Query u ∷ []) pages
+owed-append_query H cs [] pages u o = o
+owed-append_query H cs (Query t ∷ ring) pages u o = owed-append_query H cs ring pages u o
+owed-append_query H cs (Borrow t ∷ ring) pages u o = owed-append_query H cs ring pages u o
+owed-append_query H cs (Write q f ∷ ring) pages u o = owed-append_query H cs ring pages u o
+owed-append_query H cs (Read c q ∷ ring) [] u o = o
+owed-append_query H cs (Read c q ∷ ring) (page ∷ pages) u o = (o.0, owed-append_query H cs ring pages u o.1)
 
 pub owed-append_read : (H : History) (cs : Calls) (ring : List Request) (pages : List (List ℕ)) (c : Caller) (p : Page) (b : List ℕ) → AreOwed H cs ring pages → IsContent H b p (state_of cs c) → AreOwed H cs (ring ++ Read c p ∷ []) (pages ++ b ∷ [])
 owed-append_read H cs [] [] c p b o is = (is, tt)
@@ -148,7 +156,7 @@ write_sent_serves keeps keeps' owes owes' s n H cs r l p lease flying e k lies c
     let lender_in : l.0 < n = (k.link l).lender lies.up in
     let link_in : l.0 < length r.links = subst (λ m. l.0 < m) (sym k.links_len) (omega (arith, lender_in, k.few)) in
     let x : Request = Write p e in
-    let mapped : IsMappedTo l (state_for s r.slabs p) = subst (λ y. IsMappedTo l y) (sym lies.mapped) refl in
+    let mapped : IsLeasedFrom l (state_for s r.slabs p) = subst (λ y. IsLeasedFrom l y) (sym lies.mapped) refl in
     let latest_is : latest p (ring_of (rings.sent r.links l x) l) ≡ Some e =
     ap (λ (y : LinkState). latest p y.ring) (sent-same r.links l x link_in) ∙ latest-append p (ring_of r.links l) x ∙ ap (λ o. first_of o (latest p (ring_of r.links l))) (entry_to-own p e) in
     let here : PageFits keeps' s H (rings.sent r.links l x) p (has_page r p) (Mapped l lease (flying + 1)) =
@@ -228,7 +236,7 @@ read_sent_serves keeps keeps' owes owes' s n H cs r l c p lease flying newest si
     let state : state_of cs' c ≡ Reading p newest (via.Lender l) arrived.Waiting false since = ap (λ (y : calls.Call). y.state) (get_or-set_same cs c.0 call calls.idle (subst (λ m. c.0 < m) (sym k.calls_len) caller)) in
     let waits : WaitsFrom l p (state_of cs' c) = let P : CallState → Type 0 = λ y. WaitsFrom l p y in subst P (sym state) (refl, refl) in
     let content : IsContent H (array (zeros s) H p) p (state_of cs' c) = let P : CallState → Type 0 = λ y. IsContent H (array (zeros s) H p) p y in subst P (sym state) (last_out H p newest is_last, sym (last_bytes (zeros s) H p newest is_last)) in
-    let mapped : IsMappedTo l (state_for s r.slabs p) = subst (λ y. IsMappedTo l y) (sym lies.mapped) refl in
+    let mapped : IsLeasedFrom l (state_for s r.slabs p) = subst (λ y. IsLeasedFrom l y) (sym lies.mapped) refl in
     let order : AllByRecursion (λ y. MayPrecede y x) (ring_of r.links l) = read_order s H cs r.slabs l c p (ring_of r.links l) idles (none_written p (ring_of r.links l) readable.none) (k.link l).awaited in
     sent_serves keeps keeps' owes owes' s n H cs' r l p lease flying x k' lies
     (record { here = eq-eqb (slab_of s p.0) (slab_of s p.0) refl; there = λ t other. not_eqb (slab_of s p.0) t.0 (λ e. other (sym e)); awaited = (caller, lies.within, mapped, waits); order = order })

@@ -17,10 +17,18 @@ use Rattle.swap_rings.specs.Rings.{LinkState, link_of, ring_of, is_up, sent_on}
 use Rattle.swap_rings.specs.declared.Request.{Request}
 use Rattle.swap_rings.specs.declared.Request.TheVariants.{Query, Borrow, Write, Read}
 use Rattle.swap_remote.specs.Remote.{Remote, slab_for, state_for, has_page, sent_for}
-use Rattle.swap_table.specs.Serves.{Keeping, Owing, is_for_slab, flying_for, IsMappedTo, IsAwaited, MayPrecede, OwesReads, LinkFits, SlabFits, PageFits, Serves}
+use Rattle.swap_table.specs.Serves.{Keeping, Owing, is_for_slab, flying_for, IsLeasedFrom, IsAwaited, MayPrecede, OwesReads, LinkFits, SlabFits, PageFits, Serves}
 use Rattle.swap_table.proofs.Lists.{All-implies, All-append, one_if}
 use Rattle.swap_table.proofs.Leases.{single_same}
 use Rattle.swap_table.proofs.Links.{by_lender, by_slab, link-same, link-other, state-same, state-other, flying-append, order-append}
+
+-- a slab has a page where there is a page
+pub pages_some : (s : Sizes) (p : ℕ) → p < pages_of s → 0 < s.pages_per_slab
+pages_some s p within = go s.pages_per_slab refl
+  where
+    go : (e : ℕ) → s.pages_per_slab ≡ e → 0 < s.pages_per_slab
+    go zero is = let none : p < 0 * s.slabs = subst (λ n. p < n * s.slabs) is within in absurd (omega (arith, none))
+    go (suc e) is = subst (λ n. 0 < n) (sym is) (omega arith)
 
 -- a page's slab is one of the slabs
 pub slab_within : (s : Sizes) (p : ℕ) → p < pages_of s → slab_of s p < s.slabs
@@ -51,10 +59,10 @@ flying-sent s links l m x t within off =
 
 pub slab_sent : (s : Sizes) (links : List LinkState) (l : Lender) (x : Request) (t : Slab) (state : SlabState) → l.0 < length links → is_for_slab s t x ≡ false → SlabFits s links t state → SlabFits s (rings.sent links l x) t state
 slab_sent s links l x t Local within off k = tt
-slab_sent s links l x t (Asking pair) within off k = absurd k
+slab_sent s links l x t (Asking pair) within off k = tt
 slab_sent s links l x t (Borrowing m) within off k = sent-up links l m x within ∙ k
 slab_sent s links l x t (Mapped m lease flying) within off k = (sent-up links l m x within ∙ k.0, k.1 ∙ sym (flying-sent s links l m x t within off))
-slab_sent s links l x t (Draining m lease flying) within off k = absurd k
+slab_sent s links l x t (Draining m lease flying) within off k = (sent-up links l m x within ∙ k.0, k.1 ∙ sym (flying-sent s links l m x t within off))
 
 -- a slab to which one request more flies is mapped as before
 pub begun-same : (states : List SlabState) (t : Slab) (l : Lender) (lease : Lease) (flying : ℕ) → t.0 < length states → slabs.state_of states t ≡ Mapped l lease flying → slabs.state_of (slabs.begun states t) t ≡ Mapped l lease (flying + 1)
@@ -63,14 +71,18 @@ begun-same states t l lease flying within is = state-same states t (slabs.after_
 pub begun-other : (states : List SlabState) (t u : Slab) → (u.0 ≡ t.0 → ⊥) → slabs.state_of (slabs.begun states t) u ≡ slabs.state_of states u
 begun-other states t u other = state-other states t u (slabs.after_begin (slabs.state_of states t)) other
 
-mapped_begun : (states : List SlabState) (t u : Slab) (l m : Lender) (lease : Lease) (flying : ℕ) → t.0 < length states → slabs.state_of states t ≡ Mapped l lease flying → IsMappedTo m (slabs.state_of states u) → IsMappedTo m (slabs.state_of (slabs.begun states t) u)
+mapped_begun : (states : List SlabState) (t u : Slab) (l m : Lender) (lease : Lease) (flying : ℕ) → t.0 < length states → slabs.state_of states t ≡ Mapped l lease flying → IsLeasedFrom m (slabs.state_of states u) → IsLeasedFrom m (slabs.state_of (slabs.begun states t) u)
 mapped_begun states t u l m lease flying within is k =
-    by_slab (λ u. IsMappedTo m (slabs.state_of states u) → IsMappedTo m (slabs.state_of (slabs.begun states t) u)) t u
-    (λ k. subst (λ x. IsMappedTo m x) (sym (begun-same states t l lease flying within is)) (let P : SlabState → Type 0 = λ x. IsMappedTo m x in subst P is k))
-    (λ other k. subst (λ x. IsMappedTo m x) (sym (begun-other states t u other)) k) k
+    by_slab (λ u. IsLeasedFrom m (slabs.state_of states u) → IsLeasedFrom m (slabs.state_of (slabs.begun states t) u)) t u
+    (λ k. subst (λ x. IsLeasedFrom m x) (sym (begun-same states t l lease flying within is)) (let P : SlabState → Type 0 = λ x. IsLeasedFrom m x in subst P is k))
+    (λ other k. subst (λ x. IsLeasedFrom m x) (sym (begun-other states t u other)) k) k
 
 pub awaited_begun : (s : Sizes) (H : History) (calls : Calls) (states : List SlabState) (t : Slab) (l m : Lender) (lease : Lease) (flying : ℕ) (y : Request) → t.0 < length states → slabs.state_of states t ≡ Mapped l lease flying → IsAwaited s H calls states m y → IsAwaited s H calls (slabs.begun states t) m y
-awaited_begun s H calls states t l m lease flying (Query u) within is k = absurd k
+awaited_begun s H calls states t l m lease flying (Query u) within is k =
+    (k.0, by_slab (λ u. slabs.asks m (slabs.state_of states u) ≡ true → slabs.asks m (slabs.state_of (slabs.begun states t) u) ≡ true) t u (λ e. absurd (not_both (sym (ap (slabs.asks m) is) ∙ e))) (λ other e. ap (slabs.asks m) (begun-other states t u other) ∙ e) k.1)
+  where
+    not_both : false ≡ true → ⊥
+    not_both e = cc
 awaited_begun s H calls states t l m lease flying (Borrow u) within is k = (k.0, by_slab (λ u. slabs.state_of states u ≡ Borrowing m → slabs.state_of (slabs.begun states t) u ≡ Borrowing m) t u (λ e. absurd (not_both (sym is ∙ e))) (λ other e. begun-other states t u other ∙ e) k.1)
   where
     not_both : Mapped l lease flying ≡ Borrowing m → ⊥

@@ -28,7 +28,7 @@ pub record IsShift (H H' : History) (calls calls' : Calls) : Type 0 where
   pub owed : (l : Lender) (c : Caller) (p : Page) (page : List ℕ) → WaitsFrom l p (state_of calls c) → IsContent H page p (state_of calls c) → IsContent H' page p (state_of calls' c)
 
 awaited_shift : (s : Sizes) (H H' : History) (calls calls' : Calls) (states : List SlabState) (l : Lender) → IsShift H H' calls calls' → (x : Request) → IsAwaited s H calls states l x → IsAwaited s H' calls' states l x
-awaited_shift s H H' calls calls' states l shift (Query slab) h = absurd h
+awaited_shift s H H' calls calls' states l shift (Query slab) h = h
 awaited_shift s H H' calls calls' states l shift (Borrow slab) h = h
 awaited_shift s H H' calls calls' states l shift (Write p e) h = (h.0, h.1, (shift.entries p e h.2).0)
 awaited_shift s H H' calls calls' states l shift (Read c p) h = (h.0, h.1, h.2, shift.waits l c p h.3)

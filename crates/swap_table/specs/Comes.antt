@@ -20,6 +20,7 @@ use Rattle.swap_calls.specs.Calls as calls
 use Rattle.swap_calls.specs.Calls.{state_of, call_of, is_idle}
 use Rattle.swap_calls.specs.declared.Arrived.{Arrived}
 use Rattle.swap_calls.specs.declared.CallState.TheVariants.{Room, Reading}
+use Rattle.swap_activity.specs.Rates.{Activity}
 use Rattle.swap_remote.specs.Remote.{Remote}
 use Rattle.swap_table.specs.Device.{Device, enter, give, fault, lost, wait_for_room, took_back}
 use Rattle.swap_table.specs.Happens.{see_disk}
@@ -61,24 +62,27 @@ is_rest seen.GaveEnd = true
 is_rest (seen.GaveEnded m) = true
 is_rest _ = false
 
--- what is seen of a link that is used, made or lost
+-- what is seen of a link that is used, made or lost, and of a period's end
 abbrev pub is_of_link : Seen → Bool
 is_of_link seen.Borrowing = true
 is_of_link (seen.Linked n) = true
 is_of_link (seen.Took m) = true
 is_of_link seen.Lost = true
 is_of_link seen.Lied = true
+is_of_link seen.Ticked = true
+is_of_link (seen.Asked slab first second) = true
 is_of_link _ = false
 
-pub data Comes (d : Device) (page : List ℕ) : Event → Device → Seen → Type 0 where
-  refuses : {e : Event} → is_new e ≡ true → Comes d page e d seen.Busy
-  rests : {e : Event} {s : Seen} → is_new e ≡ false → is_rest s ≡ true → Comes d page e d s
-  accepts : {e : Event} {c : Caller} {p : Page} {bytes : List ℕ} {d' : Device} {to : Option Lender} → StepOut d page e c p bytes → Linked (enter d c p bytes) d' → Comes d page e d' (seen.Done (next_name d.history) to)
-  gives_page : {e : Event} {c : Caller} {p : Page} {named : Option EntryNo} {from : Origin} {bytes : List ℕ} → StepIn d e c p → Comes d page e (give d c p named from bytes) (seen.Done (next_name d.history) None)
-  fails : {c : Caller} {p : Page} {k : CallKind} {since at : ℕ} {bytes : List ℕ} → Faults d c p k since at bytes → Comes d page (event.Finish c) (fault d c p k since at bytes) (seen.Fault (next_name d.history))
-  keeps_page : {c : Caller} {p : Page} → is_idle (state_of d.calls c) ≡ true → Comes d page (event.PageOut c p) (wait_for_room d c p page) seen.Room
-  reads : {e : Event} {c : Caller} {p : Page} {n : EntryNo} {d' : Device} (v : Via) (step : StepIn d e c p) → last d.history p ≡ Some n → Linked d d' → Comes d page e (record d' { calls = calls.reads d'.calls c p n v d'.failed_reads }) (wait_seen step v)
-  starts_write : {p : Page} {n : EntryNo} → Comes d page event.Start (record d { queue = queue.start d.queue }) (seen.Started p n)
-  takes_back : {w : DiskWhich} {ok : Bool} (taken : Option Taken) → Comes d page (event.Disk w ok) (took_back d taken).0 (see_disk (took_back d taken).1)
-  links : {e : Event} {s : Seen} {d' : Device} → is_new e ≡ false → is_of_link s ≡ true → Linked d d' → Comes d page e d' s
-  brings : {l : Lender} {m : Msg} {d' : Device} (c : Caller) (bytes : List ℕ) → Linked d d' → Comes d page (event.Take l) (record d' { calls = calls.came d'.calls c bytes }) (seen.Took m)
+pub data Comes : Device → List ℕ → Event → Device → Seen → Type 0 where
+  refuses : {d : Device} {page : List ℕ} {e : Event} → is_new e ≡ true → Comes d page e d seen.Busy
+  rests : {d : Device} {page : List ℕ} {e : Event} {s : Seen} → is_new e ≡ false → is_rest s ≡ true → Comes d page e d s
+  accepts : {d : Device} {page : List ℕ} {e : Event} {c : Caller} {p : Page} {bytes : List ℕ} {d' : Device} {to : Option Lender} → StepOut d page e c p bytes → Linked (enter d c p bytes) d' → Comes d page e d' (seen.Done (next_name d.history) to)
+  gives_page : {d : Device} {page : List ℕ} {e : Event} {c : Caller} {p : Page} {named : Option EntryNo} {from : Origin} {bytes : List ℕ} → StepIn d e c p → Comes d page e (give d c p named from bytes) (seen.Done (next_name d.history) None)
+  fails : {d : Device} {page : List ℕ} {c : Caller} {p : Page} {k : CallKind} {since at : ℕ} {bytes : List ℕ} → Faults d c p k since at bytes → Comes d page (event.Finish c) (fault d c p k since at bytes) (seen.Fault (next_name d.history))
+  keeps_page : {d : Device} {page : List ℕ} {c : Caller} {p : Page} → is_idle (state_of d.calls c) ≡ true → Comes d page (event.PageOut c p) (wait_for_room d c p page) seen.Room
+  reads : {d : Device} {page : List ℕ} {e : Event} {c : Caller} {p : Page} {n : EntryNo} {d' : Device} (v : Via) (step : StepIn d e c p) → last d.history p ≡ Some n → Linked d d' → Comes d page e (record d' { calls = calls.reads d'.calls c p n v d'.failed_reads }) (wait_seen step v)
+  starts_write : {d : Device} {page : List ℕ} {p : Page} {n : EntryNo} → Comes d page event.Start (record d { queue = queue.start d.queue }) (seen.Started p n)
+  takes_back : {d : Device} {page : List ℕ} {w : DiskWhich} {ok : Bool} (taken : Option Taken) → Comes d page (event.Disk w ok) (took_back d taken).0 (see_disk (took_back d taken).1)
+  links : {d : Device} {page : List ℕ} {e : Event} {s : Seen} {d' : Device} → is_new e ≡ false → is_of_link s ≡ true → Linked d d' → Comes d page e d' s
+  brings : {d : Device} {page : List ℕ} {l : Lender} {m : Msg} {d' : Device} (c : Caller) (bytes : List ℕ) (r : Remote) → Linked (record d { remote = r; calls = calls.came d.calls c bytes }) d' → Comes d page (event.Take l) d' (seen.Took m)
+  rated : {d : Device} {page : List ℕ} {e : Event} {s : Seen} {d' : Device} (rates : List Activity) → Comes (record d { rates = rates }) page e d' s → Comes d page e d' s

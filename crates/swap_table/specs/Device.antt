@@ -61,7 +61,7 @@ use Rattle.swap_table.specs.declared.Placed.{Placed}
 use Rattle.swap_table.specs.declared.LinkStep.{LinkStep}
 use Rattle.swap_table.specs.declared.LinkStep.TheVariants as link
 use Rattle.swap_table.specs.declared.TheConstants.{MOST_LINKS, WIRE_VERSION}
-use Rattle.swap_table.specs.Ports.{Prog, Ret, AskDisk, AskFabric, answering, then}
+use Rattle.swap_table.specs.Ports.{Prog, Ret, AskDisk, AskFabric, answering, and_then}
 
 -- The newest entry of a page is the history's last page-out of it, and isn't kept beside the history.
 pub record Device : Type 0 where
@@ -178,7 +178,7 @@ give_up_one down d l slab = choose down (record d { remote = remote.gone d.remot
 abbrev pub give_up : (Device → Lender → Prog Device) → ℕ → ℕ → Device → Lender → Prog Device
 give_up down zero n d l = Ret d
 give_up down (suc left) n d l =
-    then (if slabs.asks l (slabs.state_of d.remote.slabs (record { 0 = n })) then give_up_one down d l (record { 0 = n }) else Ret d) (λ e. give_up down left (n + 1) e l)
+    and_then (if slabs.asks l (slabs.state_of d.remote.slabs (record { 0 = n })) then give_up_one down d l (record { 0 = n }) else Ret d) (λ e. give_up down left (n + 1) e l)
 
 -- A link is lost: the slabs at its lender are local, the calls that wait through it are lost, and each slab that asked
 -- its lender waits no more. A choice that is due then may find the next link down. Each loss takes one link, so that no
@@ -212,7 +212,7 @@ read_disk d c p newest = AskDisk (StartRead c p) (λ _. Ret (wait_for_disk d c p
 -- a read of the lender, and of the disk where the link is down
 abbrev pub after_read : Device → Lender → Caller → Page → EntryNo → Sent → Prog (Device × InStep)
 after_read d l c p newest sent.Sent = Ret (read_sent d l c p newest, ins.Wait (via.Lender l))
-after_read d l c p newest sent.Down = then (lose d l) (λ e. read_disk e c p newest)
+after_read d l c p newest sent.Down = and_then (lose d l) (λ e. read_disk e c p newest)
 
 abbrev pub read_at : Device → Caller → Page → EntryNo → Option (Lender × Lease) → Prog (Device × InStep)
 read_at d c p newest None = read_disk d c p newest
@@ -435,7 +435,7 @@ say d l (Some parcel) = AskFabric (Send l parcel) (after_word d l)
 
 -- what follows on a message in the same step
 abbrev pub follow : Heard → Lender → Prog Device
-follow h l = then (say h.device l h.word) (λ e. choose lose e h.choice)
+follow h l = and_then (say h.device l h.word) (λ e. choose lose e h.choice)
 
 abbrev pub with_step : LinkStep → Device → Device × LinkStep
 with_step step d = (d, step)
@@ -454,12 +454,12 @@ took_from d l LinkLost = answering (with_step link.Lost) (lose d l)
 abbrev pub link_take : Device → Lender → Prog (Device × LinkStep)
 link_take d l = if rings.is_up d.remote.links l then AskFabric (Take l) (took_from d l) else Ret (d, link.Nothing)
 
--- a local slab is borrowed from a lender that a caller names
-abbrev pub mapped_now : Device → Device × Bool
-mapped_now d = (d, true)
+-- a slab is borrowed from a lender that a caller names, where it may be
+abbrev pub with_answer : Bool → Device → Device × Bool
+with_answer may d = (d, may)
 
 abbrev pub map : Device → Slab → Lender → Prog (Device × Bool)
-map d slab l = if may_map d slab l then answering mapped_now (borrow_from lose d slab l) else Ret (d, false)
+map d slab l = answering (with_answer (may_map d slab l)) (borrow_from lose d slab l)
 
 -- A slab is asked for: of one lender while it's local, or of a second beside the first. Whether the query was sent.
 abbrev pub may_ask : Device → Slab → Option Lender → Lender → Bool
@@ -495,7 +495,7 @@ ask_second slab first second (d, false) = ask_one d slab second
 abbrev pub ask : Device → Slab → Asked → Prog (Device × Option Placed)
 ask d slab picked.Nobody = Ret (d, None)
 ask d slab (picked.One n) = ask_one d slab (record { 0 = n })
-ask d slab (picked.Two n m) = then (query d slab None (record { 0 = n })) (ask_second slab (record { 0 = n }) (record { 0 = m }))
+ask d slab (picked.Two n m) = and_then (query d slab None (record { 0 = n })) (ask_second slab (record { 0 = n }) (record { 0 = m }))
 
 -- the hottest local slab is asked for, of two lenders
 abbrev pub place_at : Device → ℕ → Option Slab → Prog (Device × Option Placed)
@@ -529,7 +529,7 @@ abbrev pub without_link : Device → Lender → Prog Device
 without_link d l = if rings.is_up d.remote.links l then lose d l else Ret d
 
 abbrev pub connect : Device → Lender → Prog (Device × Option Link)
-connect d l = if nat_lt d.links_made MOST_LINKS then then (without_link d l) (λ e. connect_on e l) else Ret (d, None)
+connect d l = if nat_lt d.links_made MOST_LINKS then and_then (without_link d l) (λ e. connect_on e l) else Ret (d, None)
 
 -- the far side of the links moves, where the fabric holds it
 abbrev pub give_to : Device → Lender → Prog (Device × Gave)

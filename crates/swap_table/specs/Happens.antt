@@ -22,6 +22,7 @@ use Rattle.swap_table.specs.declared.Step.{Step}
 use Rattle.swap_table.specs.declared.Step.TheVariants as steps
 use Rattle.swap_table.specs.declared.DiskStep.{DiskStep}
 use Rattle.swap_table.specs.declared.DiskStep.TheVariants as ends
+use Rattle.swap_table.specs.declared.Placed.{Placed}
 use Rattle.swap_table.specs.declared.LinkStep.{LinkStep}
 use Rattle.swap_table.specs.declared.LinkStep.TheVariants as link
 
@@ -52,6 +53,10 @@ see_disk (ends.Kept page entry) = seen.WriteKept entry
 see_disk (ends.Dropped page entry) = seen.WriteDropped entry
 see_disk (ends.Came caller page) = seen.ReadCame page
 see_disk (ends.Failed caller page) = seen.ReadFailed page
+
+abbrev pub see_tick : Option Placed → Seen
+see_tick None = seen.Ticked
+see_tick (Some placed) = seen.Asked placed.slab placed.first placed.second
 
 abbrev pub see_map : Bool → Seen
 see_map true = seen.Borrowing
@@ -89,6 +94,7 @@ happens d page (event.PageIn c p) = if is_idle (state_of d.calls c) then seen_by
 happens d page (event.Finish c) = if is_idle (state_of d.calls c) then Ret (d, seen.Idle) else seen_by see_step (device.finish d c)
 happens d page event.Start = seen_by see_start (device.disk_start d)
 happens d page (event.Disk which ok) = AskDisk (LetFinish which ok) (taken_if d)
+happens d page (event.Tick word) = seen_by see_tick (device.tick d word)
 happens d page (event.Map slab l) = seen_by see_map (device.map d slab l)
 happens d page (event.Connect l) = seen_by see_link (device.connect d l)
 happens d page (event.Give l) = seen_by see_gave (device.give_to d l)

@@ -11,7 +11,7 @@ use Rattle.swap_wire.specs.declared.fabric.Fabric.{Ghosts as FabricMeaning}
 use Rattle.swap_calls.specs.Calls.{state_of, is_idle}
 use Rattle.swap_slabs.specs.declared.TheConstants.{MOST_LENDERS}
 use Rattle.swap_table.specs.Ports.{Prog, Leads}
-use Rattle.swap_table.specs.Device.{Device, of_device, new, out, read, finish, disk_start, disk_take, disk_finish, link_take, map, connect, give_to, cut, crash, host}
+use Rattle.swap_table.specs.Device.{Device, of_device, new, out, read, finish, disk_start, disk_take, disk_finish, link_take, tick, map, connect, give_to, cut, crash, host}
 use Rattle.swap_table.specs.Fits.{Fits, IsBlank}
 
 module _ {D F : Type 0} (disk : DiskMeaning D) (fabric : FabricMeaning F) where
@@ -33,6 +33,7 @@ module _ {D F : Type 0} (disk : DiskMeaning D) (fabric : FabricMeaning F) where
     pub disk_take : (told : Bool) (d : Device) (k : D) (f : F) → AgreeWith told d k f → AgreesAfter told (disk_take d) d k f
     pub disk_finish : (told : Bool) (d : Device) (k : D) (f : F) (w : DiskWhich) (ok : Bool) → AgreeWith told d k f → AgreesAfter told (disk_finish d w ok) d k f
     pub link_take : (told : Bool) (d : Device) (k : D) (f : F) (l : Lender) → AgreeWith told d k f → AgreesAfter told (link_take d l) d k f
+    pub tick : (told : Bool) (d : Device) (k : D) (f : F) (word : ℕ) → AgreeWith told d k f → AgreesAfter told (tick d word) d k f
     pub map : (told : Bool) (d : Device) (k : D) (f : F) (slab : Slab) (l : Lender) → AgreeWith told d k f → slab.0 < d.sizes.slabs → AgreesAfter told (map d slab l) d k f
     pub connect : (told : Bool) (d : Device) (k : D) (f : F) (l : Lender) → AgreeWith told d k f → l.0 < d.lenders → AgreesAfter told (connect d l) d k f
     pub give : (told : Bool) (d : Device) (k : D) (f : F) (l : Lender) → AgreeWith told d k f → AgreesAfter told (give_to d l) d k f

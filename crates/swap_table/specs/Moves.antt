@@ -1,6 +1,6 @@
 -- The moves of a device: what one call of a disk or of a fabric, with its answer, makes of it, and what it does by itself.
 -- Each has for its premises what the program has tested by then.
-use Rattle.std.specs.Prelude.{◌≡◌, ℕ, ◌<◌, Bool, true, false, ◌==◌, nat_lt, List, [], ◌∷◌, Option, None, Some}
+use Rattle.std.specs.Prelude.{◌≡◌, ℕ, ◌<◌, Bool, true, false, ◌==◌, nat_lt, List, [], ◌∷◌, length, Option, None, Some}
 use Rattle.swap_base.specs.declared.Page.{Page}
 use Rattle.swap_base.specs.declared.Caller.{Caller}
 use Rattle.swap_base.specs.declared.EntryNo.{EntryNo}
@@ -28,12 +28,16 @@ use Rattle.swap_calls.specs.declared.Arrived.{Arrived}
 use Rattle.swap_calls.specs.declared.Arrived.TheVariants as arrived
 use Rattle.swap_calls.specs.declared.CallState.TheVariants.{Room, Reading}
 use Rattle.swap_slabs.specs.Slabs as slabs
-use Rattle.swap_rings.specs.Rings.{is_up, ring_of}
+use Rattle.swap_slabs.specs.declared.Reply.TheVariants as reply
+use Rattle.swap_slabs.specs.declared.SlabState.TheVariants.{Asking}
+use Rattle.swap_activity.specs.Rates.{Activity}
+use Rattle.swap_rates.specs.Table as rates
+use Rattle.swap_rings.specs.Rings.{is_up, ring_of, link_of, may_send}
 use Rattle.swap_rings.specs.declared.Request.{Request}
 use Rattle.swap_rings.specs.declared.Request.TheVariants as request
 use Rattle.swap_remote.specs.Remote as remote
 use Rattle.swap_remote.specs.Remote.{target}
-use Rattle.swap_table.specs.Device.{Device, enter, give, fault, lost, wait_for_room, wait_for_disk, write_sent, read_sent, source, origin_of, took_back, is_newest, borrow_reply, write_reply, read_reply, may_map, raised, next_link, hello, without_link}
+use Rattle.swap_table.specs.Device.{Device, enter, give, fault, lost, wait_for_room, wait_for_disk, write_sent, read_sent, source, origin_of, took_back, Heard, only, done_word, settled_word, chosen_for, is_newest, query_reply, borrow_reply, write_reply, read_reply, rate_asked, taken_back, may_map, raised, next_link, hello}
 use Rattle.swap_table.specs.Goes.{Asked, Nothing, OfDisk, OfFabric}
 
 -- what a device has made up its mind to do next on a link: to send a message, or to end the link
@@ -48,6 +52,14 @@ pub record Speaker : Type 0 where
 
 abbrev pub quiet : Device → Speaker
 quiet d = record { device = d; owed = [] }
+
+-- one that owes a word on a link, where there is one to say
+abbrev pub words : Lender → Option Parcel → List Owed
+words l None = []
+words l (Some q) = Says l q ∷ []
+
+abbrev pub owing : Heard → Lender → Speaker
+owing h l = record { device = h.device; owed = words l h.word }
 
 -- what callers may name and hand in
 pub record Within : Type 1 where
@@ -86,27 +98,43 @@ pub data Faults (d : Device) (c : Caller) (p : Page) : CallKind → ℕ → ℕ 
   full : {since : ℕ} → state_of d.calls c ≡ Room p since → nat_lt since d.failed_writes ≡ true → Faults d c p kind.PageOut since d.failed_writes (call_of d.calls c).bytes
   unread : {n : EntryNo} {v : Via} {since : ℕ} → state_of d.calls c ≡ Reading p n v arrived.Failed false since → Faults d c p kind.PageIn since d.failed_reads (zeros d.sizes)
 
+-- a slab that a caller names, or one that there is
+pub data Finds (W : Within) (d : Device) (t : Slab) : Type 0 where
+  told : W.slab t → Finds W d t
+  there : t.0 < length d.remote.slabs → Finds W d t
+
 -- what is sent to a lender; what the device is once it's sent, and what it is but for the link where the link is down
 pub data Sends (W : Within) (d : Device) (l : Lender) : Parcel → Device → Device → Type 0 where
   write : {c : Caller} {p : Page} {k : Lease} {bytes : List ℕ} → Outs W d c p bytes → target d.sizes d.remote p ≡ Some (l, k)
       → Sends W d l (write_parcel k (place_of d.sizes p.0) bytes) (write_sent (enter d c p bytes) l p (next_name d.history)) (enter d c p bytes)
   read : {c : Caller} {p : Page} {k : Lease} {n : EntryNo} → Ins W d c p → W.caller c → last d.history p ≡ Some n → queue.newest d.queue p ≡ None → source d p ≡ Some (l, k)
       → Sends W d l (read_parcel k (place_of d.sizes p.0)) (read_sent d l c p n) d
-  borrow : {t : Slab} → W.slab t → may_map d t l ≡ true → Sends W d l (parcel_of (msg.Borrow t) []) (record d { remote = remote.borrow_sent d.remote t l }) d
+  borrow : {t : Slab} → Finds W d t → may_map d t l ≡ true → Sends W d l (parcel_of (msg.Borrow t) []) (record d { remote = remote.borrow_sent d.remote t l }) d
+  query : {t : Slab} → t.0 < length d.remote.slabs → may_map d t l ≡ true → Sends W d l (parcel_of (msg.Query t) []) (record d { remote = remote.query_sent d.remote t None l }) d
+  query_too : {t : Slab} {m : Lender} → t.0 < length d.remote.slabs → slabs.state_of d.remote.slabs t ≡ Asking (slabs.pair_of m None) → (m.0 ≡ l.0 → ⊥) → may_send d.sizes.window (link_of d.remote.links l) ≡ true
+      → Sends W d l (parcel_of (msg.Query t) []) (record d { remote = remote.query_sent d.remote t (Some m) l }) d
 
--- a message that answers the oldest request of its link
-pub data Hears (d : Device) (l : Lender) (q : Parcel) : Device → Type 0 where
+-- what a message makes of the device: one that answers the oldest request of its link, or asks for a rate, or takes a
+-- slab back
+pub data Hears (d : Device) (l : Lender) (q : Parcel) : Heard → Type 0 where
+  roomy : {t u : Slab} {free : ℕ} {rest : List Request} → ring_of d.remote.links l ≡ request.Query t ∷ rest → query_reply q.msg ≡ Some (u, free) → (u.0 == t.0) ≡ true
+      → Hears d l q (record { device = record d { remote = remote.told d.remote l t free }; word = None; choice = chosen_for t (slabs.answer_choice (slabs.state_of d.remote.slabs t) l (reply.Free free)) })
   lent : {t u : Slab} {k : Lease} {rest : List Request} → ring_of d.remote.links l ≡ request.Borrow t ∷ rest → borrow_reply q.msg ≡ Some (u, Some k) → (u.0 == t.0) ≡ true → slabs.by_lease d.remote.slabs l k ≡ None
-      → Hears d l q (record d { remote = remote.lent d.remote l t k })
-  refused : {t u : Slab} {rest : List Request} → ring_of d.remote.links l ≡ request.Borrow t ∷ rest → borrow_reply q.msg ≡ Some (u, None) → (u.0 == t.0) ≡ true → Hears d l q (record d { remote = remote.refused d.remote l t })
+      → Hears d l q (only (record d { remote = remote.lent d.remote l t k }))
+  refused : {t u : Slab} {rest : List Request} → ring_of d.remote.links l ≡ request.Borrow t ∷ rest → borrow_reply q.msg ≡ Some (u, None) → (u.0 == t.0) ≡ true → Hears d l q (only (record d { remote = remote.refused d.remote l t }))
   written : {p : Page} {e : EntryNo} {at : Lease × ℕ} {rest : List Request} → ring_of d.remote.links l ≡ request.Write p e ∷ rest → write_reply q.msg ≡ Some at → remote.names_page d.sizes d.remote l p at.0 at.1 ≡ true
-      → Hears d l q (record d { remote = remote.written d.sizes d.remote l p (is_newest (last d.history p) e) })
+      → Hears d l q (record { device = record d { remote = remote.written d.sizes d.remote l p (is_newest (last d.history p) e) }; word = settled_word d p; choice = None })
   brought : {c : Caller} {p : Page} {at : Lease × ℕ} {rest : List Request} → ring_of d.remote.links l ≡ request.Read c p ∷ rest → read_reply q.msg ≡ Some at → remote.names_page d.sizes d.remote l p at.0 at.1 ≡ true
-      → Hears d l q (record d { remote = remote.settled_for d.sizes d.remote l p; calls = calls.came d.calls c q.page })
+      → Hears d l q (record { device = record d { remote = remote.settled_for d.sizes d.remote l p; calls = calls.came d.calls c q.page }; word = settled_word d p; choice = None })
+  asked_rate : {t : Slab} {k : Lease} → rate_asked q.msg ≡ Some k → remote.mapped_by d.remote.slabs l k ≡ Some t → Hears d l q (record { device = d; word = Some (parcel_of (msg.Rates k (rates.value_of d.rates t)) []); choice = None })
+  told_to_go : {t : Slab} {k : Lease} → taken_back q.msg ≡ Some k → remote.mapped_by d.remote.slabs l k ≡ Some t
+      → Hears d l q (record { device = record d { remote = remote.evicted d.sizes d.remote t }; word = done_word (slabs.evicted_lease (slabs.state_of d.remote.slabs t)); choice = None })
 
--- what a device says beside its requests
+-- what a device says beside its requests: a greeting, a rate, and a lease that it gives back
 pub data IsWord (d : Device) : Parcel → Type 0 where
   greeting : IsWord d (hello d.sizes)
+  rating : (k : Lease) (value : ℕ) → IsWord d (parcel_of (msg.Rates k value) [])
+  giving_back : (k : Lease) → IsWord d (parcel_of (msg.Done k) [])
 
 -- a call that moves the far side alone
 pub data IsFar (W : Within) : FabricCall → Type 0 where
@@ -121,6 +149,9 @@ pub data Move (W : Within) : Speaker → Asked → Speaker → Type 0 where
   gives : {d : Device} {c : Caller} {p : Page} {named : Option EntryNo} {from : Origin} {bytes : List ℕ} → Gives W d c p named from bytes → Move W (quiet d) Nothing (quiet (give d c p named from bytes))
   faults : {d : Device} {c : Caller} {p : Page} {k : CallKind} {since at : ℕ} {bytes : List ℕ} → Faults d c p k since at bytes → Move W (quiet d) Nothing (quiet (fault d c p k since at bytes))
   waits_for_room : {d : Device} (c : Caller) (p : Page) (bytes : List ℕ) → is_idle (state_of d.calls c) ≡ true → W.page p → W.bytes bytes → Move W (quiet d) Nothing (quiet (wait_for_room d c p bytes))
+  rates_change : {d : Device} (rates : List Activity) → Move W (quiet d) Nothing (quiet (record d { rates = rates }))
+  lets_go : {d : Device} (l : Lender) → is_up d.remote.links l ≡ true → Move W (quiet d) Nothing (quiet (lost d l))
+  gives_up : {d : Device} (l : Lender) (t : Slab) → is_up d.remote.links l ≡ false → slabs.asks l (slabs.state_of d.remote.slabs t) ≡ true → Move W (quiet d) Nothing (quiet (record d { remote = remote.gone d.remote l t }))
   -- with the disk
   starts : {d : Device} {p : Page} {line : List Page} {copy : Copy} {r : DiskAnswer (StartWrite p copy.bytes)} → d.queue.line ≡ p ∷ line → queue.next d.queue p ≡ Some copy → Move W (quiet d) (OfDisk (StartWrite p copy.bytes) r) (quiet (record d { queue = queue.start d.queue }))
   waits_for_disk : {d : Device} {c : Caller} {p : Page} {n : EntryNo} {r : DiskAnswer (StartRead c p)} → Ins W d c p → W.caller c → last d.history p ≡ Some n → queue.newest d.queue p ≡ None → Move W (quiet d) (OfDisk (StartRead c p) r) (quiet (wait_for_disk d c p n))
@@ -129,11 +160,11 @@ pub data Move (W : Within) : Speaker → Asked → Speaker → Type 0 where
   -- with the fabric
   sends : {d e base : Device} {l : Lender} {q : Parcel} → Sends W d l q e base → Move W (quiet d) (OfFabric (Send l q) sent.Sent) (quiet e)
   finds_down : {d e base : Device} {l : Lender} {q : Parcel} → Sends W d l q e base → Move W (quiet d) (OfFabric (Send l q) sent.Down) (quiet (lost base l))
-  raises : {d : Device} {l : Lender} {r : FabricAnswer (Connect l (next_link (without_link d l)))} → W.lender l
-      → Move W (quiet d) (OfFabric (Connect l (next_link (without_link d l))) r) (record { device = raised (without_link d l) l; owed = Says l (hello (without_link d l).sizes) ∷ [] })
+  raises : {d : Device} {l : Lender} {r : FabricAnswer (Connect l (next_link d))} → W.lender l → is_up d.remote.links l ≡ false
+      → Move W (quiet d) (OfFabric (Connect l (next_link d)) r) (record { device = raised d l; owed = Says l (hello d.sizes) ∷ [] })
   speaks : {d : Device} {l : Lender} {q : Parcel} → IsWord d q → Move W (record { device = d; owed = Says l q ∷ [] }) (OfFabric (Send l q) sent.Sent) (quiet d)
   speaks_to_nobody : {d : Device} {l : Lender} {q : Parcel} → IsWord d q → Move W (record { device = d; owed = Says l q ∷ [] }) (OfFabric (Send l q) sent.Down) (quiet (lost d l))
-  hears : {d e : Device} {l : Lender} {q : Parcel} → is_up d.remote.links l ≡ true → Hears d l q e → Move W (quiet d) (OfFabric (Take l) (Brought q)) (quiet e)
+  hears : {d : Device} {h : Heard} {l : Lender} {q : Parcel} → is_up d.remote.links l ≡ true → Hears d l q h → Move W (quiet d) (OfFabric (Take l) (Brought q)) (owing h l)
   hears_nothing : {d : Device} {l : Lender} → is_up d.remote.links l ≡ true → Move W (quiet d) (OfFabric (Take l) NothingCame) (quiet d)
   loses : {d : Device} {l : Lender} → is_up d.remote.links l ≡ true → Move W (quiet d) (OfFabric (Take l) LinkLost) (quiet (lost d l))
   misunderstands : {d : Device} {l : Lender} {q : Parcel} → is_up d.remote.links l ≡ true → Move W (quiet d) (OfFabric (Take l) (Brought q)) (record { device = d; owed = Ends l ∷ [] })

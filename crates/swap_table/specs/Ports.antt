@@ -35,7 +35,7 @@ run ask_disk ask_fabric (AskDisk c next) d f = run ask_disk ask_fabric (next (as
 run ask_disk ask_fabric (AskFabric c next) d f = run ask_disk ask_fabric (next (ask_fabric f c).0) d (ask_fabric f c).1
 
 -- one program after another, which goes by what the first gave
-abbrev pub then : {A B : Type 0} → Prog A → (A → Prog B) → Prog B
-then (Ret a) next = next a
-then (AskDisk c more) next = AskDisk c (λ r. then (more r) next)
-then (AskFabric c more) next = AskFabric c (λ r. then (more r) next)
+abbrev pub and_then : {A B : Type 0} → Prog A → (A → Prog B) → Prog B
+and_then (Ret a) next = next a
+and_then (AskDisk c more) next = AskDisk c (λ r. and_then (more r) next)
+and_then (AskFabric c more) next = AskFabric c (λ r. and_then (more r) next)

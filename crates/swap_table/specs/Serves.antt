@@ -70,13 +70,13 @@ bytes_in (Some row) = row.bytes
 abbrev pub bytes_of : History → EntryNo → List ℕ
 bytes_of H entry = bytes_in (named H entry.0)
 
--- a slab is mapped to this lender
-abbrev pub IsMappedTo : Lender → SlabState → Type 0
-IsMappedTo l Local = ⊥
-IsMappedTo l (Asking pair) = ⊥
-IsMappedTo l (Borrowing other) = ⊥
-IsMappedTo l (Mapped other lease flying) = other.0 ≡ l.0
-IsMappedTo l (Draining other lease flying) = ⊥
+-- a slab is mapped to this lender, or drains there
+abbrev pub IsLeasedFrom : Lender → SlabState → Type 0
+IsLeasedFrom l Local = ⊥
+IsLeasedFrom l (Asking pair) = ⊥
+IsLeasedFrom l (Borrowing other) = ⊥
+IsLeasedFrom l (Mapped other lease flying) = other.0 ≡ l.0
+IsLeasedFrom l (Draining other lease flying) = other.0 ≡ l.0
 
 -- a call waits for this lender to read this page
 abbrev pub WaitsFrom : Lender → Page → CallState → Type 0
@@ -85,15 +85,18 @@ WaitsFrom l page _ = ⊥
 
 -- a request under way has what waits for its answer
 abbrev pub IsAwaited : Sizes → History → Calls → List SlabState → Lender → Request → Type 0
-IsAwaited s H calls states l (Query slab) = ⊥
+IsAwaited s H calls states l (Query slab) = (slab.0 < s.slabs) × (slabs.asks l (slabs.state_of states slab) ≡ true)
 IsAwaited s H calls states l (Borrow slab) = (slab.0 < s.slabs) × (slabs.state_of states slab ≡ Borrowing l)
-IsAwaited s H calls states l (Write page entry) = (page.0 < pages_of s) × IsMappedTo l (state_for s states page) × IsOut H page entry
-IsAwaited s H calls states l (Read caller page) = (caller.0 < s.callers) × (page.0 < pages_of s) × IsMappedTo l (state_for s states page) × WaitsFrom l page (state_of calls caller)
+IsAwaited s H calls states l (Write page entry) = (page.0 < pages_of s) × IsLeasedFrom l (state_for s states page) × IsOut H page entry
+IsAwaited s H calls states l (Read caller page) = (caller.0 < s.callers) × (page.0 < pages_of s) × IsLeasedFrom l (state_for s states page) × WaitsFrom l page (state_of calls caller)
 
 -- of two requests on one link, the earlier first: the writes of a page ascend, and no read of a page follows a write of
--- it; no caller reads twice, and no slab is borrowed twice
+-- it; no caller reads twice, and no slab is asked for or borrowed twice
 abbrev pub MayPrecede : Request → Request → Type 0
-MayPrecede (Query slab) later = Unit {0}
+MayPrecede (Query slab) (Query other) = slab.0 ≢ other.0
+MayPrecede (Query slab) (Borrow other) = Unit {0}
+MayPrecede (Query slab) (Write page entry) = Unit {0}
+MayPrecede (Query slab) (Read caller page) = Unit {0}
 MayPrecede (Borrow slab) (Query other) = Unit {0}
 MayPrecede (Borrow slab) (Borrow other) = slab.0 ≢ other.0
 MayPrecede (Borrow slab) (Write page entry) = Unit {0}
@@ -139,13 +142,13 @@ pub record LinkFits (owes : Owing) (s : Sizes) (lenders : ℕ) (H : History) (ca
   pub ordered : AreInOrder link.ring
   pub owed : link.up ≡ true → OwesReads owes H calls l link.ring
 
--- a slab: its lender's link is up, and so many requests for its pages are under way there
+-- a slab that is borrowed or leased: its lender's link is up, and so many requests for its pages are under way there
 abbrev pub SlabFits : Sizes → List LinkState → Slab → SlabState → Type 0
 SlabFits s links slab Local = Unit {0}
-SlabFits s links slab (Asking pair) = ⊥
+SlabFits s links slab (Asking pair) = Unit {0}
 SlabFits s links slab (Borrowing l) = is_up links l ≡ true
 SlabFits s links slab (Mapped l lease flying) = (is_up links l ≡ true) × (flying ≡ flying_for s slab (ring_of links l))
-SlabFits s links slab (Draining l lease flying) = ⊥
+SlabFits s links slab (Draining l lease flying) = (is_up links l ≡ true) × (flying ≡ flying_for s slab (ring_of links l))
 
 -- the lender keeps what the last write of a page writes
 abbrev pub IsWriteKept : Keeping → History → Lender → Lease → ℕ → Option EntryNo → Type 0
