@@ -5,6 +5,7 @@ use Rattle.swap_activity.specs.Rates as activity
 use Rattle.swap_activity.specs.Rates.{Activity, still, end_period}
 use Rattle.swap_slabs.specs.declared.SlabState.{SlabState}
 use Rattle.swap_slabs.specs.Slabs.{is_local}
+use Rattle.swap_rates.specs.declared.rates.Candidate.{Candidate}
 
 -- no slab was hit
 abbrev pub all_still : ℕ → List Activity
@@ -23,11 +24,6 @@ hit rates slab = slice_set rates slab.0 (activity.hit (rate_of rates slab))
 
 abbrev pub periods_ended : List Activity → List Activity
 periods_ended rates = map end_period rates
-
--- a slab that may be placed, with the value of its rate
-pub record Candidate : Type 0 where
-  pub slab : Slab
-  pub value : ℕ
 
 -- a slab is a candidate while it's local and its value is at least so many hits in each period
 abbrev pub is_candidate : ℕ → SlabState → ℕ → Bool

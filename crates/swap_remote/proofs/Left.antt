@@ -26,14 +26,14 @@ pub record IsLeft (s : Sizes) (states : List SlabState) (lender : Lender) (bits 
   pub each : (q : ℕ) → has now q ≡ stays s states lender bits n q
 
 -- a slab's pages are those in its range
-in_slab : (e n q : ℕ) → 0 < e → q / e ≡ n → is_in_range (n * e) (n * e + e) q ≡ true
+pub in_slab : (e n q : ℕ) → 0 < e → q / e ≡ n → is_in_range (n * e) (n * e + e) q ≡ true
 in_slab e n q some is =
     let low : n * e ≤ q = (le-div_iff_mul-le {k = e} {x = n} {y = q} some).0 (subst (λ m. n ≤ m) (sym is) (omega arith)) in
     let high : q < (n + 1) * e = (div-lt_iff_lt-mul {k = e} {x = q} {y = n + 1} some).0 (subst (λ m. m < n + 1) (sym is) (omega arith)) in
     let more : (n + 1) * e ≡ n * e + e = ap (λ m. m * e) (add-one n) ∙ suc-mul n e in
     and_from (nat_le (n * e) q) (nat_lt q (n * e + e)) (le-leb (n * e) q low) (lt-ltb q (n * e + e) (subst (λ m. q < m) more high))
 
-off_slab : (e n q : ℕ) → 0 < e → (q / e ≡ n → ⊥) → is_in_range (n * e) (n * e + e) q ≡ false
+pub off_slab : (e n q : ℕ) → 0 < e → (q / e ≡ n → ⊥) → is_in_range (n * e) (n * e + e) q ≡ false
 off_slab e n q some other =
     let more : (n + 1) * e ≡ n * e + e = ap (λ m. m * e) (add-one n) ∙ suc-mul n e in
     ⊎_elim

@@ -1,17 +1,21 @@
-ghost use Rattle.std.specs.Prelude.{◌≡◌, ◌<◌, ◌≤◌, ◌+◌, ℕ, length, IfOk, IsTrue, is_some, Some, None};
+ghost use Rattle.std.specs.Prelude.{◌≡◌, ◌<◌, ◌≤◌, ◌+◌, ℕ, length, not, IfOk, IfSome, IsTrue, is_some, Some, None};
 ghost use Rattle.swap_base.specs.Sizes.{pages_of, slab_of, place_of};
 ghost use Rattle.swap_slabs.specs.Slabs as slabs;
 ghost use Rattle.swap_slabs.specs.Kept.{IsSlabs, IsNew};
+ghost use Rattle.swap_choice.specs.Asked as choice;
 ghost use Rattle.swap_slabs.specs.declared.TheConstants.{MOST_LENDERS, MOST_FLYING};
 ghost use Rattle.swap_rings.specs.Rings as rings;
-ghost use Rattle.swap_remote.specs.Remote.{none, slab_for, state_for, mapping, open_at, target, has_page, names_page, changed, sent_for, borrow_sent, lent, refused, settled_for, with_page_if, written, left_from, lost, raised};
+ghost use Rattle.swap_remote.specs.Remote.{none, slab_for, state_for, mapping, open_at, target, up_from, fresh, others, has_page, names_page, changed, sent_for, query_sent, told, gone, borrow_sent, lent, refused, settled_for, with_page_if, written, mapped_by, evicted, left_from, lost, raised};
+ghost use Rattle.swap_remote.specs.Kept.{MayAsk, AreAsked};
 
+use arrayvec::ArrayVec;
 use std::alloc::Global;
 use std::marker::Model;
 use swap_base::{Geometry, Lease, Lender, NoMemory, Page, Slab};
 use swap_bits::PageBits;
+use swap_choice::{Asked, two_lenders};
 use swap_rings::{Request, Rings};
-use swap_slabs::{MOST_LENDERS, SlabState, Slabs};
+use swap_slabs::{Chosen, MOST_LENDERS, Reply, SlabState, Slabs};
 
 /// The pages that remote memory has, the states of the slabs, and the links. All memory is taken at `make`.
 #[derive(Drop)]
@@ -79,6 +83,51 @@ fn has_lease(state: SlabState, lender: Lender, lease: Lease) -> bool
         } => { other.0 == lender.0 && its.0 == lease.0 }
         _ => false,
     }
+}
+
+fn is_waiting(reply: Reply) -> bool
+    ensures { result ≡ slabs.is_waiting reply }
+{
+    matches!(reply, Reply::Waiting)
+}
+
+// Whether a reply of a lender is waited for.
+fn asks(state: SlabState, lender: Lender) -> bool
+    ensures { result ≡ slabs.asks lender state }
+{
+    match state {
+        SlabState::Asking(pair) => {
+            (pair.first.0 == lender.0 && is_waiting(pair.one))
+                || (pair.second.is_some_and(|second| second.0 == lender.0) && is_waiting(pair.two))
+        }
+        _ => false,
+    }
+}
+
+// The lenders whose link is up, ascending: those that hold no slab, and the others.
+#[derive(Drop)]
+struct Askable {
+    fresh: ArrayVec<u32, 8>,
+    others: ArrayVec<u32, 8>,
+}
+
+fn lenders_up(rings: &Rings, states: &Slabs) -> Askable
+    requires { length rings.now.links ≡ MOST_LENDERS }
+    ensures fresh { result.fresh.items ≡ up_from (λ l. not (slabs.holds states.now l)) rings.now.links 0 }
+    ensures others { result.others.items ≡ up_from (λ l. slabs.holds states.now l) rings.now.links 0 }
+{
+    let mut fresh = ArrayVec::new();
+    let mut others = ArrayVec::new();
+    for lender in 0..MOST_LENDERS {
+        if rings.is_up(Lender(lender)) {
+            if states.holds(Lender(lender)) {
+                others.push(lender);
+            } else {
+                fresh.push(lender);
+            }
+        }
+    }
+    Askable { fresh, others }
 }
 
 // The bits of the slabs at a lender are cleared.
@@ -192,6 +241,45 @@ impl Remote {
         self.slabs.by_lease(lender, lease).is_some()
     }
 
+    /// Whether a reply of a lender about a slab is waited for.
+    pub fn asks(&self, slab: Slab, lender: Lender) -> bool
+        requires { slab.0 < self.now.sizes.slabs }
+        ensures { result ≡ slabs.asks lender (slabs.state_of self.now.remote.slabs slab) }
+    {
+        asks(self.slabs.state(slab), lender)
+    }
+
+    /// The slab that is mapped at a lender with this lease.
+    pub fn mapped_by(&self, lender: Lender, lease: Lease) -> Option<Slab>
+        requires { lender.0 < MOST_LENDERS }
+        ensures slab { result ≡ mapped_by self.now.remote.slabs lender lease }
+        ensures within { IfSome result (λ slab. slab.0 < self.now.sizes.slabs) }
+        ensures mapped { IfSome result (λ slab. IsTrue (slabs.is_mapped (slabs.state_of self.now.remote.slabs slab))) }
+    {
+        let slab = self.slabs.by_lease(lender, lease)?;
+        if is_mapped(self.slabs.state(slab)) {
+            Some(slab)
+        } else {
+            None
+        }
+    }
+
+    /// The lenders that a word picks to be asked for a slab: of those whose link is up, first those that hold none.
+    pub fn to_ask(&self, word: u64) -> Asked
+        ensures asked { result ≡ choice.asked word (fresh self.now.remote) (others self.now.remote) }
+        ensures lenders { AreAsked result }
+    {
+        let askable = lenders_up(&self.rings, &self.slabs);
+        two_lenders(word, askable.fresh.as_slice(), askable.others.as_slice())
+    }
+
+    /// The states of the slabs.
+    pub fn slabs(&self) -> &Slabs
+        ensures { result.now ≡ self.now.remote.slabs }
+    {
+        &self.slabs
+    }
+
     /// How many slabs are mapped.
     pub fn mapped(&self) -> u32
         ensures { result ≡ slabs.mapped self.now.remote.slabs }
@@ -218,6 +306,43 @@ impl Remote {
     {
         self.slabs.begin(self.geometry.slab_of(page));
         self.rings.send(lender, request);
+    }
+
+    /// A slab was asked for: of one lender, or of a second beside the first.
+    pub fn query_sent(&mut self, slab: Slab, first: Option<Lender>, lender: Lender)
+        requires slab { slab.0 < self.old.sizes.slabs }
+        requires lender { lender.0 < MOST_LENDERS }
+        requires state { MayAsk first lender (slabs.state_of self.old.remote.slabs slab) }
+        requires room { length (rings.ring_of self.old.remote.links lender) < self.old.sizes.window }
+        ensures { self.new ≡ record self.old { remote = query_sent self.old.remote slab first lender } }
+    {
+        self.rings.send(lender, Request::Query { slab });
+        match first {
+            None => self.slabs.ask(slab, lender, None),
+            Some(first) => self.slabs.ask_second(slab, first, lender),
+        }
+    }
+
+    /// A lender that was asked tells how many slots are free. Once no reply is waited for, the answer is the choice.
+    pub fn told(&mut self, lender: Lender, slab: Slab, free: u32) -> Option<Chosen>
+        requires slab { slab.0 < self.old.sizes.slabs }
+        requires lender { lender.0 < MOST_LENDERS }
+        requires asks { IsTrue (slabs.asks lender (slabs.state_of self.old.remote.slabs slab)) }
+        ensures tables { self.new ≡ record self.old { remote = told self.old.remote lender slab free } }
+        ensures choice { result ≡ slabs.answer_choice (slabs.state_of self.old.remote.slabs slab) lender (Reply.Free free) }
+    {
+        self.rings.answer(lender);
+        self.slabs.answer(slab, lender, Reply::Free(free))
+    }
+
+    /// A lender that was asked is gone. Once no reply is waited for, the answer is the choice.
+    pub fn gone(&mut self, lender: Lender, slab: Slab) -> Option<Chosen>
+        requires slab { slab.0 < self.old.sizes.slabs }
+        requires asks { IsTrue (slabs.asks lender (slabs.state_of self.old.remote.slabs slab)) }
+        ensures tables { self.new ≡ record self.old { remote = gone self.old.remote lender slab } }
+        ensures choice { result ≡ slabs.answer_choice (slabs.state_of self.old.remote.slabs slab) lender Reply.Gone }
+    {
+        self.slabs.answer(slab, lender, Reply::Gone)
     }
 
     /// A slab was asked to be lent.
@@ -255,30 +380,48 @@ impl Remote {
         self.rings.answer(lender);
     }
 
-    /// The oldest request on a link, one for this page, was answered.
-    pub fn settled_for(&mut self, lender: Lender, page: Page)
+    /// The oldest request on a link, one for this page, was answered. The lease of its slab is given back where that
+    /// was the last to fly for a slab that drains.
+    pub fn settled_for(&mut self, lender: Lender, page: Page) -> Option<Lease>
         requires page { page.0 < pages_of self.old.sizes }
         requires lender { lender.0 < MOST_LENDERS }
         requires flying { 0 < slabs.flying_of (state_for self.old.sizes self.old.remote.slabs page) }
-        ensures { self.new ≡ record self.old { remote = settled_for self.old.sizes self.old.remote lender page } }
+        ensures tables { self.new ≡ record self.old { remote = settled_for self.old.sizes self.old.remote lender page } }
+        ensures lease { result ≡ slabs.settled_lease (state_for self.old.sizes self.old.remote.slabs page) }
     {
-        let _lease = self.slabs.settled(self.geometry.slab_of(page));
         self.rings.answer(lender);
+        self.slabs.settled(self.geometry.slab_of(page))
     }
 
     /// It was a write: remote memory can be read for the page where its slab is mapped and the write was of the page's
     /// newest entry.
-    pub fn written(&mut self, lender: Lender, page: Page, newest: bool)
+    pub fn written(&mut self, lender: Lender, page: Page, newest: bool) -> Option<Lease>
         requires page { page.0 < pages_of self.old.sizes }
         requires lender { lender.0 < MOST_LENDERS }
         requires flying { 0 < slabs.flying_of (state_for self.old.sizes self.old.remote.slabs page) }
-        ensures { self.new ≡ record self.old { remote = written self.old.sizes self.old.remote lender page newest } }
+        ensures tables { self.new ≡ record self.old { remote = written self.old.sizes self.old.remote lender page newest } }
+        ensures lease { result ≡ slabs.settled_lease (state_for self.old.sizes self.old.remote.slabs page) }
     {
         let is_mapped = is_mapped(self.slabs.state(self.geometry.slab_of(page)));
-        self.settled_for(lender, page);
+        let lease = self.settled_for(lender, page);
         if newest && is_mapped {
             self.bits.set(page.0);
         }
+        lease
+    }
+
+    /// A mapped slab is taken back: no page of it can be read, and it drains. Its lease is given back where no request
+    /// flies for it.
+    pub fn evict(&mut self, slab: Slab) -> Option<Lease>
+        requires slab { slab.0 < self.old.sizes.slabs }
+        requires mapped { IsTrue (slabs.is_mapped (slabs.state_of self.old.remote.slabs slab)) }
+        ensures tables { self.new ≡ record self.old { remote = evicted self.old.sizes self.old.remote slab } }
+        ensures lease { result ≡ slabs.evicted_lease (slabs.state_of self.old.remote.slabs slab) }
+    {
+        let each = self.geometry.pages_per_slab();
+        self.geometry.limits();
+        self.bits.clear_range(slab.0 * each, slab.0 * each + each);
+        self.slabs.evict(slab)
     }
 
     /// A link was lost: it is down, and the slabs at its lender are local with their bits cleared.

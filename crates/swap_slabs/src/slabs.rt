@@ -1,5 +1,5 @@
-ghost use Rattle.std.specs.Prelude.{◌≡◌, ℕ, ◌+◌, ◌<◌, ◌≤◌, false, length, IfOk, IsTrue, Some, replicate};
-ghost use Rattle.swap_slabs.specs.Slabs.{all_local, state_of, with_state, is_local, is_borrowing, is_mapped, is_at, leased_of, flying_of, asks, is_waiting, replied, waits, free_in, choice, asked, answered, answer_choice, borrowed, lent, refused, begun, drained, given_at, settled, settled_lease, evicted, evicted_lease, after_lost, lost, holds, by_lease, mapped};
+ghost use Rattle.std.specs.Prelude.{◌≡◌, ℕ, ◌+◌, ◌<◌, ◌≤◌, false, length, IfOk, IsTrue, Some, None, replicate};
+ghost use Rattle.swap_slabs.specs.Slabs.{all_local, state_of, with_state, is_local, is_borrowing, is_mapped, is_at, leased_of, flying_of, asks, is_waiting, replied, waits, free_in, choice, pair_of, asked, answered, answer_choice, borrowed, lent, refused, begun, drained, given_at, settled, settled_lease, evicted, evicted_lease, after_lost, lost, holds, by_lease, mapped};
 ghost use Rattle.swap_slabs.specs.Kept.{IsSlabs, IsSecond, IsNew};
 ghost use Rattle.swap_slabs.specs.Rows.{new_row, one};
 
@@ -185,6 +185,21 @@ impl Slabs {
             second,
             one: Reply::Waiting,
             two,
+        });
+    }
+
+    /// A slab that asks one lender, whose reply it waits for, asks a second one too.
+    pub fn ask_second(&mut self, slab: Slab, first: Lender, second: Lender)
+        requires slab { slab.0 < length self.old }
+        requires state { state_of self.old slab ≡ SlabState.Asking (pair_of first None) }
+        requires second { IsSecond first (Some second) }
+        ensures { self.new ≡ asked self.old slab first (Some second) }
+    {
+        self.states[slab.0 as usize] = SlabState::Asking(Pair {
+            first,
+            second: Some(second),
+            one: Reply::Waiting,
+            two: Reply::Waiting,
         });
     }
 

@@ -56,6 +56,7 @@ fn asks(state: SlabState, lender: Lender) -> bool
 enum Move {
     Ask(u32),
     AskTwo(u32, u32),
+    AskSecond(u32, u32),
     Answer(u32, Reply),
     Borrow(u32),
     Lent(u32),
@@ -94,6 +95,21 @@ fn ask(rt: &impl Abort, slabs: &mut Slabs, slab: Slab, first: u32, second: Optio
     } else {
         slabs.ask(slab, Lender(first), None);
     }
+}
+
+fn ask_second(rt: &impl Abort, slabs: &mut Slabs, slab: Slab, first: u32, second: u32)
+    requires { slab.0 < length slabs.old }
+    ensures { length slabs.new ≡ length slabs.old }
+{
+    let alone = SlabState::Asking(Pair {
+        first: Lender(first),
+        second: None,
+        one: Reply::Waiting,
+        two: Reply::Gone,
+    });
+    assert!(rt; slabs.state(slab) == alone);
+    assert!(rt; second != first && second < MOST_LENDERS);
+    slabs.ask_second(slab, Lender(first), Lender(second));
 }
 
 fn answer(rt: &impl Abort, slabs: &mut Slabs, slab: Slab, lender: u32, reply: Reply) -> Told
@@ -152,6 +168,7 @@ fn make(rt: &impl Abort, slabs: &mut Slabs, slab: Slab, step: Move) -> Told
     match step {
         Move::Ask(first) => ask(rt, slabs, slab, first, None),
         Move::AskTwo(first, second) => ask(rt, slabs, slab, first, Some(Lender(second))),
+        Move::AskSecond(first, second) => ask_second(rt, slabs, slab, first, second),
         Move::Answer(lender, reply) => return answer(rt, slabs, slab, lender, reply),
         Move::Borrow(lender) => borrow(rt, slabs, slab, lender),
         Move::Lent(lease) => lent(rt, slabs, slab, lease),
@@ -233,7 +250,12 @@ fn asked_lenders_are_chosen_by_their_free_slots(rt: HostRuntime) -> Result<(), F
                 asking(2, None, Reply::Waiting, Reply::Gone),
             ),
             (Move::Answer(2, Reply::Free(3)), second, SlabState::Local),
-            (Move::AskTwo(1, 2), Told::Nothing, two),
+            (
+                Move::Ask(1),
+                Told::Nothing,
+                asking(1, None, Reply::Waiting, Reply::Gone),
+            ),
+            (Move::AskSecond(1, 2), Told::Nothing, two),
             (
                 Move::Answer(2, Reply::Free(5)),
                 Told::Waits,

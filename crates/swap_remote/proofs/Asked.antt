@@ -1,0 +1,150 @@
+-- The lenders that are asked are lenders, and two are different; which slab a lease names; and an evicted slab's bits.
+use Rattle.std.proofs.Common.{◌≡◌, ◌≢◌, ℕ, ◌+◌, ◌*◌, ◌<◌, ◌≤◌, Bool, true, false, ◌&&◌, ◌==◌, if◌then◌else◌, not, nat_eq, List, [], ◌∷◌, ◌++◌, length, position, option_map, Option, None, Some, refl, sym, ap, ◌∙◌, subst, arith, ⊎_elim, ne_eqb, eq-eqb}
+use Rattle.std.specs.List.{AllByRecursion, Contains, IsDistinct}
+use Rattle.std.proofs.lemmas.Bool.{cases_eq, cases_Bool, cond-true, cond-false, false≢true, and_parts}
+use Rattle.std.proofs.lemmas.List.Elements.{All-contains, All-from_recursion}
+use Rattle.std.proofs.lemmas.List.Quantifiers.{position-Some}
+use Rattle.swap_base.specs.declared.Slab.{Slab}
+use Rattle.swap_base.specs.declared.Lender.{Lender}
+use Rattle.swap_base.specs.declared.Lease.{Lease}
+use Rattle.swap_base.specs.Sizes.{Sizes, pages_of, slab_of}
+use Rattle.swap_bits.specs.Bits.{has, is_in_range}
+use Rattle.swap_bits.proofs.Numbers.{takes_range, keeps_bound}
+use Rattle.swap_slabs.specs.declared.SlabState.{SlabState}
+use Rattle.swap_slabs.specs.declared.SlabState.TheVariants.{Local}
+use Rattle.swap_slabs.specs.declared.TheConstants.{MOST_LENDERS}
+use Rattle.swap_slabs.specs.Slabs as slabs
+use Rattle.swap_rings.specs.Rings.{LinkState}
+use Rattle.swap_choice.specs.declared.lenders.Asked.{Asked}
+use Rattle.swap_choice.specs.declared.lenders.Asked.TheVariants.{Nobody, One, Two}
+use Rattle.swap_choice.specs.Asked as choice
+use Rattle.swap_choice.proofs.PicksLemmas.{asked_members, asked_different}
+use Rattle.swap_remote.specs.Remote.{Remote, up_from, fresh, others, only_mapped, mapped_by, evicted}
+use Rattle.swap_remote.specs.Kept.{AreAsked}
+use Rattle.swap_remote.proofs.Left.{in_slab, off_slab, range_ends}
+
+-- what is true of each lender that meets a test is true of each that is listed
+up_each : (P : ℕ → Type 0) (test : Lender → Bool) (links : List LinkState) (n : ℕ) → ((k : ℕ) → n ≤ k → k < n + length links → test (record { 0 = k }) ≡ true → P k) → AllByRecursion P (up_from test links n)
+up_each P test [] n each = tt
+up_each P test (link ∷ links) n each =
+    let more : AllByRecursion P (up_from test links (n + 1)) = up_each P test links (n + 1) (λ k low high t. each k (omega (arith, low)) (omega (arith, high)) t) in
+    ⊎_elim
+    (λ (t : (link.up && test (record { 0 = n })) ≡ true).
+    subst (λ l. AllByRecursion P l) (sym (cond-true (link.up && test (record { 0 = n })) (n ∷ up_from test links (n + 1)) (up_from test links (n + 1)) t))
+    (each n (omega arith) (omega arith) (and_parts link.up (test (record { 0 = n })) t).1, more))
+    (λ (t : (link.up && test (record { 0 = n })) ≡ false).
+    subst (λ l. AllByRecursion P l) (sym (cond-false (link.up && test (record { 0 = n })) (n ∷ up_from test links (n + 1)) (up_from test links (n + 1)) t)) more)
+    (cases_Bool (link.up && test (record { 0 = n })))
+
+-- each stands once
+up_distinct : (test : Lender → Bool) (links : List LinkState) (n : ℕ) → IsDistinct nat_eq (up_from test links n)
+unfolding IsDistinct
+up_distinct test [] n = tt
+up_distinct test (link ∷ links) n =
+    ⊎_elim
+    (λ (t : (link.up && test (record { 0 = n })) ≡ true).
+    subst (λ l. IsDistinct nat_eq l) (sym (cond-true (link.up && test (record { 0 = n })) (n ∷ up_from test links (n + 1)) (up_from test links (n + 1)) t))
+    (up_each (λ k. nat_eq n k ≡ false) test links (n + 1) (λ k low high u. ne_eqb n k (omega (arith, low))), up_distinct test links (n + 1)))
+    (λ (t : (link.up && test (record { 0 = n })) ≡ false).
+    subst (λ l. IsDistinct nat_eq l) (sym (cond-false (link.up && test (record { 0 = n })) (n ∷ up_from test links (n + 1)) (up_from test links (n + 1)) t)) (up_distinct test links (n + 1)))
+    (cases_Bool (link.up && test (record { 0 = n })))
+
+each_append : (P : ℕ → Type 0) (xs ys : List ℕ) → AllByRecursion P xs → AllByRecursion P ys → AllByRecursion P (xs ++ ys)
+each_append P [] ys a b = b
+each_append P (x ∷ xs) ys a b = (a.0, each_append P xs ys a.1 b)
+
+both_distinct : (xs ys : List ℕ) → IsDistinct nat_eq xs → IsDistinct nat_eq ys → AllByRecursion (λ x. AllByRecursion (λ y. nat_eq x y ≡ false) ys) xs → IsDistinct nat_eq (xs ++ ys)
+unfolding IsDistinct
+both_distinct [] ys a b apart = b
+both_distinct (x ∷ xs) ys a b apart = (each_append (λ y. nat_eq x y ≡ false) xs ys a.0 apart.0, both_distinct xs ys a.1 b apart.1)
+
+-- no lender holds a slab and holds none
+module _ (r : Remote) where
+  not_both : (k m : ℕ) → not (slabs.holds r.slabs (record { 0 = k })) ≡ true → slabs.holds r.slabs (record { 0 = m }) ≡ true → k ≢ m
+  not_both k m none some same =
+      false≢true (sym (ap not (ap (λ j. slabs.holds r.slabs (record { 0 = j })) same ∙ some)) ∙ none)
+
+  all_distinct : IsDistinct nat_eq (fresh r ++ others r)
+  all_distinct =
+      both_distinct (fresh r) (others r) (up_distinct (λ l. not (slabs.holds r.slabs l)) r.links 0) (up_distinct (λ l. slabs.holds r.slabs l) r.links 0)
+      (up_each (λ x. AllByRecursion (λ y. nat_eq x y ≡ false) (others r)) (λ l. not (slabs.holds r.slabs l)) r.links 0
+      (λ k low high none. up_each (λ y. nat_eq k y ≡ false) (λ l. slabs.holds r.slabs l) r.links 0 (λ m low' high' some. ne_eqb k m (not_both k m none some))))
+
+  all_within : AllByRecursion (λ n. n < length r.links) (fresh r ++ others r)
+  all_within =
+      each_append (λ n. n < length r.links) (fresh r) (others r)
+      (up_each (λ n. n < length r.links) (λ l. not (slabs.holds r.slabs l)) r.links 0 (λ k low high t. omega (arith, high)))
+      (up_each (λ n. n < length r.links) (λ l. slabs.holds r.slabs l) r.links 0 (λ k low high t. omega (arith, high)))
+
+  member_within : (w n : ℕ) → Contains (choice.named (choice.asked w (fresh r) (others r))) n → n < length r.links
+  member_within w n is =
+      All-contains (λ k. k < length r.links) (fresh r ++ others r) n (All-from_recursion (λ k. k < length r.links) (fresh r ++ others r) all_within) (asked_members w (fresh r) (others r) n is)
+
+-- two that are distinct are different
+differ : (n m : ℕ) → IsDistinct nat_eq (n ∷ m ∷ []) → n ≢ m
+unfolding IsDistinct
+differ n m apart same = false≢true (sym apart.0.0 ∙ eq-eqb n m same)
+
+fits : (a : Asked) → ((n : ℕ) → Contains (choice.named a) n → n < MOST_LENDERS) → IsDistinct nat_eq (choice.named a) → AreAsked a
+fits Nobody within apart = tt
+fits (One n) within apart = within n (0, omega arith, refl)
+fits (Two n m) within apart = (within n (0, omega arith, refl), within m (1, omega arith, refl), differ n m apart)
+
+pub asked_fit : (w : ℕ) (r : Remote) → length r.links ≡ MOST_LENDERS → AreAsked (choice.asked w (fresh r) (others r))
+asked_fit w r len =
+    fits (choice.asked w (fresh r) (others r)) (λ n is. subst (λ k. n < k) len (member_within r w n is)) (asked_different w (fresh r) (others r) (all_distinct r))
+
+pub asked_differ : (w : ℕ) (r : Remote) (n m : ℕ) → choice.asked w (fresh r) (others r) ≡ Two n m → n ≡ m → ⊥
+asked_differ w r n m is = differ n m (subst (λ a. IsDistinct nat_eq (choice.named a)) is (asked_different w (fresh r) (others r) (all_distinct r)))
+
+some_is : (a b : Slab) → Some a ≡ Some b → a ≡ b
+some_is a b h = cc
+
+none_some : (a : Slab) → None ≡ Some a → ⊥
+none_some a h = cc
+
+-- the slab that is mapped with a lease is one of the slabs, and mapped
+leased_within : (states : List SlabState) (lender : Lender) (lease : Lease) (slab : Slab) (place : Option ℕ) → position (λ state. slabs.has_lease lender lease state) states ≡ place → option_map (λ (n : ℕ). record { 0 = n }) place ≡ Some slab → slab.0 < length states
+leased_within states lender lease slab None at is = cc
+leased_within states lender lease slab (Some n) at is =
+    let number : n ≡ slab.0 = ap (λ (x : Slab). x.0) (some_is (record { 0 = n }) slab is) in
+    subst (λ k. k < length states) number (position-Some (λ state. slabs.has_lease lender lease state) states n Local at).0
+
+pub by_lease_within : (states : List SlabState) (lender : Lender) (lease : Lease) (slab : Slab) → slabs.by_lease states lender lease ≡ Some slab → slab.0 < length states
+by_lease_within states lender lease slab is = leased_within states lender lease slab (position (λ state. slabs.has_lease lender lease state) states) refl is
+
+only_mapped_is : (states : List SlabState) (found : Option Slab) (slab : Slab) → only_mapped states found ≡ Some slab → (found ≡ Some slab) × (slabs.is_mapped (slabs.state_of states slab) ≡ true)
+only_mapped_is states None slab is = cc
+only_mapped_is states (Some other) slab is =
+    ⊎_elim
+    (λ (t : slabs.is_mapped (slabs.state_of states other) ≡ true).
+    let same : Some other ≡ Some slab = sym (cond-true (slabs.is_mapped (slabs.state_of states other)) (Some other) None t) ∙ is in
+    (same, subst (λ (s : Slab). slabs.is_mapped (slabs.state_of states s) ≡ true) (some_is other slab same) t))
+    (λ (t : slabs.is_mapped (slabs.state_of states other) ≡ false).
+    let none : None ≡ Some slab = sym (cond-false (slabs.is_mapped (slabs.state_of states other)) (Some other) None t) ∙ is in
+    absurd (none_some slab none))
+    (cases_Bool (slabs.is_mapped (slabs.state_of states other)))
+
+pub mapped_by_within : (states : List SlabState) (lender : Lender) (lease : Lease) (slab : Slab) → mapped_by states lender lease ≡ Some slab → slab.0 < length states
+mapped_by_within states lender lease slab is = by_lease_within states lender lease slab (only_mapped_is states (slabs.by_lease states lender lease) slab is).0
+
+pub mapped_by_mapped : (states : List SlabState) (lender : Lender) (lease : Lease) (slab : Slab) → mapped_by states lender lease ≡ Some slab → slabs.is_mapped (slabs.state_of states slab) ≡ true
+mapped_by_mapped states lender lease slab is = (only_mapped_is states (slabs.by_lease states lender lease) slab is).1
+
+-- an evicted slab's bits are cleared, and no other
+pub evicted_bit : (s : Sizes) (r : Remote) (slab : Slab) (q : ℕ) → slab.0 < s.slabs → length r.bits ≡ pages_of s → 0 < s.pages_per_slab → has (evicted s r slab).bits q ≡ (if slab_of s q == slab.0 then false else has r.bits q)
+evicted_bit s r slab q within len some =
+    let ends : slab.0 * s.pages_per_slab + s.pages_per_slab ≤ length r.bits = subst (λ n. slab.0 * s.pages_per_slab + s.pages_per_slab ≤ n) (sym len) (range_ends s.pages_per_slab s.slabs slab.0 within) in
+    takes_range r.bits (slab.0 * s.pages_per_slab) (slab.0 * s.pages_per_slab + s.pages_per_slab) q (omega arith) ends
+    ∙ ⊎_elim
+    (λ (is : slab_of s q ≡ slab.0).
+    cond-true (is_in_range (slab.0 * s.pages_per_slab) (slab.0 * s.pages_per_slab + s.pages_per_slab) q) false (has r.bits q) (in_slab s.pages_per_slab slab.0 q some is) ∙ sym (cond-true (slab_of s q == slab.0) false (has r.bits q) (eq-eqb (slab_of s q) slab.0 is)))
+    (λ (other : slab_of s q ≢ slab.0).
+    cond-false (is_in_range (slab.0 * s.pages_per_slab) (slab.0 * s.pages_per_slab + s.pages_per_slab) q) false (has r.bits q) (off_slab s.pages_per_slab slab.0 q some other)
+    ∙ sym (cond-false (slab_of s q == slab.0) false (has r.bits q) (ne_eqb (slab_of s q) slab.0 other)))
+    (cases_eq (slab_of s q) slab.0)
+
+pub length-evicted : (s : Sizes) (r : Remote) (slab : Slab) → slab.0 < s.slabs → length r.bits ≡ pages_of s → length (evicted s r slab).bits ≡ length r.bits
+length-evicted s r slab within len =
+    let ends : slab.0 * s.pages_per_slab + s.pages_per_slab ≤ length r.bits = subst (λ n. slab.0 * s.pages_per_slab + s.pages_per_slab ≤ n) (sym len) (range_ends s.pages_per_slab s.slabs slab.0 within) in
+    (keeps_bound r.bits (slab.0 * s.pages_per_slab) (slab.0 * s.pages_per_slab + s.pages_per_slab) 0 (omega arith) ends).2
