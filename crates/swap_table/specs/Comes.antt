@@ -88,4 +88,7 @@ pub data Comes : Device → List ℕ → Event → Device → Seen → Type 0 wh
   takes_back : {d : Device} {page : List ℕ} {w : DiskWhich} {ok : Bool} (taken : Option Taken) → Comes d page (event.Disk w ok) (took_back d taken).0 (see_disk (took_back d taken).1)
   links : {d : Device} {page : List ℕ} {e : Event} {s : Seen} {d' : Device} → is_new e ≡ false → is_of_link s ≡ true → Linked d d' → Comes d page e d' s
   brings : {d : Device} {page : List ℕ} {l : Lender} {m : Msg} {d' : Device} (c : Caller) (bytes : List ℕ) (r : Remote) → Linked (record d { remote = r; calls = calls.came d.calls c bytes }) d' → Comes d page (event.Take l) d' (seen.Took m)
-  rated : {d : Device} {page : List ℕ} {e : Event} {s : Seen} {d' : Device} (rates : List Activity) → Comes (record d { rates = rates }) page e d' s → Comes d page e d' s
+
+-- and a slab may have been hit, or each slab's period have ended, before
+abbrev pub ComesTo : Device → List ℕ → Event → Device → Seen → Type 0
+ComesTo d page e d' s = (rates : List Activity) × Comes (record d { rates = rates }) page e d' s
