@@ -22,6 +22,9 @@ use Rattle.swap_table.proofs.Walks.{Names, happens_fares}
 abbrev pub Hands : (Lender → Type 0) → (List ℕ → Type 0) → List ℕ → Event → Type 0
 Hands far may page (event.PageOut c p) = may page
 Hands far may page (event.Give l) = far l
+Hands far may page (event.Cut l a b) = far l
+Hands far may page (event.Crash l) = far l
+Hands far may page (event.Host l used word) = far l
 Hands far may page e = Unit {0}
 
 pub names_there : (s : Sizes) (n : ℕ) (far : Lender → Type 0) (may : List ℕ → Type 0) (d : Device) (page : List ℕ) (e : Event) → IsInRange s n e → Hands far may page e → Names (of_sizes s n far may) d page e
@@ -31,6 +34,9 @@ names_there s n far may d page (event.Finish c) range hands = range
 names_there s n far may d page (event.Map t l) range hands = range.0
 names_there s n far may d page (event.Connect l) range hands = range
 names_there s n far may d page (event.Give l) range hands = hands
+names_there s n far may d page (event.Cut l a b) range hands = hands
+names_there s n far may d page (event.Crash l) range hands = hands
+names_there s n far may d page (event.Host l used word) range hands = hands
 names_there s n far may d page e range hands = tt
 
 pub names_anything : (d : Device) (page : List ℕ) (e : Event) → Names anything d page e
@@ -40,6 +46,9 @@ names_anything d page (event.Finish c) = tt
 names_anything d page (event.Map t l) = tt
 names_anything d page (event.Connect l) = tt
 names_anything d page (event.Give l) = tt
+names_anything d page (event.Cut l a b) = tt
+names_anything d page (event.Crash l) = tt
+names_anything d page (event.Host l used word) = tt
 names_anything d page e = tt
 
 module _ {D F : Type 0} (disk_moves : D → (c : DiskCall) → DiskAnswer c → D → Type 0) (moves : F → (c : FabricCall) → FabricAnswer c → F → Type 0) where

@@ -36,6 +36,9 @@ any page = Unit {0}
 pub hands_any : (page : List ℕ) (e : Event) → Hands anyone any page e
 hands_any page (event.PageOut c p) = tt
 hands_any page (event.Give l) = tt
+hands_any page (event.Cut l a b) = tt
+hands_any page (event.Crash l) = tt
+hands_any page (event.Host l used word) = tt
 hands_any page e = tt
 
 -- what there is for a device
@@ -79,9 +82,9 @@ module _ {D F : Type 0} (disk : DiskMeaning D) (follows : FollowsItsMoves disk) 
     map = λ T d k f t l h within. fares_keep T d [] _ _ _ k f (walk.map_fares (there d) d [] t l within) h;
     connect = λ T d k f l h within. fares_keep T d [] _ _ _ k f (walk.connect_fares (there d) d [] l within) h;
     give = λ T d k f l h. fares_keep T d [] _ _ _ k f (walk.give_fares (there d) d [] l tt) h;
-    cut = λ T d k f l a b h. goes_keep T d _ k f (walk.cut_goes (there d) d [] l a b tt) h;
-    crash = λ T d k f l h. goes_keep T d _ k f (walk.crash_goes (there d) d [] l tt) h;
-    host = λ T d k f l used word h. goes_keep T d _ k f (walk.host_goes (there d) d [] l used word tt) h;
+    cut = λ T d k f l a b h. fares_keep T d [] _ _ _ k f (walk.cut_fares (there d) d [] l a b tt) h;
+    crash = λ T d k f l h. fares_keep T d [] _ _ _ k f (walk.crash_fares (there d) d [] l tt) h;
+    host = λ T d k f l used word h. fares_keep T d [] _ _ _ k f (walk.host_fares (there d) d [] l used word tt) h;
   }
 
   pub new_agrees : NewAgrees disk fabric

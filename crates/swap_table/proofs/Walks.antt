@@ -46,7 +46,7 @@ use Rattle.swap_table.specs.Device.{Device, enter, lost, accept, accepted, accep
 use Rattle.swap_table.proofs.Lists.{chosen}
 use Rattle.swap_table.proofs.Agree.{get_or-map_idle}
 use Rattle.swap_table.proofs.Waits.{front_of}
-use Rattle.swap_table.specs.Happens.{happens, seen_by, see_out, see_in, see_step, see_start, see_disk, see_map, see_link, see_gave, see_take}
+use Rattle.swap_table.specs.Happens.{happens, seen_by, see_out, see_in, see_step, see_start, see_disk, see_map, see_link, see_gave, see_cut, see_crash, see_host, see_take}
 use Rattle.swap_table.specs.Goes.{Goes, ends, first, asks_disk, asks_fabric, After, by, OfFabric}
 use Rattle.swap_table.specs.Moves.{Within, Speaker, quiet, Outs, new_out, late_out, Ins, new_in, late_in, zero, copied, came, full, unread, write, read, borrow, Hears, lent, refused, written, brought, greeting, far_give, far_cut, far_crash, far_host, Move, enters, gives, faults, waits_for_room, starts, waits_for_disk, takes, lets_finish, sends, finds_down, raises, speaks, speaks_to_nobody, hears, hears_nothing, loses, misunderstands, breaks_off, far}
 use Rattle.swap_table.specs.Comes.{is_rest, Linked, as_was, sent_on, let_go, StepOut, begins_out, goes_on_out, StepIn, begins_in, goes_on_in, wait_seen, Comes, refuses, rests, accepts, gives_page, fails, keeps_page, reads, starts_write, takes_back, links, brings}
@@ -283,6 +283,18 @@ module _ (W : Within) (d : Device) (page : List ℕ) where
       seen_rests (gave.Got m reply evicted) = refl
       seen_rests (gave.Ended m) = refl
 
+  pub cut_fares : (l : Lender) (a b : ℕ) → W.far l → Fares (event.Cut l a b) see_cut d (device.cut d l a b)
+  cut_fares l a b within =
+      asks_fabric (elim [ true ↦ by (far (far_cut within)) (ends (refl, rests refl refl)) | false ↦ by (far (far_cut within)) (ends (refl, rests refl refl)) ])
+
+  pub crash_fares : (l : Lender) → W.far l → Fares (event.Crash l) see_crash d (device.crash d l)
+  crash_fares l within =
+      asks_fabric (elim [ true ↦ by (far (far_crash within)) (ends (refl, rests refl refl)) | false ↦ by (far (far_crash within)) (ends (refl, rests refl refl)) ])
+
+  pub host_fares : (l : Lender) (used word : ℕ) → W.far l → Fares (event.Host l used word) see_host d (device.host d l used word)
+  host_fares l used word within =
+      asks_fabric (elim [ None ↦ by (far (far_host within)) (ends (refl, rests refl refl)) | Some hosted ↦ by (far (far_host within)) (ends (refl, rests refl refl)) ])
+
   -- an event's call of the device, by what is seen
   pub seen_fares : {R : Type 0} {e : Event} {p : Prog (Device × R)} (see : R → Seen) → Fares e see d p → Fares e (λ s. s) d (seen_by see p)
   seen_fares see g = fares_as see (λ s. s) (λ r. (r.0, see r.1)) (λ a. (refl, refl)) g
@@ -295,6 +307,9 @@ module _ (W : Within) (d : Device) (page : List ℕ) where
   Names (event.Map t l) = W.slab t
   Names (event.Connect l) = W.lender l
   Names (event.Give l) = W.far l
+  Names (event.Cut l a b) = W.far l
+  Names (event.Crash l) = W.far l
+  Names (event.Host l used word) = W.far l
   Names e = Unit {0}
 
   pub happens_fares : (e : Event) → Names e → Fares e (λ s. s) d (happens d page e)
@@ -308,20 +323,11 @@ module _ (W : Within) (d : Device) (page : List ℕ) where
   happens_fares (event.Give l) names = seen_fares see_gave (give_fares l names)
   happens_fares (event.Take l) names = seen_fares see_take (link_take_fares l)
   happens_fares (event.Tick word) names = ends (refl, rests refl refl)
-  happens_fares (event.Cut l a b) names = ends (refl, rests refl refl)
-  happens_fares (event.Crash l) names = ends (refl, rests refl refl)
-  happens_fares (event.Host l used word) names = ends (refl, rests refl refl)
+  happens_fares (event.Cut l a b) names = seen_fares see_cut (cut_fares l a b names)
+  happens_fares (event.Crash l) names = seen_fares see_crash (crash_fares l names)
+  happens_fares (event.Host l used word) names = seen_fares see_host (host_fares l used word names)
   happens_fares (event.Round word) names = ends (refl, rests refl refl)
 
-  -- the calls that no event makes yet
+  -- the call that no event makes by itself
   pub disk_finish_goes : (w : DiskWhich) (ok : Bool) → Goes (Move W) Rests (quiet d) (disk_finish d w ok)
   disk_finish_goes w ok = asks_disk (λ r. by lets_finish (ends refl))
-
-  pub cut_goes : (l : Lender) (a b : ℕ) → W.far l → Goes (Move W) Rests (quiet d) (device.cut d l a b)
-  cut_goes l a b within = asks_fabric (λ r. by (far (far_cut within)) (ends refl))
-
-  pub crash_goes : (l : Lender) → W.far l → Goes (Move W) Rests (quiet d) (device.crash d l)
-  crash_goes l within = asks_fabric (λ r. by (far (far_crash within)) (ends refl))
-
-  pub host_goes : (l : Lender) (used word : ℕ) → W.far l → Goes (Move W) Rests (quiet d) (device.host d l used word)
-  host_goes l used word within = asks_fabric (λ r. by (far (far_host within)) (ends refl))

@@ -59,6 +59,9 @@ is_rest (seen.Wait v) = true
 is_rest (seen.Gave m r k) = true
 is_rest seen.GaveEnd = true
 is_rest (seen.GaveEnded m) = true
+is_rest seen.Cut = true
+is_rest seen.Crashed = true
+is_rest (seen.Hosted mean asked) = true
 is_rest _ = false
 
 -- what is seen of a link that is used, made or lost

@@ -9,6 +9,7 @@ use Rattle.swap_wire.specs.declared.Seen.{Seen}
 use Rattle.swap_wire.specs.declared.Seen.TheVariants as seen
 use Rattle.swap_wire.specs.declared.fabric.Gave.{Gave}
 use Rattle.swap_wire.specs.declared.fabric.Gave.TheVariants as gave
+use Rattle.swap_wire.specs.declared.fabric.Hosted.{Hosted}
 use Rattle.swap_disk.specs.Port.{LetFinish}
 use Rattle.swap_calls.specs.Calls.{state_of, is_idle}
 use Rattle.swap_table.specs.Ports.{Prog, Ret, AskDisk, answering}
@@ -67,6 +68,18 @@ see_gave gave.End = seen.GaveEnd
 see_gave (gave.Got msg reply evicted) = seen.Gave msg reply evicted
 see_gave (gave.Ended msg) = seen.GaveEnded msg
 
+abbrev pub see_cut : Bool → Seen
+see_cut true = seen.Cut
+see_cut false = seen.Nothing
+
+abbrev pub see_crash : Bool → Seen
+see_crash true = seen.Crashed
+see_crash false = seen.Nothing
+
+abbrev pub see_host : Option Hosted → Seen
+see_host None = seen.Nothing
+see_host (Some hosted) = seen.Hosted hosted.mean hosted.asked
+
 abbrev pub see_take : LinkStep → Seen
 see_take link.Nothing = seen.Nothing
 see_take (link.Got msg) = seen.Took msg
@@ -93,4 +106,7 @@ happens d page (event.Map slab l) = seen_by see_map (device.map d slab l)
 happens d page (event.Connect l) = seen_by see_link (device.connect d l)
 happens d page (event.Give l) = seen_by see_gave (device.give_to d l)
 happens d page (event.Take l) = seen_by see_take (device.link_take d l)
+happens d page (event.Cut l to_lender to_device) = seen_by see_cut (device.cut d l to_lender to_device)
+happens d page (event.Crash l) = seen_by see_crash (device.crash d l)
+happens d page (event.Host l used word) = seen_by see_host (device.host d l used word)
 happens d page _ = Ret (d, seen.Nothing)

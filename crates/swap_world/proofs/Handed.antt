@@ -356,6 +356,9 @@ event_none d page (event.Disk w ok) no_disk no_take = absurd (no_disk w ok refl)
 event_none d page (event.Map t l) no_disk no_take = none-answering _ (device.map d t l) (chosen (λ (x : Prog (Device × Bool)). TakesNone x) (device.may_map d t l) _ _ (λ _. (tt, λ r. tt)) (λ _. tt))
 event_none d page (event.Connect l) no_disk no_take = none-answering _ (device.connect d l) (chosen (λ (x : Prog (Device × Option Link)). TakesNone x) (nat_lt d.links_made MOST_LINKS) _ _ (λ _. (tt, λ r. (tt, λ q. tt))) (λ _. tt))
 event_none d page (event.Give l) no_disk no_take = (tt, λ r. tt)
+event_none d page (event.Cut l a b) no_disk no_take = (tt, λ r. tt)
+event_none d page (event.Crash l) no_disk no_take = (tt, λ r. tt)
+event_none d page (event.Host l used word) no_disk no_take = (tt, λ r. tt)
 event_none d page (event.Take l) no_disk no_take = absurd (no_take l refl)
 event_none d page e no_disk no_take = tt
 

@@ -301,6 +301,9 @@ module _ (s : Sizes) (n : ℕ) where
   hands_whole : (page : List ℕ) (e : Event) → IsPaged s e page → IsInRange s n e → Hands Below Whole page e
   hands_whole page (event.PageOut c p) paged range = paged
   hands_whole page (event.Give l) paged range = range
+  hands_whole page (event.Cut l a b) paged range = range
+  hands_whole page (event.Crash l) paged range = range
+  hands_whole page (event.Host l used word) paged range = range
   hands_whole page e paged range = tt
 
   -- what an event names and hands in, for its moves

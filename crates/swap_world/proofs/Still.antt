@@ -1,5 +1,7 @@
 -- Over the disk and the lenders in memory an event without an effect leaves the whole world as it was.
-use Rattle.std.proofs.Common.{◌≡◌, ℕ, Bool, true, false, cond, ◌&&◌, nat_lt, List, [], ◌∷◌, length, get_or, set, zero, suc, refl, ap, ◌∙◌, is_none, is_some, Option, None, Some}
+use Rattle.std.proofs.Common.{◌≡◌, ℕ, ◌≤◌, Bool, true, false, cond, ◌&&◌, not, nat_lt, List, [], ◌∷◌, length, get_or, set, zero, suc, refl, sym, ap, ◌∙◌, is_none, is_some, Option, None, Some}
+use Rattle.std.proofs.lemmas.Bool.{ltb-false}
+use Rattle.std.proofs.lemmas.List.{take_all}
 use Rattle.swap_base.specs.declared.Page.{Page}
 use Rattle.swap_base.specs.declared.Caller.{Caller}
 use Rattle.swap_base.specs.declared.Lender.{Lender}
@@ -24,7 +26,8 @@ use Rattle.swap_queue.specs.Queue.{Copy}
 use Rattle.swap_disk.specs.Disk.{Flight, Write, Read, Finished, which_of, page_of, in_flight, finish_flight}
 use Rattle.swap_disk.specs.Drive as drive
 use Rattle.swap_disk.specs.Drive.{Drive}
-use Rattle.swap_link.specs.Channel.{Channel, taken, taken_from, given, given_from, delivered, abandoned, reply_of}
+use Rattle.swap_link.specs.Channel.{Channel, taken, taken_from, given, given_from, severed, delivered, abandoned, reply_of}
+use Rattle.swap_link.specs.Lane.{Lane, cut, is_cut}
 use Rattle.swap_lender.specs.Table.{Turn, may_send, took as served}
 use Rattle.swap_link.specs.Harbor as harbor
 use Rattle.swap_link.specs.Harbor.{Harbor, channel_of, with_channel, no_channel}
@@ -45,7 +48,7 @@ use Rattle.swap_table.specs.declared.TheConstants.{MOST_LINKS}
 use Rattle.swap_table.specs.Ports.{Prog, Ret, AskDisk, AskFabric, answering, run}
 use Rattle.swap_table.specs.Device as device
 use Rattle.swap_table.specs.Device.{Device, accept, accepted_late, finish_by, route, routed_again, fault, start_front, start_copy, wrote, took, may_map, after_borrow, connect_on, without_link, took_from, understood, heard}
-use Rattle.swap_table.specs.Happens.{happens, seen_by, taken_if, see_out, see_in, see_step, see_start, see_disk, see_map, see_link, see_gave, see_take}
+use Rattle.swap_table.specs.Happens.{happens, seen_by, taken_if, see_out, see_in, see_step, see_start, see_disk, see_map, see_link, see_gave, see_cut, see_take}
 use Rattle.swap_table.specs.Fits.{IsExpected, IsCopyOf}
 use Rattle.swap_table.proofs.Agree.{found}
 use Rattle.swap_world.specs.Runs.{has_effect}
@@ -241,6 +244,51 @@ given_nothing e ch = by_gone ch.lender_gone
 give_still : (d : Device) (k : Drive) (h : Harbor) (page : List ℕ) (l : Lender) → Stills (event.Give l) d k h (runs (happens d page (event.Give l)) k h)
 give_still d k h page l = λ none. (refl, refl, harbor_same h l (given (channel_of h l)).1 (given_nothing (event.Give l) (channel_of h l) none))
 
+-- a lane that is cut already, and a channel of two
+cut_same : (l : Lane) (n : ℕ) → is_cut l n ≡ true → cut l n ≡ l
+cut_same l n = by_ended l.ended refl
+  where
+    both : {b : Bool} → b ≡ true → b ≡ false → ⊥
+    both a b = cc
+
+    short : (b : Bool) → nat_lt n (length l.parcels) ≡ b → cond b false true ≡ true → length l.parcels ≤ n
+    short true less is = cc
+    short false less is = ltb-false n (length l.parcels) less
+
+    by_ended : (b : Bool) → l.ended ≡ b → cond b (cond (nat_lt n (length l.parcels)) false true) false ≡ true → cut l n ≡ l
+    by_ended false is same = absurd (both same refl)
+    by_ended true is same =
+        ap (λ (ps : List Parcel). record l { parcels = ps; ended = true }) (take_all n l.parcels (short (nat_lt n (length l.parcels)) refl same))
+        ∙ ap (λ (x : Bool). record l { ended = x }) (sym is)
+
+severed_nothing : (ch : Channel) (a b : ℕ) → (severed ch a b).0 ≡ false → (severed ch a b).1 ≡ ch
+severed_nothing ch a b = by (is_cut ch.to_lender a) refl (is_cut ch.to_device b) refl
+  where
+    by : (x : Bool) → is_cut ch.to_lender a ≡ x → (y : Bool) → is_cut ch.to_device b ≡ y → not (x && y) ≡ false → (severed ch a b).1 ≡ ch
+    by true first true second none =
+        ap (λ (x : Lane). record ch { to_lender = x; to_device = cut ch.to_device b }) (cut_same ch.to_lender a first)
+        ∙ ap (λ (y : Lane). record ch { to_device = y }) (cut_same ch.to_device b second)
+    by true first false second none = cc
+    by false first y second none = cc
+
+cut_still : (d : Device) (k : Drive) (h : Harbor) (page : List ℕ) (l : Lender) (a b : ℕ)
+    → Stills (event.Cut l a b) d k h (runs (happens d page (event.Cut l a b)) k h)
+cut_still d k h page l a b = λ none.
+    let ch = channel_of h l in
+    (refl, refl, harbor_same h l (severed ch a b).1 (severed_nothing ch a b (unseen (severed ch a b).0 none)))
+  where
+    unseen : (x : Bool) → has_effect (event.Cut l a b) (see_cut x) ≡ false → x ≡ false
+    unseen true none = cc
+    unseen false none = refl
+
+-- a crash, and what a host uses, always have an effect
+crash_still : (d : Device) (k : Drive) (h : Harbor) (page : List ℕ) (l : Lender) → Stills (event.Crash l) d k h (runs (happens d page (event.Crash l)) k h)
+crash_still d k h page l = λ none. absurd (let no : true ≡ false = none in cc)
+
+host_still : (d : Device) (k : Drive) (h : Harbor) (page : List ℕ) (l : Lender) (used word : ℕ)
+    → Stills (event.Host l used word) d k h (runs (happens d page (event.Host l used word)) k h)
+host_still d k h page l used word = λ none. absurd (let no : true ≡ false = none in cc)
+
 taken_nothing : (ch : Channel) → (taken ch).0 ≡ NothingCame → (taken ch).1 ≡ ch
 taken_nothing ch = by_gone ch.device_gone
   where
@@ -283,6 +331,9 @@ still d k h page (event.Map t l) expected = map_still d k h page t l
 still d k h page (event.Connect l) expected = connect_still d k h page l
 still d k h page (event.Give l) expected = give_still d k h page l
 still d k h page (event.Take l) expected = take_still d k h page l
+still d k h page (event.Cut l a b) expected = cut_still d k h page l a b
+still d k h page (event.Crash l) expected = crash_still d k h page l
+still d k h page (event.Host l used word) expected = host_still d k h page l used word
 still d k h page e expected = λ none. (refl, refl, refl)
 
 pub nothing_changes : NothingChanges

@@ -121,13 +121,22 @@ gives = event.Give lender
 abbrev takes : Event
 takes = event.Take lender
 
+abbrev link : ℕ → Seen
+link n = seen.Linked (record { 0 = n })
+
+abbrev hello_given : Seen
+hello_given = seen.Gave (msg.Hello 1 8 4) None 0
+
+abbrev lent_given : Seen
+lent_given = seen.Gave (msg.Borrow slab) (Some (msg.Lent slab lease)) 0
+
 -- a page goes out to a lender and comes back from it
 abbrev mapping_events : List Input
 mapping_events = by (event.Connect lender) ∷ by (event.Map slab lender) ∷ by gives ∷ by gives ∷ by takes ∷ []
 
 abbrev mapping_seen : List Seen
 mapping_seen =
-    seen.Linked (record { 0 = 0 }) ∷ seen.Borrowing ∷ seen.Gave (msg.Hello 1 8 4) None 0 ∷ seen.Gave (msg.Borrow slab) (Some (msg.Lent slab lease)) 0 ∷ seen.Took (msg.Lent slab lease) ∷ []
+    link 0 ∷ seen.Borrowing ∷ hello_given ∷ lent_given ∷ seen.Took (msg.Lent slab lease) ∷ []
 
 abbrev pub PageInFromALender : Type 0
 PageInFromALender =
@@ -143,3 +152,46 @@ PageInFromALender =
     ∷ seen.Took (msg.PageIs lease 3)
     ∷ seen.Done (entry 1) None
     ∷ [])
+
+-- two lenders: of the second's link all but the greeting is cut away, and both links are made anew; the first, whose
+-- host uses 3 slots on average, asks for the rate of the slot that it lent, and then starts anew
+abbrev second : Lender
+second = record { 0 = 1 }
+
+abbrev cut_away : List Input
+cut_away =
+    map by (
+    event.Cut second 1 0 ∷ event.Crash second ∷ event.Connect lender ∷ event.Connect second ∷ event.Map slab second
+    ∷ event.Cut second 1 0 ∷ event.Cut second 1 0 ∷ event.Give second ∷ event.Give second ∷ event.Take second ∷ []
+    )
+
+abbrev made_anew : List Input
+made_anew =
+    map by (
+    event.Connect lender ∷ event.Map slab lender ∷ gives ∷ gives ∷ event.Host lender 15 0 ∷ event.Crash lender
+    ∷ event.Connect lender ∷ event.Map slab lender ∷ []
+    )
+
+abbrev pub LinksAreCutAndMadeAnew : Type 0
+LinksAreCutAndMadeAnew =
+    seen_of (seens (start (sizes 4) (lender_spec ∷ lender_spec ∷ [])) (cut_away ++ made_anew))
+    ≡ seen.Nothing ∷ seen.Crashed ∷ link 0 ∷ link 1 ∷ seen.Borrowing
+    ∷ seen.Cut ∷ seen.Nothing ∷ hello_given ∷ seen.GaveEnd ∷ seen.Lost
+    ∷ link 2 ∷ seen.Borrowing ∷ hello_given ∷ lent_given ∷ seen.Hosted 3 1 ∷ seen.Crashed
+    ∷ link 3 ∷ seen.Borrowing ∷ []
+
+-- the reply of a read that is cut away, and the read at the disk instead
+abbrev out_and_written : List Input
+out_and_written = mapping_events ++ (out 0 3 170 ∷ by gives ∷ by takes ∷ by event.Start ∷ disk_write 3 true ∷ [])
+
+abbrev seen_after_written : List Input → List Seen
+seen_after_written more = seen_of (seens (reach (start (sizes 4) (lender_spec ∷ [])) out_and_written) more)
+
+abbrev pub LossOfTheReplySendsTheReadToTheDisk : Type 0
+LossOfTheReplySendsTheReadToTheDisk =
+    seen_after_written (
+    by (event.PageIn (caller 0) (page 3)) ∷ by gives ∷ by (event.Cut lender 0 0) ∷ by takes
+    ∷ by (event.Finish (caller 0)) ∷ disk_read 0 true ∷ by (event.Finish (caller 0)) ∷ []
+    )
+    ≡ seen.Wait (via.Lender lender) ∷ seen.Gave (msg.Read lease 3) (Some (msg.PageIs lease 3)) 0 ∷ seen.Cut ∷ seen.Lost
+    ∷ seen.Again via.Disk ∷ seen.ReadCame (page 3) ∷ seen.Done (entry 1) None ∷ []

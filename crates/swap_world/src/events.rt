@@ -7,7 +7,8 @@ ghost use Rattle.swap_wire.specs.Input.{IsInRange};
 ghost use Rattle.swap_world.specs.Runs.{HasSpare, GivesPage, Steps};
 
 use crate::world::{
-    see_disk, see_gave, see_in, see_link, see_map, see_out, see_start, see_step, see_take,
+    see_crash, see_cut, see_disk, see_gave, see_host, see_in, see_link, see_map, see_out,
+    see_start, see_step, see_take,
 };
 use swap_base::{Caller, DiskWhich, Lender, Page};
 use swap_calls::CallState;
@@ -106,6 +107,40 @@ fn give_event<D: DiskPort, F: Fabric>(device: &mut DeviceCore<D, F>, lender: Len
     see_gave(device.give(lender))
 }
 
+fn cut_event<D: DiskPort, F: Fabric>(
+    device: &mut DeviceCore<D, F>,
+    lender: Lender,
+    to_lender: u32,
+    to_device: u32,
+) -> Seen
+    requires { lender.0 < device.old.device.lenders }
+    ensures step { Went D.moves F.moves (λ d. happens d [] (Event.Cut lender to_lender to_device)) device.old device.new result }
+    ensures room { KeepsRoom device.old device.new }
+{
+    see_cut(device.cut(lender, to_lender, to_device))
+}
+
+fn crash_event<D: DiskPort, F: Fabric>(device: &mut DeviceCore<D, F>, lender: Lender) -> Seen
+    requires { lender.0 < device.old.device.lenders }
+    ensures step { Went D.moves F.moves (λ d. happens d [] (Event.Crash lender)) device.old device.new result }
+    ensures room { KeepsRoom device.old device.new }
+{
+    see_crash(device.crash(lender))
+}
+
+fn host_event<D: DiskPort, F: Fabric>(
+    device: &mut DeviceCore<D, F>,
+    lender: Lender,
+    used: u32,
+    word: u64,
+) -> Seen
+    requires { lender.0 < device.old.device.lenders }
+    ensures step { Went D.moves F.moves (λ d. happens d [] (Event.Host lender used word)) device.old device.new result }
+    ensures room { KeepsRoom device.old device.new }
+{
+    see_host(device.host(lender, used, word))
+}
+
 /// What an event does to a device over its ports.
 pub fn happen<D: DiskPort, F: Fabric>(
     device: &mut DeviceCore<D, F>,
@@ -131,6 +166,13 @@ pub fn happen<D: DiskPort, F: Fabric>(
         Event::Connect { lender } => see_link(device.connect(lender)),
         Event::Give { lender } => give_event(device, lender),
         Event::Take { lender } => see_take(device.link_take(lender)),
-        _ => Seen::Nothing,
+        Event::Cut {
+            lender,
+            to_lender,
+            to_device,
+        } => cut_event(device, lender, to_lender, to_device),
+        Event::Crash { lender } => crash_event(device, lender),
+        Event::Host { lender, used, word } => host_event(device, lender, used, word),
+        Event::Tick { .. } | Event::Round { .. } => Seen::Nothing,
     }
 }

@@ -3,7 +3,7 @@
 
 ghost use Rattle.swap_world.specs.Laws.{AgreesAfterEach, AlwaysAgrees, AlwaysLegal, EachCallOnce, EntriesAreSeen, HistoriesGoOn, HoldsAfterEach, NothingChanges, StepsAreNext};
 ghost use Rattle.swap_world.specs.Since.{AgainHasCause, GivesWhatWasHanded};
-ghost use Rattle.swap_world.specs.Rows.{PageOutWithoutRoomFailsWhereAWriteFailed, ReadOvertakenByAPageOutAlreadyOnTheDisk, FailedDiskReadFailsThePageIn, FailedDiskReadWithANewerPageOut, AnotherCallersReadFails, PageInFromALender};
+ghost use Rattle.swap_world.specs.Rows.{PageOutWithoutRoomFailsWhereAWriteFailed, ReadOvertakenByAPageOutAlreadyOnTheDisk, FailedDiskReadFailsThePageIn, FailedDiskReadWithANewerPageOut, AnotherCallersReadFails, PageInFromALender, LinksAreCutAndMadeAnew, LossOfTheReplySendsTheReadToTheDisk};
 
 mod events;
 mod world;
@@ -92,4 +92,6 @@ pub fn rows()
     ensures newer { FailedDiskReadWithANewerPageOut }
     ensures anothers { AnotherCallersReadFails }
     ensures from_lender { PageInFromALender }
+    ensures anew { LinksAreCutAndMadeAnew }
+    ensures reply_lost { LossOfTheReplySendsTheReadToTheDisk }
 {}

@@ -3,7 +3,7 @@ ghost use Rattle.swap_base.specs.declared.Caller.{Caller};
 ghost use Rattle.swap_wire.specs.Input.{IsInRange};
 ghost use Rattle.swap_calls.specs.Calls.{state_of, is_idle};
 ghost use Rattle.swap_table.specs.Device.{of_device, new};
-ghost use Rattle.swap_table.specs.Happens.{see_out, see_in, see_step, see_start, see_disk, see_map, see_link, see_gave, see_take};
+ghost use Rattle.swap_table.specs.Happens.{see_out, see_in, see_step, see_start, see_disk, see_map, see_link, see_gave, see_cut, see_crash, see_host, see_take};
 ghost use Rattle.swap_table.specs.Fits.{IsBlank};
 ghost use Rattle.swap_device.specs.State.{KeepsRoom};
 ghost use Rattle.swap_slabs.specs.declared.TheConstants.{MOST_LENDERS};
@@ -18,7 +18,7 @@ use swap_disk::DiskPort;
 use swap_record::ReserveRefused;
 use swap_slabs::MOST_LENDERS;
 use swap_table::{DiskStep, InStep, LinkStep, OutStep, Step, ports_promise};
-use swap_wire::{Event, Fabric, Gave, Seen};
+use swap_wire::{Event, Fabric, Gave, Hosted, Seen};
 
 /// The machine: a device over its disk and its lenders' links, with the log of its events.
 #[derive(Drop)]
@@ -312,6 +312,34 @@ pub(crate) fn see_gave(gave: Gave) -> Seen
             evicted,
         },
         Gave::Ended { msg } => Seen::GaveEnded { msg },
+    }
+}
+
+// What is seen of a link that is to be cut.
+pub(crate) fn see_cut(cut: bool) -> Seen
+    ensures { result ≡ see_cut cut }
+{
+    if cut { Seen::Cut } else { Seen::Nothing }
+}
+
+// What is seen of a lender that is to start anew.
+pub(crate) fn see_crash(crashed: bool) -> Seen
+    ensures { result ≡ see_crash crashed }
+{
+    if crashed {
+        Seen::Crashed
+    } else {
+        Seen::Nothing
+    }
+}
+
+// What is seen of what a lender's host uses.
+pub(crate) fn see_host(hosted: Option<Hosted>) -> Seen
+    ensures { result ≡ see_host hosted }
+{
+    match hosted {
+        None => Seen::Nothing,
+        Some(Hosted { mean, asked }) => Seen::Hosted { mean, asked },
     }
 }
 
