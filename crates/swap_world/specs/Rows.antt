@@ -160,13 +160,17 @@ second = record { 0 = 1 }
 
 abbrev cut_away : List Input
 cut_away =
-    by (event.Cut second 1 0) ∷ by (event.Crash second) ∷ by (event.Connect lender) ∷ by (event.Connect second) ∷ by (event.Map slab second)
-    ∷ by (event.Cut second 1 0) ∷ by (event.Cut second 1 0) ∷ by (event.Give second) ∷ by (event.Give second) ∷ by (event.Take second) ∷ []
+    map by (
+    event.Cut second 1 0 ∷ event.Crash second ∷ event.Connect lender ∷ event.Connect second ∷ event.Map slab second
+    ∷ event.Cut second 1 0 ∷ event.Cut second 1 0 ∷ event.Give second ∷ event.Give second ∷ event.Take second ∷ []
+    )
 
 abbrev made_anew : List Input
 made_anew =
-    by (event.Connect lender) ∷ by (event.Map slab lender) ∷ by gives ∷ by gives ∷ by (event.Host lender 15 0) ∷ by (event.Crash lender)
-    ∷ by (event.Connect lender) ∷ by (event.Map slab lender) ∷ []
+    map by (
+    event.Connect lender ∷ event.Map slab lender ∷ gives ∷ gives ∷ event.Host lender 15 0 ∷ event.Crash lender
+    ∷ event.Connect lender ∷ event.Map slab lender ∷ []
+    )
 
 abbrev pub LinksAreCutAndMadeAnew : Type 0
 LinksAreCutAndMadeAnew =
@@ -186,6 +190,8 @@ seen_after_written more = seen_of (seens (reach (start (sizes 4) (lender_spec �
 abbrev pub LossOfTheReplySendsTheReadToTheDisk : Type 0
 LossOfTheReplySendsTheReadToTheDisk =
     seen_after_written (
-    by (event.PageIn (caller 0) (page 3)) ∷ by gives ∷ by (event.Cut lender 0 0) ∷ by takes ∷ by (event.Finish (caller 0)) ∷ disk_read 0 true ∷ by (event.Finish (caller 0)) ∷ []
+    by (event.PageIn (caller 0) (page 3)) ∷ by gives ∷ by (event.Cut lender 0 0) ∷ by takes
+    ∷ by (event.Finish (caller 0)) ∷ disk_read 0 true ∷ by (event.Finish (caller 0)) ∷ []
     )
-    ≡ seen.Wait (via.Lender lender) ∷ seen.Gave (msg.Read lease 3) (Some (msg.PageIs lease 3)) 0 ∷ seen.Cut ∷ seen.Lost ∷ seen.Again via.Disk ∷ seen.ReadCame (page 3) ∷ seen.Done (entry 1) None ∷ []
+    ≡ seen.Wait (via.Lender lender) ∷ seen.Gave (msg.Read lease 3) (Some (msg.PageIs lease 3)) 0 ∷ seen.Cut ∷ seen.Lost
+    ∷ seen.Again via.Disk ∷ seen.ReadCame (page 3) ∷ seen.Done (entry 1) None ∷ []
