@@ -167,8 +167,7 @@ LenderFaultRows =
     × Refuses (text (G ∷ L ∷ codes "connect 0" ∷ codes "connect 1" ∷ [])) 4 why.Lender
     × Refuses (text (G ∷ L ∷ L ∷ codes "cut 1 0 0" ∷ codes "cut 2 0 0" ∷ [])) 5 why.Lender
     × Refuses (text (G ∷ L ∷ codes "crash 1" ∷ [])) 3 why.Lender
-    × Refuses (text (G ∷ L ∷ codes "tick 0" ∷ [])) 3 why.Form
-    × Refuses (text (G ∷ L ∷ codes "host 0 1 2" ∷ [])) 3 why.Form
+    × Refuses (text (G ∷ L ∷ codes "host 1 1 2" ∷ [])) 3 why.Lender
     × Refuses (text (G ∷ L ∷ codes "round 0" ∷ [])) 3 why.Form
 
 -- forms of an operator's events, and those of a number that is too wide

@@ -106,8 +106,8 @@ fn the_first_fault_is_named_with_its_line(rt: HostRuntime) {
             Why::Lender,
         ),
         (
-            "geometry 8 4 2 4 2 4 20\nlender 4 1 1\ncrash 0\nhost 0 1 2",
-            4,
+            "geometry 8 4 2 4 2 4 20\nlender 4 1 1\ntick 5\nhost 0 1 2\nround 1",
+            5,
             Why::Form,
         ),
         ("geometry 8 4 2 4 2 4 20\nout 2 8 aabbcc", 2, Why::Caller),

@@ -4,12 +4,9 @@ ghost use Rattle.swap_script.specs.Reading.{runs_today};
 
 use swap_wire::Event;
 
-/// Whether the machine runs an event: no tick, host or round.
+/// Whether the machine runs an event: no round.
 pub fn runs_today(event: Event) -> bool
     ensures { result ≡ runs_today event }
 {
-    !matches!(
-        event,
-        Event::Tick { .. } | Event::Host { .. } | Event::Round { .. }
-    )
+    !matches!(event, Event::Round { .. })
 }

@@ -22,7 +22,7 @@ returns-clause-faults c = (refl, refl, refl, refl, refl, refl, refl, refl, refl,
 
 pub returns-clause-lender_faults : goal.returns-clause-lender_faults
 unfolding digits
-returns-clause-lender_faults c = (refl, refl, refl, refl, refl, refl, refl, refl, refl, refl, refl, refl, refl, refl, refl, refl, refl, refl)
+returns-clause-lender_faults c = (refl, refl, refl, refl, refl, refl, refl, refl, refl, refl, refl, refl, refl, refl, refl, refl, refl)
 
 pub returns-clause-forms : goal.returns-clause-forms
 unfolding digits
