@@ -13,8 +13,6 @@ use Rattle.swap_slabs.specs.declared.SlabState.TheVariants.{Mapped}
 use Rattle.swap_slabs.specs.declared.TheConstants.{MOST_FLYING}
 use Rattle.swap_rings.specs.Rings.{ring_of}
 use Rattle.swap_remote.specs.Remote.{Remote, slab_for, target, changed}
-use Rattle.swap_wire.specs.Fabric.{FabricOf}
-use Rattle.swap_table.specs.Device.{Device, of_device}
 use Rattle.swap_table.specs.Serves.{Keeping, Owing, is_for_slab, flying_for, SlabFits, Serves}
 use Rattle.swap_table.proofs.Sends.{slab_within}
 use Rattle.swap_table.proofs.Waits.{Target, target_is}
@@ -44,7 +42,3 @@ may_go keeps owes s n H cs r p (Some at) k within page is = target_goes keeps ow
 pub still_goes : (s : Sizes) (n : ℕ) (r : Remote) (p q : Page) (at : Option (Lender × Lease)) → MayGoTo s r n p at → MayGoTo s (changed r q) n p at
 still_goes s n r p q None h = tt
 still_goes s n r p q (Some at) h = (record { few = h.0.few; mapped = h.0.mapped; flying = h.0.flying; room = h.0.room }, h.1)
-
--- and the fabric is of the device
-pub goes_of : (s : Sizes) (d : Device) (r : Remote) (p : Page) (at : Option (Lender × Lease)) (o : FabricOf) → o ≡ of_device d → MayGoTo s r d.lenders p at → MayGoTo s r o.lenders p at
-goes_of s d r p at o is h = subst (λ (x : FabricOf). MayGoTo s r x.lenders p at) (sym is) h

@@ -2,4 +2,8 @@ pub mod Goes
 pub mod Free
 pub mod Started
 pub mod Served
+pub mod Ready
+pub mod Falls
+pub mod Heard
+pub mod Programs
 pub mod Held

@@ -1,7 +1,8 @@
 -- What the tables of a device keep: each knows the device's sizes, and the newest entry of each page is the
--- history's last page-out of it.
-use Rattle.std.specs.Prelude.{◌≡◌, ℕ, ◌+◌, ◌<◌, List, [], ◌∷◌, length, is_some, slice_index_or, IsSome, Bool, true, false, Option, None, Some}
+-- history's last page-out of it. And what the steps of its calls need and leave.
+use Rattle.std.specs.Prelude.{◌≡◌, ℕ, zero, suc, ◌+◌, ◌<◌, ◌≤◌, List, [], ◌∷◌, length, is_some, slice_index_or, IsSome, true, false, if◌then◌else◌, option_map, Option, None, Some}
 use Rattle.swap_base.specs.declared.Page.{Page}
+use Rattle.swap_base.specs.declared.Caller.{Caller}
 use Rattle.swap_base.specs.declared.EntryNo.{EntryNo}
 use Rattle.swap_base.specs.Sizes.{Sizes, pages_of}
 use Rattle.swap_record.specs.Book.{Book}
@@ -13,7 +14,7 @@ use Rattle.swap_queue.specs.Queue.{Queue, flying}
 use Rattle.swap_base.specs.declared.DiskWhich.{DiskWhich}
 use Rattle.swap_base.specs.declared.DiskWhich.TheVariants as which
 use Rattle.swap_base.specs.declared.Via.{Via}
-use Rattle.swap_calls.specs.Calls.{CallTable, state_of, is_waiting}
+use Rattle.swap_calls.specs.Calls.{CallTable, state_of, is_waiting, may_read}
 use Rattle.swap_calls.specs.declared.Arrived.TheVariants as arrived
 use Rattle.swap_calls.specs.declared.CallState.{CallState}
 use Rattle.swap_calls.specs.declared.CallState.TheVariants.{Reading}
@@ -22,23 +23,27 @@ use Rattle.swap_table.specs.declared.InStep.{InStep}
 use Rattle.swap_table.specs.declared.InStep.TheVariants as ins
 use Rattle.swap_table.specs.declared.Step.{Step}
 use Rattle.swap_table.specs.declared.Step.TheVariants as steps
-use Rattle.swap_table.specs.Device.{Device, Core, borrow_reply, write_reply, read_reply, borrow_answered, write_answered, read_answered}
-use Rattle.swap_wire.specs.Fabric.{FabricCall, FabricAnswer}
+use Rattle.swap_table.specs.Device.{Device, Core, of_device, lost, lose_with, give_up_one, Heard, query_reply, borrow_reply, write_reply, read_reply, rate_asked, taken_back, query_answered, borrow_answered, write_answered, read_answered, rate_told, evicted}
+use Rattle.swap_wire.specs.Fabric.{Parcel, carries_page, parcel_of, FabricCall, FabricAnswer}
+use Rattle.swap_base.specs.declared.Slab.{Slab}
 use Rattle.swap_base.specs.declared.Lender.{Lender}
 use Rattle.swap_base.specs.declared.Lease.{Lease}
 use Rattle.swap_slabs.specs.Slabs.{is_mapped, flying_of}
 use Rattle.swap_slabs.specs.declared.TheConstants.{MOST_LENDERS, MOST_FLYING}
 use Rattle.swap_slabs.specs.Slabs as slabs
-use Rattle.swap_slabs.specs.declared.SlabState.TheVariants.{Borrowing}
+use Rattle.swap_slabs.specs.declared.SlabState.{SlabState}
+use Rattle.swap_slabs.specs.declared.SlabState.TheVariants.{Asking, Borrowing}
+use Rattle.swap_activity.specs.Rates.{Activity}
 use Rattle.swap_wire.specs.declared.Msg.{Msg}
 use Rattle.swap_rings.specs.declared.Request.{Request}
 use Rattle.swap_rings.specs.declared.Request.TheVariants as request
-use Rattle.swap_rings.specs.Rings.{ring_of}
-use Rattle.swap_remote.specs.Remote.{Table, Remote, state_for}
-use Rattle.swap_table.specs.Ports.{Prog, Along}
+use Rattle.swap_rings.specs.Rings.{is_up, ring_of}
+use Rattle.swap_remote.specs.Remote.{Table, Remote, state_for, mapped_by}
+use Rattle.swap_table.specs.Ports.{Prog, Ret, Along}
 use Rattle.swap_table.specs.Laws.{AgreeWith}
 use Rattle.swap_disk.specs.declared.port.DiskPort.{Ghosts as DiskMeaning}
 use Rattle.swap_wire.specs.declared.fabric.Fabric.{Ghosts as FabricMeaning}
+use Rattle.swap_device.specs.declared.links.Answer.{Answer}
 
 -- a device without its ports, and the entries that its history has room for
 pub record Standing : Type 0 where
@@ -49,7 +54,7 @@ pub record Standing : Type 0 where
 abbrev pub IsNewest : ℕ → List (Option EntryNo) → History → Type 0
 IsNewest pages newest H = (p : Page) → p.0 < pages → slice_index_or newest p.0 None ≡ last H p
 
-pub record AreTables (s : Sizes) (book : Book) (queue : Backlog) (calls : CallTable) (newest : List (Option EntryNo)) (remote : Table) : Type 0 where
+pub record AreTables (s : Sizes) (book : Book) (queue : Backlog) (calls : CallTable) (newest : List (Option EntryNo)) (remote : Table) (rates : List Activity) : Type 0 where
   pub remote_sizes : remote.sizes ≡ s
   pub record_page : book.page_bytes ≡ s.page_bytes
   pub queue_sizes : queue.sizes ≡ s
@@ -57,6 +62,7 @@ pub record AreTables (s : Sizes) (book : Book) (queue : Backlog) (calls : CallTa
   pub calls_len : length calls.calls ≡ s.callers
   pub newest_len : length newest ≡ pages_of s
   pub newest_is : IsNewest (pages_of s) newest book.history
+  pub rates_len : length rates ≡ s.slabs
 
 -- a device, its disk and its fabric agree, and the fabric is of the device
 abbrev pub Agree : {D F : Type 0} → DiskMeaning D → FabricMeaning F → Core D F → Type 0
@@ -70,6 +76,44 @@ pub record IsDevice {D F : Type 0} (disk : DiskMeaning D) (fabric : FabricMeanin
 -- a call went along its program: disk and fabric did what it asked, and the device is what it gave, with its answer
 abbrev pub Went : {D F R : Type 0} → (D → (c : DiskCall) → DiskAnswer c → D → Type 0) → (F → (c : FabricCall) → FabricAnswer c → F → Type 0) → (Device → Prog (Device × R)) → Core D F → Core D F → R → Type 0
 Went disk_moves moves program before now answer = Along disk_moves moves (program before.device) before.disk before.fabric now.disk now.fabric (now.device, answer)
+
+-- so one whose program gives the device alone
+abbrev pub Became : {D F : Type 0} → (D → (c : DiskCall) → DiskAnswer c → D → Type 0) → (F → (c : FabricCall) → FabricAnswer c → F → Type 0) → (Device → Prog Device) → Core D F → Core D F → Type 0
+Became disk_moves moves program before now = Along disk_moves moves (program before.device) before.disk before.fabric now.disk now.fabric now.device
+
+-- the fabric is of the device, and each link that is up leads to one of its lenders
+pub record IsReady {D F : Type 0} (fabric : FabricMeaning F) (core : Core D F) : Type 0 where
+  pub of : fabric.of core.fabric ≡ of_device core.device
+  pub few : core.device.lenders ≤ MOST_LENDERS
+  pub lead : (l : Lender) → is_up core.device.remote.links l ≡ true → l.0 < core.device.lenders
+
+-- what a loss leaves as it was; a caller that may read may still
+pub record LeavesRest {D F : Type 0} (before now : Core D F) : Type 0 where
+  pub of : of_device now.device ≡ of_device before.device
+  pub history : now.device.history ≡ before.device.history
+  pub links_made : now.device.links_made ≡ before.device.links_made
+  pub disk : now.disk ≡ before.disk
+  pub spare : now.spare ≡ before.spare
+  pub reads : (c : Caller) → may_read (state_of before.device.calls c) ≡ true → may_read (state_of now.device.calls c) ≡ true
+
+-- a link is lost, of so many at most; after the last one no choice is looked at
+abbrev pub fallen : ℕ → Device → Lender → Prog Device
+fallen zero d l = Ret (lost d l)
+fallen (suc more) d l = lose_with more d l
+
+-- a slab that waits for a lender which is gone waits no more
+abbrev pub given_up : (Device → Lender → Prog Device) → Device → Lender → Slab → Prog Device
+given_up down d l slab = if slabs.asks l (slabs.state_of d.remote.slabs slab) then give_up_one down d l slab else Ret d
+
+-- a slab and a lender there are
+abbrev pub MayBorrow : Sizes → Option (Slab × Lender) → Type 0
+MayBorrow s None = Unit {0}
+MayBorrow s (Some at) = (at.0.0 < s.slabs) × (at.1.0 < MOST_LENDERS)
+
+-- a second lender is asked beside another one that was asked alone
+abbrev pub IsAskedAlone : Option Lender → Lender → SlabState → Type 0
+IsAskedAlone None lender state = Unit {0}
+IsAskedAlone (Some first) lender state = (state ≡ Asking (slabs.pair_of first None)) × (lender.0 ≡ first.0 → ⊥)
 
 -- an answered page-in gives the bytes that its entry keeps; else the buffer is as it was
 abbrev pub GivesBytes : Op → List ℕ → List ℕ → List ℕ → Type 0
@@ -135,10 +179,26 @@ abbrev pub MayGoTo : Sizes → Remote → ℕ → Page → Option (Lender × Lea
 MayGoTo s r lenders page None = Unit {0}
 MayGoTo s r lenders page (Some at) = MayGo s r page at.0 × (at.0.0 < lenders)
 
+-- what is said without a page
+abbrev pub said : Option Msg → Option Parcel
+said word = option_map (λ m. parcel_of m []) word
+
+-- what a message makes of the device, with what follows
+abbrev pub heard_with : Device → Answer → Heard
+heard_with now answer = record { device = now; word = said answer.word; choice = answer.choice }
+
 -- what a message does: it is heard, or nothing changes
-abbrev pub IsHeard : Option Device → Device → Device → Bool → Type 0
-IsHeard None before now heard = (heard ≡ false) × (now ≡ before)
-IsHeard (Some after) before now heard = (heard ≡ true) × (now ≡ after)
+abbrev pub IsHeard : Option Heard → Device → Device → Option Answer → Type 0
+IsHeard heard before now answer = (heard ≡ option_map (heard_with now) answer) × (answer ≡ None → now ≡ before)
+
+-- a word carries no page, and what is borrowed can be
+abbrev pub IsPlain : Option Msg → Type 0
+IsPlain None = Unit {0}
+IsPlain (Some m) = carries_page m ≡ false
+
+abbrev pub MayFollow : Sizes → Option Answer → Type 0
+MayFollow s None = Unit {0}
+MayFollow s (Some answer) = IsPlain answer.word × MayBorrow s answer.choice
 
 -- a read was started
 abbrev pub Waits : InStep → Type 0
@@ -148,16 +208,24 @@ Waits (ins.Wait via) = Unit {0}
 -- a request that is answered: a slab is borrowed from this lender, a write or a read is under way, and a caller waits
 abbrev pub IsServed : Device → Lender → Option Request → Type 0
 IsServed d lender None = Unit {0}
-IsServed d lender (Some (request.Query slab)) = Unit {0}
+IsServed d lender (Some (request.Query slab)) = (slab.0 < d.sizes.slabs) × (slabs.asks lender (slabs.state_of d.remote.slabs slab) ≡ true)
 IsServed d lender (Some (request.Borrow slab)) = (slab.0 < d.sizes.slabs) × (slabs.state_of d.remote.slabs slab ≡ Borrowing lender)
 IsServed d lender (Some (request.Write page entry)) = (page.0 < pages_of d.sizes) × (0 < flying_of (state_for d.sizes d.remote.slabs page))
 IsServed d lender (Some (request.Read caller page)) =
     (caller.0 < d.sizes.callers) × (page.0 < pages_of d.sizes) × (0 < flying_of (state_for d.sizes d.remote.slabs page)) × (is_waiting (state_of d.calls caller) ≡ true)
 
 -- what is heard of a message whose page stands in a buffer
-abbrev pub heard_of : Device → Lender → Msg → List ℕ → Option Request → Option Device
-heard_of d lender m bytes None = None
-heard_of d lender m bytes (Some (request.Query slab)) = None
-heard_of d lender m bytes (Some (request.Borrow slab)) = borrow_answered d lender slab (borrow_reply m)
-heard_of d lender m bytes (Some (request.Write page entry)) = write_answered d lender page entry (write_reply m)
-heard_of d lender m bytes (Some (request.Read caller page)) = read_answered d lender caller page bytes (read_reply m)
+abbrev pub answered_of : Device → Lender → Msg → List ℕ → Option Request → Option Heard
+answered_of d lender m bytes None = None
+answered_of d lender m bytes (Some (request.Query slab)) = query_answered d lender slab (query_reply m)
+answered_of d lender m bytes (Some (request.Borrow slab)) = borrow_answered d lender slab (borrow_reply m)
+answered_of d lender m bytes (Some (request.Write page entry)) = write_answered d lender page entry (write_reply m)
+answered_of d lender m bytes (Some (request.Read caller page)) = read_answered d lender caller page bytes (read_reply m)
+
+abbrev pub heard_by_of : Device → Lender → Msg → List ℕ → Option Request → Option Lease → Option Lease → Option Heard
+heard_by_of d lender m bytes oldest (Some lease) back = rate_told d lease (mapped_by d.remote.slabs lender lease)
+heard_by_of d lender m bytes oldest None (Some lease) = evicted d (mapped_by d.remote.slabs lender lease)
+heard_by_of d lender m bytes oldest None None = answered_of d lender m bytes oldest
+
+abbrev pub heard_of : Device → Lender → Msg → List ℕ → Option Request → Option Heard
+heard_of d lender m bytes oldest = heard_by_of d lender m bytes oldest (rate_asked m) (taken_back m)

@@ -8,7 +8,7 @@ ghost use Rattle.swap_calls.specs.Calls.{state_of, is_idle};
 ghost use Rattle.swap_slabs.specs.Slabs as slabs;
 ghost use Rattle.swap_slabs.specs.declared.TheConstants.{MOST_LENDERS};
 ghost use Rattle.swap_rings.specs.Rings as rings;
-ghost use Rattle.swap_table.specs.Device.{new, out, read, finish, disk_start, disk_take, took, link_take, map, connect};
+ghost use Rattle.swap_table.specs.Device.{new, out, read, finish, disk_start, disk_take, took, link_take, tick, map, connect};
 ghost use Rattle.swap_table.specs.Fits.{IsBlank};
 ghost use Rattle.swap_device.specs.State.{Agree, Went, KeepsRoom, GivesIn, GivesStep, WritesBack, ReadsBack};
 
@@ -22,7 +22,7 @@ use swap_disk::{DiskDone, DiskPort};
 use swap_queue::Failed;
 use swap_record::{Record, ReserveRefused};
 use swap_slabs::MOST_LENDERS;
-use swap_table::{DiskStep, InStep, LinkStep, OutStep, Step, calls_keep, ports_promise};
+use swap_table::{DiskStep, InStep, LinkStep, OutStep, Placed, Step, calls_keep, ports_promise};
 use swap_wire::{Fabric, Gave, Hosted};
 
 /// A paging device over its disk and its lenders' links.
@@ -44,7 +44,7 @@ impl<D: DiskPort, F: Fabric> Model for DeviceCore<D, F> {
 }
 
 impl<D: DiskPort, F: Fabric> DeviceCore<D, F> {
-    /// A page-out's first step. It answers `Room` exactly where the queue has no room for the page. `Done` names the
+    /// A page-out's first step; its slab is hit. It answers `Room` exactly where the queue has no room for the page. `Done` names the
     /// lender that the page was sent to.
     pub fn out(&mut self, caller: Caller, page: Page, bytes: &[u8]) -> OutStep
         requires caller { caller.0 < self.old.device.sizes.callers }
@@ -72,7 +72,7 @@ impl<D: DiskPort, F: Fabric> DeviceCore<D, F> {
         self.machine.out(caller, page, bytes)
     }
 
-    /// A page-in's first step. It answers `Wait` exactly where it started a read: where the page has a newest entry and
+    /// A page-in's first step; its slab is hit. It answers `Wait` exactly where it started a read: where the page has a newest entry and
     /// the queue has no copy of it. The read goes to the lender that has the page, where its link takes one more
     /// request, and else to the disk. After `Done` the buffer holds the page.
     pub fn read(&mut self, caller: Caller, page: Page, buf: &mut [u8]) -> InStep
@@ -86,7 +86,7 @@ impl<D: DiskPort, F: Fabric> DeviceCore<D, F> {
         ensures gives { GivesIn result self.new.device.history buf.old buf.new }
     {
         calls_keep::<D, F>();
-        self.machine.route(caller, page, buf)
+        self.machine.read(caller, page, buf)
     }
 
     /// A later step of a call. A page-out that waits answers `Room` exactly where the queue still has no room and no
@@ -140,8 +140,9 @@ impl<D: DiskPort, F: Fabric> DeviceCore<D, F> {
     }
 
     /// Takes a message from a lender's link. `Nothing` comes exactly where the link is down or the fabric gave nothing,
-    /// `Lost` where the fabric said that the link is lost, and `Lied` exactly where the message answers no request of
-    /// the device's; the link is then ended.
+    /// `Lost` where the fabric said that the link is lost, and `Lied` exactly where the message is none that the device
+    /// allows: it neither answers the oldest request of the link, nor asks for the rate of a slab that is mapped there,
+    /// nor takes such a slab back. The link is then ended.
     pub fn link_take(&mut self, lender: Lender) -> LinkStep
         requires { lender.0 < self.old.device.lenders }
         ensures moved { Went D.moves F.moves (λ d. link_take d lender) self.old self.new result }
@@ -149,6 +150,16 @@ impl<D: DiskPort, F: Fabric> DeviceCore<D, F> {
     {
         calls_keep::<D, F>();
         self.machine.link_take(lender, &mut self.page)
+    }
+
+    /// Each slab's period ends, and the hottest local slab is asked for, of two lenders whose link is up that the word
+    /// picks. None exactly where nobody was asked.
+    pub fn tick(&mut self, word: u64) -> Option<Placed>
+        ensures moved { Went D.moves F.moves (λ d. tick d word) self.old self.new result }
+        ensures room { KeepsRoom self.old self.new }
+    {
+        calls_keep::<D, F>();
+        self.machine.tick(word)
     }
 
     /// Asks a lender to lend a slab. False exactly where the slab isn't local or the link takes no request now; then

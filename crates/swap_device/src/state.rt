@@ -12,8 +12,12 @@ ghost use Rattle.swap_slabs.specs.declared.TheConstants.{MOST_LENDERS, MOST_FLYI
 ghost use Rattle.swap_rings.specs.Rings as rings;
 ghost use Rattle.swap_remote.specs.Remote as remote;
 ghost use Rattle.swap_slabs.specs.declared.SlabState.TheVariants as SlabState;
-ghost use Rattle.swap_device.specs.State.{MayGo};
-ghost use Rattle.swap_table.specs.Device.{new, enter, give, fault, wait_for_room, wait_for_disk, lost, write_sent, read_sent, source, may_map, is_newest, raised};
+ghost use Rattle.swap_slabs.specs.declared.Reply.TheVariants as Reply;
+ghost use Rattle.swap_rates.specs.Table as rates;
+ghost use Rattle.swap_choice.specs.Asked as choice;
+ghost use Rattle.swap_remote.specs.Kept.{AreAsked, MayAsk};
+ghost use Rattle.swap_device.specs.State.{MayGo, MayBorrow};
+ghost use Rattle.swap_table.specs.Device.{new, enter, give, fault, wait_for_room, wait_for_disk, hit, periods_ended, lost, write_sent, read_sent, source, may_map, may_ask, chosen_for, is_newest, raised};
 
 use std::alloc::Global;
 use std::marker::Model;
@@ -21,11 +25,13 @@ use swap_base::{
     CallKind, Caller, EntryNo, Geometry, Lease, Lender, NoMemory, Origin, Page, Slab, Via,
 };
 use swap_calls::{CallState, Calls};
+use swap_choice::Asked;
 use swap_queue::{Behind, Failed};
+use swap_rates::Rates;
 use swap_record::{Op, Record, ReserveRefused};
 use swap_remote::Remote;
 use swap_rings::Request;
-use swap_slabs::MOST_LENDERS;
+use swap_slabs::{Chosen, MOST_LENDERS};
 
 /// A device's tables. The newest entry of a page stands beside the history, which has it as its last page-out.
 #[derive(Drop)]
@@ -38,6 +44,7 @@ pub(crate) struct State {
     failed_writes: u64,
     failed_reads: u64,
     remote: Remote,
+    rates: Rates,
     links_made: u32,
     lenders: u32,
 }
@@ -57,12 +64,13 @@ impl Model for State {
         failed_writes = t.failed_writes;
         failed_reads = t.failed_reads;
         remote = t.remote.remote;
+        rates = t.rates;
         links_made = t.links_made;
       };
       spare = t.entries.spare;
     } };
 
-    ghost invariant = { λ t. AreTables t.geometry t.entries t.queue t.calls t.newest.items t.remote };
+    ghost invariant = { λ t. AreTables t.geometry t.entries t.queue t.calls t.newest.items t.remote t.rates };
 }
 
 // A page-out enters the history, the queue, and the table of newest entries.
@@ -114,6 +122,7 @@ impl State {
             failed_writes: 0,
             failed_reads: 0,
             remote: Remote::make(alloc, geometry)?,
+            rates: Rates::make(alloc, geometry.slabs())?,
             links_made: 0,
             lenders,
         })
@@ -220,6 +229,38 @@ impl State {
         let since = self.failed_reads;
         self.calls
             .begin_read(caller, page, newest, Via::Disk, since);
+    }
+
+    /// A page's slab is hit.
+    pub fn hit(&mut self, page: Page)
+        requires { page.0 < pages_of self.old.device.sizes }
+        ensures { self.new ≡ record self.old { device = hit self.old.device page } }
+    {
+        self.rates.hit(self.geometry.slab_of(page));
+    }
+
+    /// Each slab's period ends.
+    pub fn end_periods(&mut self)
+        ensures { self.new ≡ record self.old { device = periods_ended self.old.device } }
+    {
+        self.rates.end_periods();
+    }
+
+    /// The value of a slab's rate.
+    pub fn rate_of(&self, slab: Slab) -> u64
+        requires { slab.0 < self.now.device.sizes.slabs }
+        ensures { result ≡ rates.value_of self.now.device.rates slab }
+    {
+        self.rates.value(slab)
+    }
+
+    /// The hottest local slab.
+    pub fn hottest(&self) -> Option<Slab>
+        ensures slab { result ≡ rates.hottest self.now.device.sizes.hot self.now.device.remote.slabs self.now.device.rates }
+        ensures within { IfSome result (λ slab. slab.0 < self.now.device.sizes.slabs) }
+    {
+        self.remote.keeps();
+        self.rates.hottest(self.geometry.hot(), self.remote.slabs())
     }
 
     /// The copy at the front of the line leaves for the disk, with its bytes in `buf`.
@@ -396,6 +437,7 @@ impl State {
     /// What slabs and links keep.
     pub fn keeps_remote(&self)
         ensures slabs { IsSlabs self.now.device.remote.slabs }
+        ensures slabs_len { length self.now.device.remote.slabs ≡ self.now.device.sizes.slabs }
         ensures limits { IsWithin self.now.device.sizes }
     {
         self.remote.keeps();
@@ -416,6 +458,44 @@ impl State {
         ensures { result ≡ may_map self.now.device slab lender }
     {
         self.remote.is_local(slab) && self.remote.may_send(lender)
+    }
+
+    /// Whether a slab may be asked for: of a first lender, or of a second beside the first.
+    pub fn may_ask(&self, slab: Slab, first: Option<Lender>, lender: Lender) -> bool
+        requires slab { slab.0 < self.now.device.sizes.slabs }
+        requires lender { lender.0 < MOST_LENDERS }
+        ensures { result ≡ may_ask self.now.device slab first lender }
+    {
+        match first {
+            None => self.may_map(slab, lender),
+            Some(_) => self.remote.may_send(lender),
+        }
+    }
+
+    /// The lenders that a word picks to be asked for a slab.
+    pub fn to_ask(&self, word: u64) -> Asked
+        ensures asked { result ≡ choice.asked word (remote.fresh self.now.device.remote) (remote.others self.now.device.remote) }
+        ensures lenders { AreAsked result }
+    {
+        self.remote.to_ask(word)
+    }
+
+    /// Whether a reply of a lender about a slab is waited for.
+    pub fn asks(&self, slab: Slab, lender: Lender) -> bool
+        requires { slab.0 < self.now.device.sizes.slabs }
+        ensures { result ≡ slabs.asks lender (slabs.state_of self.now.device.remote.slabs slab) }
+    {
+        self.remote.asks(slab, lender)
+    }
+
+    /// The slab that is mapped at a lender with this lease.
+    pub fn mapped_by(&self, lender: Lender, lease: Lease) -> Option<Slab>
+        requires { lender.0 < MOST_LENDERS }
+        ensures slab { result ≡ remote.mapped_by self.now.device.remote.slabs lender lease }
+        ensures within { IfSome result (λ slab. slab.0 < self.now.device.sizes.slabs) }
+        ensures mapped { IfSome result (λ slab. IsTrue (slabs.is_mapped (slabs.state_of self.now.device.remote.slabs slab))) }
+    {
+        self.remote.mapped_by(lender, lease)
     }
 
     /// The request on a link that was sent first, of those that no answer came to.
@@ -481,6 +561,43 @@ impl State {
             .begin_read(caller, page, newest, Via::Lender(lender), since);
     }
 
+    /// A slab was asked for: of one lender, or of a second beside the first.
+    pub fn query_sent(&mut self, slab: Slab, first: Option<Lender>, lender: Lender)
+        requires slab { slab.0 < self.old.device.sizes.slabs }
+        requires lender { lender.0 < MOST_LENDERS }
+        requires state { MayAsk first lender (slabs.state_of self.old.device.remote.slabs slab) }
+        requires room { length (rings.ring_of self.old.device.remote.links lender) < self.old.device.sizes.window }
+        ensures { self.new ≡ record self.old { device = record self.old.device { remote = remote.query_sent self.old.device.remote slab first lender } } }
+    {
+        self.remote.query_sent(slab, first, lender);
+    }
+
+    /// A lender that was asked tells how many slots are free. The answer is the slab, with the lender that is chosen for
+    /// it once no reply is waited for.
+    pub fn told(&mut self, lender: Lender, slab: Slab, free: u32) -> Option<(Slab, Lender)>
+        requires slab { slab.0 < self.old.device.sizes.slabs }
+        requires lender { lender.0 < MOST_LENDERS }
+        requires asks { IsTrue (slabs.asks lender (slabs.state_of self.old.device.remote.slabs slab)) }
+        ensures state { self.new ≡ record self.old { device = record self.old.device { remote = remote.told self.old.device.remote lender slab free } } }
+        ensures choice { result ≡ chosen_for slab (slabs.answer_choice (slabs.state_of self.old.device.remote.slabs slab) lender (Reply.Free free)) }
+        ensures within { MayBorrow self.old.device.sizes result }
+    {
+        self.remote.keeps();
+        chosen_for(slab, self.remote.told(lender, slab, free))
+    }
+
+    /// A lender that was asked is gone. The answer is as of `told`.
+    pub fn gone(&mut self, lender: Lender, slab: Slab) -> Option<(Slab, Lender)>
+        requires slab { slab.0 < self.old.device.sizes.slabs }
+        requires asks { IsTrue (slabs.asks lender (slabs.state_of self.old.device.remote.slabs slab)) }
+        ensures state { self.new ≡ record self.old { device = record self.old.device { remote = remote.gone self.old.device.remote lender slab } } }
+        ensures choice { result ≡ chosen_for slab (slabs.answer_choice (slabs.state_of self.old.device.remote.slabs slab) lender Reply.Gone) }
+        ensures within { MayBorrow self.old.device.sizes result }
+    {
+        self.remote.keeps();
+        chosen_for(slab, self.remote.gone(lender, slab))
+    }
+
     /// A slab was asked to be lent.
     pub fn borrow_sent(&mut self, slab: Slab, lender: Lender)
         requires slab { slab.0 < self.old.device.sizes.slabs }
@@ -512,32 +629,52 @@ impl State {
         self.remote.refused(lender, slab);
     }
 
-    /// A write came back from a lender: remote memory can be read where it was of the page's newest entry.
-    pub fn written(&mut self, lender: Lender, page: Page, entry: EntryNo)
+    /// A write came back from a lender: remote memory can be read where it was of the page's newest entry. The lease of
+    /// its slab is given back where that was the last request to fly for a slab that drains.
+    pub fn written(&mut self, lender: Lender, page: Page, entry: EntryNo) -> Option<Lease>
         requires page { page.0 < pages_of self.old.device.sizes }
         requires lender { lender.0 < MOST_LENDERS }
         requires flying { 0 < slabs.flying_of (remote.state_for self.old.device.sizes self.old.device.remote.slabs page) }
-        ensures { self.new ≡ record self.old { device = record self.old.device { remote = remote.written self.old.device.sizes self.old.device.remote lender page (is_newest (last self.old.device.history page) entry) } } }
+        ensures state { self.new ≡ record self.old { device = record self.old.device { remote = remote.written self.old.device.sizes self.old.device.remote lender page (is_newest (last self.old.device.history page) entry) } } }
+        ensures lease { result ≡ slabs.settled_lease (remote.state_for self.old.device.sizes self.old.device.remote.slabs page) }
     {
         let newest = is_newest(self.newest[page.0 as usize], entry);
-        self.remote.written(lender, page, newest);
+        self.remote.written(lender, page, newest)
     }
 
-    /// A page came from a lender.
-    pub fn brought(&mut self, lender: Lender, caller: Caller, page: Page, bytes: &[u8])
+    /// A page came from a lender. The lease of its slab is given back as in `written`.
+    pub fn brought(
+        &mut self,
+        lender: Lender,
+        caller: Caller,
+        page: Page,
+        bytes: &[u8],
+    ) -> Option<Lease>
         requires caller { caller.0 < self.old.device.sizes.callers }
         requires page { page.0 < pages_of self.old.device.sizes }
         requires lender { lender.0 < MOST_LENDERS }
         requires bytes { length bytes.now ≡ self.old.device.sizes.page_bytes }
         requires waiting { is_waiting (state_of self.old.device.calls caller) ≡ true }
         requires flying { 0 < slabs.flying_of (remote.state_for self.old.device.sizes self.old.device.remote.slabs page) }
-        ensures { self.new ≡ record self.old { device = record self.old.device { remote = remote.settled_for self.old.device.sizes self.old.device.remote lender page; calls = came self.old.device.calls caller bytes.now } } }
+        ensures state { self.new ≡ record self.old { device = record self.old.device { remote = remote.settled_for self.old.device.sizes self.old.device.remote lender page; calls = came self.old.device.calls caller bytes.now } } }
+        ensures lease { result ≡ slabs.settled_lease (remote.state_for self.old.device.sizes self.old.device.remote.slabs page) }
     {
-        self.remote.settled_for(lender, page);
         self.calls.came(caller, bytes);
+        self.remote.settled_for(lender, page)
     }
 
-    /// A link was lost: its slabs are local, and the calls that wait through it are lost.
+    /// A mapped slab is taken back: it drains. Its lease is given back where no request flies for it.
+    pub fn evict(&mut self, slab: Slab) -> Option<Lease>
+        requires slab { slab.0 < self.old.device.sizes.slabs }
+        requires mapped { IsTrue (slabs.is_mapped (slabs.state_of self.old.device.remote.slabs slab)) }
+        ensures state { self.new ≡ record self.old { device = record self.old.device { remote = remote.evicted self.old.device.sizes self.old.device.remote slab } } }
+        ensures lease { result ≡ slabs.evicted_lease (slabs.state_of self.old.device.remote.slabs slab) }
+    {
+        self.remote.evict(slab)
+    }
+
+    /// A link was lost: its slabs are local, and the calls that wait through it are lost. The slabs that asked its lender
+    /// still wait.
     pub fn lost(&mut self, lender: Lender)
         requires { lender.0 < MOST_LENDERS }
         ensures { self.new ≡ record self.old { device = lost self.old.device lender } }
@@ -554,6 +691,16 @@ impl State {
     {
         self.remote.raised(lender);
         self.links_made += 1;
+    }
+}
+
+// The slab and the lender of a choice that is due.
+fn chosen_for(slab: Slab, choice: Option<Chosen>) -> Option<(Slab, Lender)>
+    ensures { result ≡ chosen_for slab choice }
+{
+    match choice {
+        Some(Chosen::Lender(lender)) => Some((slab, lender)),
+        _ => None,
     }
 }
 

@@ -15,8 +15,8 @@ ghost use Rattle.swap_remote.specs.Remote as remote;
 ghost use Rattle.swap_wire.specs.Fabric.{parcel_of};
 ghost use Rattle.swap_table.specs.Ports.{answering};
 ghost use Rattle.swap_disk.specs.Disk.{bytes_given};
-ghost use Rattle.swap_table.specs.Device.{out, finish, disk_start, disk_take, took, write_to, accept, read_disk, read_at, route, routed_again, finish_out, give, fault, origin_of};
-ghost use Rattle.swap_device.specs.State.{Agree, Went, KeepsRoom, MayGoTo, GivesIn, GivesStep, IsOutStep, CameFor, FailedFor, WritesBack, ReadsBack, Waits, EndsInOut};
+ghost use Rattle.swap_table.specs.Device.{out, put, read, finish, disk_start, disk_take, took, write_to, accept, read_disk, read_at, route, routed_again, finish_out, give, fault, origin_of};
+ghost use Rattle.swap_device.specs.State.{Agree, IsReady, LeavesRest, Went, KeepsRoom, MayGoTo, GivesIn, GivesStep, IsOutStep, CameFor, FailedFor, WritesBack, ReadsBack, Waits, EndsInOut};
 
 use crate::machine::Machine;
 use crate::state::State;
@@ -37,24 +37,22 @@ impl<D: DiskPort, F: Fabric> Machine<D, F> {
         target: Option<(Lender, Lease)>,
     ) -> Option<Lender>
         requires page { page.0 < pages_of self.old.device.sizes }
-        requires target { MayGoTo self.old.device.sizes self.old.device.remote (F.of self.old.fabric).lenders page target }
-        requires bytes { length bytes.now ≡ (F.of self.old.fabric).sizes.page_bytes }
+        requires target { MayGoTo self.old.device.sizes self.old.device.remote self.old.device.lenders page target }
+        requires bytes { length bytes.now ≡ self.old.device.sizes.page_bytes }
+        requires ready { IsReady F.Fabric self.old }
         ensures moved { Went D.moves F.moves (λ d. write_to d page entry bytes.now target) self.old self.new result }
         ensures spare { self.new.spare ≡ self.old.spare }
         ensures history { self.new.device.history ≡ self.old.device.history }
     {
         let (lender, lease) = target?;
         let place = self.state.place(page);
-        match self
-            .fabric
-            .send(lender, &Msg::Write { lease, place }, bytes)
-        {
+        match self.send(lender, &Msg::Write { lease, place }, bytes) {
             Sent::Sent => {
                 self.state.write_sent(lender, page, entry);
                 Some(lender)
             }
             Sent::Down => {
-                self.state.lost(lender);
+                self.lose(lender);
                 None
             }
         }
@@ -110,7 +108,8 @@ impl<D: DiskPort, F: Fabric> Machine<D, F> {
         requires may_read { may_read (state_of self.old.device.calls caller) ≡ true }
         requires sizes { (D.means self.old.disk).sizes ≡ self.old.device.sizes }
         requires free { IsFree (D.means self.old.disk).flights (DiskWhich.Read caller) }
-        requires source { MayGoTo self.old.device.sizes self.old.device.remote (F.of self.old.fabric).lenders page source }
+        requires source { MayGoTo self.old.device.sizes self.old.device.remote self.old.device.lenders page source }
+        requires ready { IsReady F.Fabric self.old }
         ensures moved { Went D.moves F.moves (λ d. read_at d caller page newest source) self.old self.new result }
         ensures spare { self.new.spare ≡ self.old.spare }
         ensures history { self.new.device.history ≡ self.old.device.history }
@@ -120,7 +119,7 @@ impl<D: DiskPort, F: Fabric> Machine<D, F> {
             return self.read_disk(caller, page, newest);
         };
         let place = self.state.place(page);
-        match self.fabric.send(lender, &Msg::Read { lease, place }, &[]) {
+        match self.send(lender, &Msg::Read { lease, place }, &[]) {
             Sent::Sent => {
                 self.state.read_sent(lender, caller, page, newest);
                 InStep::Wait {
@@ -128,13 +127,34 @@ impl<D: DiskPort, F: Fabric> Machine<D, F> {
                 }
             }
             Sent::Down => {
-                self.state.lost(lender);
+                self.lose(lender);
                 self.read_disk(caller, page, newest)
             }
         }
     }
 
-    /// A page-out's first step: it is accepted, or kept for its caller until there is room.
+    // A page-out is accepted, or kept for its caller until there is room.
+    fn put(&mut self, caller: Caller, page: Page, bytes: &[u8]) -> OutStep
+        requires caller { caller.0 < self.old.device.sizes.callers }
+        requires page { page.0 < pages_of self.old.device.sizes }
+        requires bytes { length bytes.now ≡ self.old.device.sizes.page_bytes }
+        requires idle { is_idle (state_of self.old.device.calls caller) ≡ true }
+        requires spare { 0 < self.old.spare }
+        requires agree { Agree D.DiskPort F.Fabric self.old }
+        ensures moved { Went D.moves F.moves (λ d. put d caller page bytes.now) self.old self.new result }
+        ensures room { KeepsRoom self.old self.new }
+    {
+        if self.state.has_room(page) {
+            let (entry, sent) = self.accept(caller, page, bytes);
+            OutStep::Done { entry, sent }
+        } else {
+            self.state.wait_for_room(caller, page, bytes);
+            OutStep::Room
+        }
+    }
+
+    /// A page-out's first step: its slab is hit, and it is accepted, or kept for its caller until there is
+    /// room.
     pub fn out(&mut self, caller: Caller, page: Page, bytes: &[u8]) -> OutStep
         requires caller { caller.0 < self.old.device.sizes.callers }
         requires page { page.0 < pages_of self.old.device.sizes }
@@ -145,13 +165,8 @@ impl<D: DiskPort, F: Fabric> Machine<D, F> {
         ensures moved { Went D.moves F.moves (λ d. out d caller page bytes.now) self.old self.new result }
         ensures room { KeepsRoom self.old self.new }
     {
-        if self.state.has_room(page) {
-            let (entry, sent) = self.accept(caller, page, bytes);
-            OutStep::Done { entry, sent }
-        } else {
-            self.state.wait_for_room(caller, page, bytes);
-            OutStep::Room
-        }
+        self.state.hit(page);
+        self.put(caller, page, bytes)
     }
 
     /// A page is read where it is: nowhere, in the queue, in remote memory, or on the disk.
@@ -180,6 +195,22 @@ impl<D: DiskPort, F: Fabric> Machine<D, F> {
         self.state.keeps_remote();
         let source = self.state.source(page);
         self.read_at(caller, page, newest, source)
+    }
+
+    /// A page-in's first step: its slab is hit, and the page is read where it is.
+    pub fn read(&mut self, caller: Caller, page: Page, buf: &mut [u8]) -> InStep
+        requires caller { caller.0 < self.old.device.sizes.callers }
+        requires page { page.0 < pages_of self.old.device.sizes }
+        requires buf { length buf.old ≡ self.old.device.sizes.page_bytes }
+        requires may_read { may_read (state_of self.old.device.calls caller) ≡ true }
+        requires spare { 0 < self.old.spare }
+        requires agree { Agree D.DiskPort F.Fabric self.old }
+        ensures moved { Went D.moves F.moves (λ d. read d caller page) self.old self.new result }
+        ensures room { KeepsRoom self.old self.new }
+        ensures gives { GivesIn result self.new.device.history buf.old buf.new }
+    {
+        self.state.hit(page);
+        self.route(caller, page, buf)
     }
 
     /// A page-in is routed again.

@@ -1,6 +1,7 @@
 use Rattle.std.proofs.Common.{sym, ◌∙◌}
-use Rattle.swap_device.proofs.Goes.{may_go, goes_of}
+use Rattle.swap_device.proofs.Goes.{may_go}
 use Rattle.swap_device.proofs.Free.{read_free, source_target}
+use Rattle.swap_device.proofs.Ready.{agree_ready}
 use Rattle.swap_device.proofs.machine.Machine.route.Goals as goal
 
 pub read_at-requires-clause-free : goal.read_at-requires-clause-free
@@ -8,7 +9,9 @@ read_at-requires-clause-free g c = read_free _ _ _ _ _ c.requires.agree.0.disk c
 
 pub read_at-requires-clause-source : goal.read_at-requires-clause-source
 read_at-requires-clause-source g c =
-    let d = c.self.inside.state.device in
     let agree = rw (← c.self.view_is) at c.requires.agree in
     let page = rw (← c.self.view_is) at c.requires.page in
-    rw (← c.self.view_is) (goes_of _ d _ _ _ _ agree.1 (may_go _ _ _ _ _ _ _ _ _ agree.0.serves c.keeps_remote.ensures.limits page (λ a is. source_target d c.args.page a (sym c.source-source.ensures ∙ is))))
+    rw (← c.self.view_is) (may_go _ _ _ _ _ _ _ _ _ agree.0.serves c.keeps_remote.ensures.limits page (λ a is. source_target c.self.inside.state.device c.args.page a (sym c.source-source.ensures ∙ is)))
+
+pub read_at-requires-clause-ready : goal.read_at-requires-clause-ready
+read_at-requires-clause-ready g c = agree_ready g.D.DiskPort g.F.Fabric _ c.requires.agree
