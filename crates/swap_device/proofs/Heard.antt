@@ -21,7 +21,7 @@ use Rattle.swap_table.specs.declared.LinkStep.{LinkStep}
 use Rattle.swap_table.specs.declared.LinkStep.TheVariants as link
 use Rattle.swap_table.specs.Device.{Device, Core, Heard, of_device, query_reply, borrow_reply, write_reply, read_reply, rate_asked, taken_back, query_answered, borrow_answered, lent_or_refused, write_answered, read_answered, rate_told, evicted, answered, heard_by, heard, with_step, lose, follow, understood}
 use Rattle.swap_table.proofs.Programs.{Along-answering}
-use Rattle.swap_device.specs.State.{IsReady, MayFollow, answered_of, heard_by_of, heard_of, heard_with}
+use Rattle.swap_device.specs.State.{IsReady, answered_of, heard_by_of, heard_of, heard_with}
 use Rattle.swap_device.specs.declared.links.Answer.{Answer}
 use Rattle.swap_device.proofs.Ready.{answered_up}
 
@@ -90,9 +90,6 @@ heard_of_was d now l m bytes o a is = (heard_raises d now l m bytes o a is).0
 
 pub lender_heard : (d now : Device) (l : Lender) → of_device now ≡ of_device d → l.0 < d.lenders → l.0 < now.lenders
 lender_heard d now l same within = subst (λ (o : FabricOf). l.0 < o.lenders) (sym same) within
-
-pub may_heard : (d now : Device) (a : Answer) → of_device now ≡ of_device d → MayFollow d.sizes (Some a) → MayFollow now.sizes (Some a)
-may_heard d now a same may = subst (λ (o : FabricOf). MayFollow o.sizes (Some a)) (sym same) may
 
 module _ {D F : Type 0} where
   pub ready_heard : (fabric : FabricMeaning F) (core : Core D F) (now : Device) (l : Lender) (m : Msg) (bytes : List ℕ) (o : Option Request) (a : Answer) (spare : ℕ) → heard_of core.device l m bytes o ≡ Some (heard_with now a) → IsReady fabric core → IsReady fabric (record { device = now; disk = core.disk; fabric = core.fabric; spare = spare })

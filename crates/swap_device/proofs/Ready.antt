@@ -1,5 +1,5 @@
 -- What the steps of a loss need holds through it.
-use Rattle.std.proofs.Common.{◌≡◌, ℕ, zero, suc, ◌<◌, Bool, true, false, ◌&&◌, List, [], ◌∷◌, get_or, set, length, nat_lt, refl, sym, ap, ◌∙◌, subst, is_some}
+use Rattle.std.proofs.Common.{◌≡◌, ℕ, zero, suc, true, false, List, [], ◌∷◌, get_or, set, refl, ap, ◌∙◌}
 use Rattle.swap_base.specs.declared.Lender.{Lender}
 use Rattle.swap_base.specs.declared.Caller.{Caller}
 use Rattle.swap_base.specs.declared.Page.{Page}
@@ -9,16 +9,11 @@ use Rattle.swap_calls.specs.Calls.{Call, Calls, state_of, may_read}
 use Rattle.swap_calls.specs.declared.Arrived.TheVariants as arrived
 use Rattle.swap_calls.specs.declared.CallState.{CallState}
 use Rattle.swap_calls.specs.declared.CallState.TheVariants.{Idle, Room, Reading}
-use Rattle.swap_activity.specs.Rates.{Activity}
-use Rattle.swap_base.specs.Sizes.{Sizes}
-use Rattle.swap_wire.specs.Fabric.{FabricOf}
 use Rattle.swap_rings.specs.Rings as rings
 use Rattle.swap_rings.specs.Rings.{LinkState, down, is_up}
-use Rattle.swap_rings.specs.declared.Request.{Request}
 use Rattle.swap_disk.specs.declared.port.DiskPort.{Ghosts as DiskMeaning}
 use Rattle.swap_wire.specs.declared.fabric.Fabric.{Ghosts as FabricMeaning}
 use Rattle.swap_table.specs.Device.{Core, lost, enter}
-use Rattle.swap_table.proofs.Acts.{rates_disk}
 use Rattle.swap_table.proofs.Agree.{get_or-map_idle}
 use Rattle.swap_device.specs.State.{Agree, IsReady, LeavesRest}
 
@@ -30,9 +25,6 @@ up_set (y ∷ links) zero (suc j) x was up = up
 up_set (y ∷ links) (suc i) zero x was up = up
 up_set (y ∷ links) (suc i) (suc j) x was up = up_set links i j x was up
 
-pub sent_up : (links : List LinkState) (l m : Lender) (r : Request) → is_up (rings.sent links l r) m ≡ true → is_up links m ≡ true
-sent_up links l m r up = up_set links l.0 m.0 (rings.sent_on (rings.link_of links l) r) (λ u. u) up
-
 pub answered_up : (links : List LinkState) (l m : Lender) → is_up (rings.answered links l) m ≡ true → is_up links m ≡ true
 answered_up links l m up = up_set links l.0 m.0 (rings.answered_on (rings.link_of links l)) (λ u. u) up
 
@@ -41,14 +33,6 @@ lost_up links l m up = up_set links l.0 m.0 down (λ u. never u) up
   where
     never : {P : Type 0} → false ≡ true → P
     never e = let no : ⊥ = cc in absurd no
-
--- a link that takes a request is up
-pub may_send_up : (window : ℕ) (link : LinkState) → rings.may_send window link ≡ true → link.up ≡ true
-may_send_up window link may = go link.up refl may
-  where
-    go : (b : Bool) → link.up ≡ b → b && nat_lt (length link.ring) window ≡ true → link.up ≡ true
-    go true is may = is
-    go false is may = let no : ⊥ = cc in absurd no
 
 -- a caller that may read may still where a link was lost
 pub lost_reads : (cs : Calls) (l : Lender) (c : Caller) → may_read (state_of cs c) ≡ true → may_read (state_of (calls.lost cs l) c) ≡ true
@@ -90,30 +74,6 @@ module _ {D F : Type 0} where
   pub ready_lost : (fabric : FabricMeaning F) (core : Core D F) (l : Lender) → IsReady fabric core → IsReady fabric (record core { device = lost core.device l })
   ready_lost fabric core l h = record { of = h.of; few = h.few; lead = λ m up. h.lead m (lost_up core.device.remote.links l m up) }
 
-  -- they agree whatever the rates are
-  pub rated_agree : (disk : DiskMeaning D) (fabric : FabricMeaning F) (core : Core D F) (rates : List Activity) → Agree disk fabric core → Agree disk fabric (record core { device = record core.device { rates = rates } })
-  rated_agree disk fabric core rates h = (
-    record {
-      disk = rates_disk (is_some (disk.means core.disk).blocks) fabric.answers core.device (disk.means core.disk) rates h.0.disk;
-      serves = h.0.serves;
-      accounts = record { calls = h.0.accounts.calls; copies = h.0.accounts.copies };
-    },
-    h.1,
-  )
-
-  pub rated_ready : (fabric : FabricMeaning F) (core : Core D F) (rates : List Activity) → IsReady fabric core → IsReady fabric (record core { device = record core.device { rates = rates } })
-  rated_ready fabric core rates h = record { of = h.of; few = h.few; lead = h.lead }
-
   -- a page-out that is accepted changes no link
   pub entered_ready : (fabric : FabricMeaning F) (core : Core D F) (c : Caller) (p : Page) (bytes : List ℕ) (spare : ℕ) → IsReady fabric core → IsReady fabric (record core { device = enter core.device c p bytes; spare = spare })
   entered_ready fabric core c p bytes spare h = record { of = h.of; few = h.few; lead = h.lead }
-
-  -- what is said of the device's ports and sizes is said after a loss
-  pub read_still : (disk : DiskMeaning D) (before now : Core D F) → LeavesRest before now → (disk.means before.disk).sizes ≡ before.device.sizes → (disk.means now.disk).sizes ≡ now.device.sizes
-  read_still disk before now rest sizes = ap (λ x. (disk.means x).sizes) rest.disk ∙ sizes ∙ sym (ap (λ (o : FabricOf). o.sizes) rest.of)
-
-  pub within_still : (P : Sizes → Type 0) (before now : Core D F) → LeavesRest before now → P before.device.sizes → P now.device.sizes
-  within_still P before now rest h = subst (λ (o : FabricOf). P o.sizes) (sym rest.of) h
-
-  pub lender_still : (before now : Core D F) (l : Lender) → LeavesRest before now → l.0 < before.device.lenders → l.0 < now.device.lenders
-  lender_still before now l rest h = subst (λ (o : FabricOf). l.0 < o.lenders) (sym rest.of) h

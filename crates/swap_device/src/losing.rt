@@ -8,8 +8,9 @@ use swap_disk::DiskPort;
 use swap_slabs::MOST_LENDERS;
 use swap_wire::{Fabric, Msg, Sent};
 
-// How many links may be lost one after another. Each loss puts a link down, and no link is raised between two of them,
-// so that the last one is never reached with a link that is up.
+// How many links may be lost one after another. Each loss after the first is of a link that was up, and puts it down; no
+// link is raised between two of them. So no more follow on the first than there are lenders, and a loss with none left to
+// follow is never reached.
 pub(crate) const MOST_LOSSES: u32 = MOST_LENDERS + 1;
 
 impl<D: DiskPort, F: Fabric> Machine<D, F> {
