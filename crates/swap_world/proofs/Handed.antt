@@ -475,8 +475,7 @@ module _ {D F : Type 0} (disk_moves : D → (call : DiskCall) → DiskAnswer cal
           loss_step l link.Lied see_take d (from_link c d l (Brought q)) k rest.1 (lied_holds h c d l (from_link c d l (Brought q)) was) rest.3,
         )
         by_heard q (Some x) is mid rest =
-            let hears_x : Hears d l q x = heard_is d x l q is in
-            (
+            let hears_x : Hears d l q x = heard_is d x l q is in (
               none-answering _ (understood d l q.msg (Some x)) (none-answering _ (follow x l) (follow_none x l)),
               follow_step l q x (from_link c d l (Brought q)) k mid hears_x (brought_holds h c d x.device l q (oldest (ring_of d.remote.links l)) (heard_calls d x l q hears_x) was) rest,
             )

@@ -280,11 +280,13 @@ pub(crate) fn see_tick(placed: Option<Placed>) -> Seen
 {
     match placed {
         None => Seen::Ticked,
-        Some(Placed {
-            slab,
-            first,
-            second,
-        }) => Seen::Asked {
+        Some(
+            Placed {
+                slab,
+                first,
+                second,
+            },
+        ) => Seen::Asked {
             slab,
             first,
             second,
