@@ -1,0 +1,4 @@
+pub mod Hearing
+pub mod Steps
+pub mod Serving
+pub mod Slots
