@@ -10,3 +10,4 @@ pub mod Lines
 pub mod Judges
 pub mod Whole
 pub mod WholeBack
+pub mod PrintedLines

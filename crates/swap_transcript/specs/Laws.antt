@@ -3,11 +3,19 @@ use Rattle.std.specs.Prelude.{◌≡◌, ℕ, ◌+◌, ◌<◌, ◌^◌, ◌↔�
 use Rattle.std.specs.Fmt.{decimal}
 use Rattle.swap_base.specs.Sizes.{Sizes, AreInLimits, first_beyond}
 use Rattle.swap_base.specs.declared.geometry.LenderSpec.{LenderSpec}
-use Rattle.swap_script.specs.Lines.{words_of, kept_lines, spaced}
+use Rattle.swap_base.specs.declared.EntryNo.{EntryNo}
+use Rattle.swap_base.specs.declared.Lender.{Lender}
+use Rattle.swap_record.specs.declared.Op.{Op}
+use Rattle.swap_record.specs.declared.Op.TheVariants as op
+use Rattle.swap_record.specs.History.{History, Row, named}
+use Rattle.swap_wire.specs.declared.Seen.{Seen}
+use Rattle.swap_wire.specs.declared.Seen.TheVariants as seen
+use Rattle.swap_script.specs.Lines.{words_of, kept_lines, spaced, ended}
+use Rattle.swap_script.specs.Transcript.{line}
 use Rattle.swap_script.specs.Reading.{IsWithinLimits, lending_tests}
 use Rattle.swap_transcript.specs.Readers.{Words}
-use Rattle.swap_transcript.specs.Messages.{IsSmall}
-use Rattle.swap_transcript.specs.Printed.{IsWide, HasPairWords, pair_words}
+use Rattle.swap_transcript.specs.Printed.{MayBeSent, HasPairWords, pair_words}
+use Rattle.swap_transcript.specs.Told.{Told, Saw, Entered, Shown}
 use Rattle.swap_transcript.specs.Transcripts.{Pair, Transcript, Above, nothing_above, counted, tests, pair_of, transcript}
 use Rattle.swap_transcript.specs.Verdicts.{entries_of}
 
@@ -65,3 +73,38 @@ TranscriptsAreRead = (text : List ℕ) (t : Transcript) → (transcript text ≡
 -- no text is spelled by two
 abbrev pub HaveOneReading : Type 0
 HaveOneReading = (text : List ℕ) (t other : Transcript) → IsSpelled text t → IsSpelled text other → t ≡ other
+
+-- The printer writes a pair's line from what was seen and from the history, where the entry's number names an entry of
+-- that page, that kind and those bytes.
+abbrev pub seen_by : Op → EntryNo → Option Lender → Seen
+seen_by (op.Failed kind since at) e sent = seen.Fault e
+seen_by o e sent = seen.Done e sent
+
+abbrev pub seen_told : Told → Seen
+seen_told (Saw seen) = seen
+seen_told (Entered shown) = seen_by shown.op shown.no shown.sent
+
+-- a result without an entry
+abbrev pub IsPlain : Seen → Type 0
+IsPlain (seen.Done e sent) = ⊥
+IsPlain (seen.Fault e) = ⊥
+IsPlain _ = Unit {0}
+
+pub record IsEntry (H : History) (shown : Shown) : Type 0 where
+  pub row : Row
+  pub is : named H shown.no.0 ≡ Some row
+  pub page : row.entry.page ≡ shown.page
+  pub op : row.entry.op ≡ shown.op
+  pub bytes : row.bytes ≡ shown.bytes
+  pub sent : MayBeSent shown.op shown.sent
+
+abbrev pub IsToldOf : History → Told → Type 0
+IsToldOf H (Saw seen) = IsPlain seen
+IsToldOf H (Entered shown) = IsEntry H shown
+
+abbrev pub LinesArePrinted : Type 0
+LinesArePrinted = (H : History) (pair : Pair) → IsToldOf H pair.told → line H (pair.event, seen_told pair.told) ≡ ended (spaced (pair_words pair))
+
+-- the bytes of a transcript's lines are its words with one space between each two
+abbrev pub BytesArePrinted : Type 0
+BytesArePrinted = (text : List ℕ) (t : Transcript) → transcript text ≡ Ok t → map (λ (numbered : ℕ × List ℕ). numbered.1) (kept_lines text) ≡ map spaced (transcript_words t)
