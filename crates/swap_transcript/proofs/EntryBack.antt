@@ -1,8 +1,7 @@
 -- An entry that is printed is read back.
-use Rattle.std.proofs.Common.{◌≡◌, ℕ, ◌^◌, ◌<◌, Bool, true, false, cond, List, [], ◌∷◌, ◌++◌, append_assoc, append-nil, replicate, Option, None, Some, IfSome, codes, refl, sym, ap, subst, ◌∙◌}
+use Rattle.std.proofs.Common.{◌≡◌, ℕ, ◌^◌, ◌<◌, Bool, true, false, cond, List, [], ◌∷◌, ◌++◌, append_assoc, replicate, Option, None, Some, IfSome, codes, refl, sym, ap, subst, ◌∙◌}
 use Rattle.std.specs.Fmt.{decimal}
 use Rattle.std.specs.Option.{option_and_then}
-use Rattle.std.proofs.lemmas.Option.{cond_some}
 use Rattle.std.proofs.lemmas.Slice.Eq.{bytes_eq-Decides}
 use Rattle.swap_base.specs.declared.Lender.{Lender}
 use Rattle.swap_base.specs.declared.EntryNo.{EntryNo}
@@ -16,8 +15,8 @@ use Rattle.swap_record.specs.Text.{origin_words, op_words}
 use Rattle.swap_script.specs.Forms.{small}
 use Rattle.swap_script.specs.Lines.{is_word}
 use Rattle.swap_script.specs.Transcript.{sent_words}
-use Rattle.swap_transcript.specs.Readers.{Words, word_at, small_at, wide_at, by_rows}
-use Rattle.swap_transcript.specs.Told.{Shown, Did, did, bytes_at, named_at, origin_rows, out_at, in_at, fault_out_at, fault_in_at, did_rows, sent_by, not_sent, sent_of, entry_of}
+use Rattle.swap_transcript.specs.Readers.{Words, small_at, wide_at, by_rows}
+use Rattle.swap_transcript.specs.Told.{Shown, did, bytes_at, named_at, origin_rows, out_at, in_at, fault_out_at, fault_in_at, did_rows, sent_by, not_sent, sent_of, entry_of}
 use Rattle.swap_transcript.specs.Printed.{shown_words, HasOpWords, MayBeSent, HasShownWords}
 use Rattle.swap_transcript.proofs.Front.{bind_some, bound, small-only, small-back, small_at-only, small_at-back, wide_at-back}
 use Rattle.swap_transcript.proofs.EntryWords.{bytes_at-back, named_at-back, origin-back, did-only}

@@ -1,31 +1,26 @@
 -- An entry is read from its words, and from no others.
-use Rattle.std.proofs.Common.{◌≡◌, ◌≢◌, ℕ, ◌^◌, ◌<◌, Bool, true, false, cond, List, [], ◌∷◌, ◌++◌, append_assoc, append-nil, replicate, Option, None, Some, IfSome, codes, refl, sym, ap, subst, ◌∙◌, arith}
+use Rattle.std.proofs.Common.{◌≡◌, ℕ, ◌^◌, ◌<◌, Bool, true, false, cond, List, [], ◌∷◌, ◌++◌, append_assoc, replicate, Option, None, Some, codes, refl, sym, ap, subst, ◌∙◌, arith}
 use Rattle.std.specs.Fmt.{decimal}
-use Rattle.std.specs.List.{AllByRecursion}
 use Rattle.std.specs.Str.{all_ascii_digits}
 use Rattle.std.proofs.lemmas.Fmt.{digits_decimal}
 use Rattle.std.specs.Option.{option_and_then}
 use Rattle.std.proofs.lemmas.Option.{cond_some}
 use Rattle.std.proofs.lemmas.Slice.Eq.{bytes_eq-Decides}
-use Rattle.swap_base.specs.declared.Page.{Page}
 use Rattle.swap_base.specs.declared.EntryNo.{EntryNo}
-use Rattle.swap_base.specs.declared.Lender.{Lender}
 use Rattle.swap_base.specs.declared.Origin.{Origin}
 use Rattle.swap_base.specs.declared.Origin.TheVariants as origin
 use Rattle.swap_base.specs.declared.CallKind.TheVariants as kind
-use Rattle.swap_io.specs.Words.{number, pattern, shortest}
+use Rattle.swap_io.specs.Words.{pattern, shortest}
 use Rattle.swap_io.proofs.Numbers.{own, cond_true}
-use Rattle.swap_record.specs.declared.Op.{Op}
 use Rattle.swap_record.specs.declared.Op.TheVariants as op
 use Rattle.swap_record.specs.Text as text
 use Rattle.swap_record.specs.Text.{origin_words, op_words}
 use Rattle.swap_script.specs.Forms.{small}
 use Rattle.swap_script.specs.Lines.{is_word}
-use Rattle.swap_script.specs.Transcript.{sent_words}
-use Rattle.swap_transcript.specs.Readers.{Words, word_at, small_at, wide_at, Row, row, by_rows}
-use Rattle.swap_transcript.specs.Told.{Shown, Did, did, page_word, bytes_at, named_word, named_at, origin_rows, out_at, in_at, fault_out_at, fault_in_at, fault_rows, did_rows, sent_by, not_sent, sent_of, entry_of}
-use Rattle.swap_transcript.specs.Printed.{shown_words, HasPageWord, HasOriginWords, HasNamedWord, HasOpWords, HasDidWords, MayBeSent, HasShownWords}
-use Rattle.swap_transcript.proofs.Front.{bind_some, bound, small-only, small-back, small_at-only, wide_at-only, small_at-back, wide_at-back, RowSays, Prints, from-row, one-row, by_rows-only, one-back}
+use Rattle.swap_transcript.specs.Readers.{Words, word_at, small_at, wide_at, row, by_rows}
+use Rattle.swap_transcript.specs.Told.{Did, did, page_word, bytes_at, named_word, named_at, origin_rows, out_at, in_at, fault_out_at, fault_in_at, fault_rows, did_rows}
+use Rattle.swap_transcript.specs.Printed.{HasPageWord, HasOriginWords, HasNamedWord, HasDidWords}
+use Rattle.swap_transcript.proofs.Front.{bind_some, bound, small-only, small-back, small_at-only, wide_at-only, RowSays, Prints, from-row, one-row, by_rows-only, one-back}
 
 -- a name that isn't all digits is no number's word
 not_decimal : (name : List ℕ) (n : ℕ) (b : Bool) → all_ascii_digits name ≡ false → n < 2 ^ 64 → is_word name (decimal n) ≡ b → b ≡ false

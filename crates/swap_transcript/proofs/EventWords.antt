@@ -1,5 +1,5 @@
 -- An event is read from its words, and from no others.
-use Rattle.std.proofs.Common.{◌≡◌, ℕ, ◌^◌, ◌<◌, Bool, true, false, cond, List, [], ◌∷◌, ◌++◌, Option, None, Some, codes, refl, sym, ap, subst, ◌∙◌}
+use Rattle.std.proofs.Common.{◌≡◌, ℕ, ◌^◌, ◌<◌, Bool, true, false, cond, List, [], ◌∷◌, ◌++◌, None, Some, codes, refl, sym, ap, subst, ◌∙◌}
 use Rattle.std.specs.Fmt.{decimal}
 use Rattle.std.specs.List.{AllByRecursion}
 use Rattle.std.specs.Option.{option_and_then}
@@ -11,7 +11,7 @@ use Rattle.swap_wire.specs.declared.Event.TheVariants as event
 use Rattle.swap_script.specs.Forms.{ok_word}
 use Rattle.swap_script.specs.Lines.{is_word}
 use Rattle.swap_script.specs.Transcript.{ok_or_bad, disk_words, event_words}
-use Rattle.swap_transcript.specs.Readers.{Words, small_at, wide_at, three_of, two_of, Row, row, by_rows}
+use Rattle.swap_transcript.specs.Readers.{Words, small_at, wide_at, three_of, two_of, row, by_rows}
 use Rattle.swap_transcript.specs.Events.{ok_at, which_rows, disk_at, host_at, start_at, far_rows, event_rows, event_at}
 use Rattle.swap_transcript.specs.Printed.{HasWhichWords, HasEventWords}
 use Rattle.swap_transcript.proofs.Front.{bind_some, bound, small_at-only, wide_at-only, small_at-back, wide_at-back, RowSays, Prints, one-row, one_wide-row, two-row, by_rows-only, one-back, one_wide-back, two-back, two-only}

@@ -11,7 +11,7 @@ use Rattle.swap_io.proofs.Back.{number_again, number_one}
 use Rattle.swap_io.proofs.Numbers.{cond_true}
 use Rattle.swap_script.specs.Forms.{small, below}
 use Rattle.swap_script.specs.Lines.{is_word}
-use Rattle.swap_transcript.specs.Readers.{Words, word_at, small_at, wide_at, one_of, one_wide, two_of, three_of, Row, row, by_row, by_row_or, by_rows, whole}
+use Rattle.swap_transcript.specs.Readers.{Words, small_at, wide_at, one_of, one_wide, two_of, Row, row, by_row, by_row_or, by_rows}
 
 -- what was read, and then something else
 pub bind_some : {A B : Type 0} (o : Option A) (f : A → Option B) (y : B) → option_and_then f o ≡ Some y → (x : A) × (o ≡ Some x) × (f x ≡ Some y)

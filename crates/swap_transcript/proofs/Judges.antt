@@ -1,7 +1,7 @@
 -- What a record is judged doesn't depend on its room.
-use Rattle.std.proofs.Common.{◌≡◌, ℕ, length, Result, Ok, Err, ap, sym, subst, ◌∙◌}
+use Rattle.std.proofs.Common.{◌≡◌, ℕ, length, Result, Ok, Err, ap, subst, ◌∙◌}
 use Rattle.swap_record.specs.Book.{Book}
-use Rattle.swap_record.specs.Judging.{Judges, IsFirstWrong}
+use Rattle.swap_record.specs.Judging.{Judges}
 use Rattle.swap_record.specs.declared.Verdict.{Verdict}
 use Rattle.swap_record.specs.declared.Verdict.TheVariants.{Legal, NotLegal}
 use Rattle.swap_script.specs.declared.ScriptRefused.{ScriptRefused}

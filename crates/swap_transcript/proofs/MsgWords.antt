@@ -1,5 +1,5 @@
 -- A message is read from its words, and from no others.
-use Rattle.std.proofs.Common.{◌≡◌, ℕ, ◌^◌, ◌<◌, List, [], ◌∷◌, ◌++◌, Option, Some, codes, refl, sym, ap, subst, ◌∙◌}
+use Rattle.std.proofs.Common.{◌≡◌, ℕ, ◌^◌, ◌<◌, ◌∷◌, ◌++◌, Some, codes, refl, sym, ap, subst, ◌∙◌}
 use Rattle.std.specs.Fmt.{decimal}
 use Rattle.std.specs.List.{AllByRecursion}
 use Rattle.std.specs.Option.{option_and_then}
@@ -7,9 +7,9 @@ use Rattle.swap_base.specs.Sizes.{Sizes}
 use Rattle.swap_wire.specs.declared.Msg.{Msg}
 use Rattle.swap_wire.specs.declared.Msg.TheVariants as msg
 use Rattle.swap_script.specs.Transcript.{msg_words}
-use Rattle.swap_transcript.specs.Readers.{Words, small_at, wide_at, Row, row}
+use Rattle.swap_transcript.specs.Readers.{Words, small_at, wide_at, row}
 use Rattle.swap_transcript.specs.Messages.{rates_at, lender_rows, msg_rows, msg_at, HasMsgWords}
-use Rattle.swap_transcript.proofs.Front.{bind_some, bound, small_at-only, wide_at-only, small_at-back, wide_at-back, RowSays, Prints, one-row, two-row, by_row-only, by_rows-only, one-back, two-back}
+use Rattle.swap_transcript.proofs.Front.{bind_some, bound, small_at-only, wide_at-only, small_at-back, wide_at-back, RowSays, Prints, one-row, two-row, by_rows-only, one-back, two-back}
 
 rates-row : (s : Sizes) → RowSays (Prints msg_words (HasMsgWords s)) (row (codes "rates") rates_at)
 rates-row s words x e =

@@ -1,5 +1,5 @@
 -- The bytes of a transcript's lines are those that the printer writes.
-use Rattle.std.proofs.Common.{◌≡◌, ℕ, Bool, true, false, cond, eqb, List, [], ◌∷◌, ◌++◌, map, Option, None, Some, Result, Ok, codes, append-nil, refl, sym, ap, ap₂, ◌∙◌}
+use Rattle.std.proofs.Common.{◌≡◌, ℕ, Bool, true, false, cond, eqb, List, [], ◌∷◌, ◌++◌, map, Option, Some, codes, append-nil, refl, sym, ap, ap₂, ◌∙◌}
 use Rattle.std.specs.Fmt.{decimal}
 use Rattle.std.proofs.lemmas.Bool.{eqb-true}
 use Rattle.swap_base.specs.declared.EntryNo.{EntryNo}
@@ -14,9 +14,8 @@ use Rattle.swap_wire.specs.declared.Seen.TheVariants as seen
 use Rattle.swap_script.specs.Lines.{onto_first, words_of, spaced, ended, kept_lines}
 use Rattle.swap_script.specs.Transcript.{line, event_words, seen_words, sent_words}
 use Rattle.swap_transcript.specs.Readers.{Words}
-use Rattle.swap_transcript.specs.Told.{Told, Saw, Entered, Shown}
-use Rattle.swap_transcript.specs.Printed.{pair_words, told_words, HasShownWords, MayBeSent}
-use Rattle.swap_transcript.specs.Transcripts.{Pair, Transcript, transcript}
+use Rattle.swap_transcript.specs.Told.{Told, Saw, Entered}
+use Rattle.swap_transcript.specs.Printed.{told_words, MayBeSent}
 use Rattle.swap_transcript.specs.Laws.{words_in, seen_by, seen_told, IsPlain, IsToldOf, BytesArePrinted, LinesArePrinted}
 use Rattle.swap_transcript.proofs.WholeBack.{transcript-only}
 

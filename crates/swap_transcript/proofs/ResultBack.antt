@@ -1,5 +1,5 @@
 -- A result that is printed is read back, and so is a line.
-use Rattle.std.proofs.Common.{◌≡◌, ℕ, ◌^◌, ◌<◌, Bool, true, false, cond, eqb, List, [], ◌∷◌, ◌++◌, append_assoc, append-nil, map, Option, None, Some, IfSome, codes, refl, sym, ap, subst, ◌∙◌, arith}
+use Rattle.std.proofs.Common.{◌≡◌, ℕ, ◌^◌, ◌<◌, Bool, true, false, cond, eqb, List, [], ◌∷◌, ◌++◌, append_assoc, append-nil, map, Option, None, Some, IfSome, codes, refl, sym, ap, ◌∙◌, arith}
 use Rattle.std.specs.Fmt.{decimal}
 use Rattle.std.specs.Option.{option_and_then, option_map}
 use Rattle.std.proofs.lemmas.Bool.{eqb-true}
@@ -24,14 +24,14 @@ use Rattle.swap_wire.specs.declared.Seen.TheVariants as seen
 use Rattle.swap_record.specs.Text.{op_words}
 use Rattle.swap_script.specs.Forms.{small}
 use Rattle.swap_script.specs.Lines.{is_word}
-use Rattle.swap_script.specs.Transcript.{seen_words, msg_name, msg_words, reply_words, evicted_words, slots_behind, sent_words, event_words}
-use Rattle.swap_transcript.specs.Readers.{Words, small_at, word_at, one_of, two_of, by_row, whole}
-use Rattle.swap_transcript.specs.Messages.{msg_rows, msg_at, HasMsgWords}
+use Rattle.swap_script.specs.Transcript.{seen_words, msg_name, msg_words, reply_words, evicted_words, slots_behind, sent_words}
+use Rattle.swap_transcript.specs.Readers.{Words, small_at, word_at, one_of, whole}
+use Rattle.swap_transcript.specs.Messages.{msg_at, HasMsgWords}
 use Rattle.swap_transcript.specs.Events.{event_at}
-use Rattle.swap_transcript.specs.Told.{Told, Saw, Entered, Shown, entry_of}
+use Rattle.swap_transcript.specs.Told.{Told, Saw, Entered, entry_of}
 use Rattle.swap_transcript.specs.Gave.{slots_of, evicted_of, gave_behind}
-use Rattle.swap_transcript.specs.Results.{last_number, one_number, second_of, hosted_behind, hosted_of, rounded_of, took_of, gave_of, agrees, told_of}
-use Rattle.swap_transcript.specs.Printed.{HasViaWords, MaySee, MayTell, HasPairWords, HasShownWords, told_words, pair_words, shown_words}
+use Rattle.swap_transcript.specs.Results.{one_number, second_of, hosted_behind, took_of, gave_of, agrees, told_of}
+use Rattle.swap_transcript.specs.Printed.{HasViaWords, MaySee, MayTell, HasPairWords, told_words, pair_words}
 use Rattle.swap_transcript.specs.Transcripts.{Pair, pair_behind, pair_of}
 use Rattle.swap_transcript.proofs.Front.{bound, small-back, small_at-back, one-back, two-back}
 use Rattle.swap_transcript.proofs.MsgWords.{msg_at-back}

@@ -1,5 +1,5 @@
 -- What is read of a result is what its words print.
-use Rattle.std.proofs.Common.{◌≡◌, ℕ, ◌^◌, ◌<◌, Bool, true, false, cond, eqb, List, [], ◌∷◌, ◌++◌, append_assoc, append-nil, map, Option, None, Some, IfSome, codes, refl, sym, ap, subst, ◌∙◌, arith}
+use Rattle.std.proofs.Common.{◌≡◌, ℕ, ◌^◌, ◌<◌, Bool, true, false, cond, List, [], ◌∷◌, ◌++◌, append_assoc, append-nil, map, Option, None, Some, IfSome, codes, refl, sym, ap, subst, ◌∙◌, arith}
 use Rattle.std.specs.Fmt.{decimal}
 use Rattle.std.specs.List.{AllByRecursion}
 use Rattle.std.specs.Option.{option_and_then, option_map}
@@ -8,7 +8,6 @@ use Rattle.std.proofs.lemmas.Slice.Eq.{bytes_eq-Decides}
 use Rattle.swap_base.specs.Sizes.{Sizes}
 use Rattle.swap_base.specs.declared.Lender.{Lender}
 use Rattle.swap_base.specs.declared.Via.{Via}
-use Rattle.swap_base.specs.declared.Via.TheVariants as via
 use Rattle.swap_base.specs.declared.DiskWhich.TheVariants as which
 use Rattle.swap_choice.specs.Slots.{slots}
 use Rattle.swap_io.specs.Words.{number}
@@ -21,15 +20,15 @@ use Rattle.swap_wire.specs.declared.Event.{Event}
 use Rattle.swap_wire.specs.declared.Event.TheVariants as event
 use Rattle.swap_wire.specs.declared.Seen.{Seen}
 use Rattle.swap_wire.specs.declared.Seen.TheVariants as seen
-use Rattle.swap_transcript.specs.Readers.{Words, word_at, small_at, two_of, Row, row, by_row, by_rows, whole}
+use Rattle.swap_transcript.specs.Readers.{Words, word_at, small_at, two_of, row, by_row, by_rows, whole}
 use Rattle.swap_transcript.specs.Messages.{msg_rows, msg_at, HasMsgWords}
 use Rattle.swap_transcript.specs.Events.{event_at}
-use Rattle.swap_transcript.specs.Told.{Told, Saw, Entered, Shown, entry_of}
+use Rattle.swap_transcript.specs.Told.{Told, Saw, Entered, entry_of}
 use Rattle.swap_transcript.specs.Gave.{slots_of, evicted_of, reply_of, ended_of, gave_behind}
 use Rattle.swap_transcript.specs.Results.{bare, last_number, one_number, two_numbers, via_rows, via_of, wait_of, again_of, second_of, asked_of, hosted_behind, hosted_of, rounded_of, took_of, gave_of, out_rows, in_rows, finish_rows, start_rows, disk_rows, tick_rows, map_rows, connect_rows, cut_rows, crash_rows, give_rows, take_rows, nothing_rows, seen_of, agrees, entered_at, told_of}
 use Rattle.swap_transcript.specs.Printed.{HasViaWords, MaySee, MayTell, HasPairWords, told_words, pair_words}
 use Rattle.swap_transcript.specs.Transcripts.{Pair, pair_behind, pair_of}
-use Rattle.swap_transcript.proofs.Front.{bind_some, bound, small-only, small_at-only, RowSays, Prints, from-row, one-row, by_row-only, by_row_or-only, by_rows-only, two-only, Number}
+use Rattle.swap_transcript.proofs.Front.{bind_some, small-only, small_at-only, RowSays, Prints, from-row, one-row, by_row-only, by_row_or-only, by_rows-only, two-only, Number}
 use Rattle.swap_transcript.proofs.MsgWords.{msg_rows-only, msg_at-only}
 use Rattle.swap_transcript.proofs.EventWords.{event_at-only}
 use Rattle.swap_transcript.proofs.EntryWords.{word_at-only}

@@ -1,8 +1,8 @@
 -- A whole transcript is read from its lines, and from no others.
-use Rattle.std.proofs.Common.{◌≡◌, ℕ, ◌+◌, ◌^◌, ◌<◌, ◌≤◌, Bool, true, false, cond, eqb, nat_le, List, [], ◌∷◌, ◌++◌, append_assoc, append-nil, map, length, Option, None, Some, Result, Ok, Err, codes, refl, sym, ap, ap₂, subst, ◌∙◌, arith}
+use Rattle.std.proofs.Common.{◌≡◌, ℕ, ◌^◌, ◌<◌, Bool, true, false, cond, eqb, nat_le, List, [], ◌∷◌, ◌++◌, append_assoc, append-nil, map, Option, None, Some, Result, Ok, Err, codes, refl, sym, ap, ap₂, subst, ◌∙◌, arith}
 use Rattle.std.specs.Fmt.{decimal}
-use Rattle.std.specs.Option.{option_and_then, option_map, option_map_or}
-use Rattle.std.proofs.lemmas.Bool.{eqb-true, eq-eqb, and_parts, leb-true}
+use Rattle.std.specs.Option.{option_map, option_map_or}
+use Rattle.std.proofs.lemmas.Bool.{eqb-true, and_parts, leb-true}
 use Rattle.std.proofs.lemmas.Option.{cond_some}
 use Rattle.std.proofs.lemmas.Slice.Eq.{bytes_eq-Decides}
 use Rattle.swap_base.specs.Sizes.{Sizes, AreInLimits, IsWithin, is_within, limits, first_beyond}
@@ -11,26 +11,21 @@ use Rattle.swap_base.specs.Lending.{lender_limits}
 use Rattle.swap_base.specs.declared.Field.{Field}
 use Rattle.swap_base.specs.declared.Field.TheVariants.{Slots, Headroom, Extra}
 use Rattle.swap_base.specs.declared.geometry.LenderSpec.{LenderSpec}
-use Rattle.swap_io.specs.Words.{number}
-use Rattle.swap_io.proofs.Back.{number_again, number_one}
-use Rattle.swap_record.specs.History.{pushed}
+use Rattle.swap_io.proofs.Back.{number_one}
 use Rattle.swap_script.specs.declared.Grammar.TheVariants as grammar
 use Rattle.swap_script.specs.declared.Why.{Why}
 use Rattle.swap_script.specs.declared.Why.TheVariants as why
 use Rattle.swap_script.specs.declared.ScriptRefused.{ScriptRefused}
-use Rattle.swap_script.specs.Lines.{words_of, kept_lines, is_word}
-use Rattle.swap_script.specs.Forms.{small, sizes_words, spec_words, one_word}
-use Rattle.swap_script.specs.Reading.{◌>>=◌, at, unless, within, fielded, sizes_within, geometry_line, spec_within, lending_tests, lender_line, lender_rest, Front, front_from, end_of, IsWithinLimits}
+use Rattle.swap_script.specs.Lines.{words_of, is_word}
+use Rattle.swap_script.specs.Forms.{small, sizes_words, spec_words}
+use Rattle.swap_script.specs.Reading.{◌>>=◌, at, unless, fielded, sizes_within, geometry_line, spec_within, lending_tests, lender_line, lender_rest, Front, front_from, IsWithinLimits}
 use Rattle.swap_transcript.specs.Readers.{Words}
-use Rattle.swap_transcript.specs.Transcripts.{Pair, Transcript, Above, Judged, nothing_above, counted, tests, checked, end_rest, end_number, counts, ended_at, nothing_behind, before, pairs_from, transcript_lines, transcript, pair_of, with_told, with_pairs, no_entries, judged, entries_in}
-use Rattle.swap_transcript.specs.Told.{Told, Saw, Entered}
-use Rattle.swap_transcript.specs.Printed.{HasPairWords, pair_words}
-use Rattle.swap_transcript.specs.Verdicts.{entries_of}
-use Rattle.swap_transcript.specs.Laws.{sizes_rest, spec_rest, geometry_words, lender_words, end_words, transcript_words, words_in, MayStandBelow, MayFollow, IsSpelled}
+use Rattle.swap_transcript.specs.Transcripts.{Pair, Above, counted, tests, checked, end_rest, end_number, counts, ended_at, nothing_behind, before, pairs_from, pair_of}
+use Rattle.swap_transcript.specs.Printed.{pair_words}
+use Rattle.swap_transcript.specs.Laws.{sizes_rest, spec_rest, geometry_words, lender_words, end_words, words_in, MayStandBelow, MayFollow}
 use Rattle.swap_script.proofs.Read.{passes}
 use Rattle.swap_transcript.proofs.Front.{bind_some, bound, small-only, small-back}
 use Rattle.swap_transcript.proofs.ResultWords.{pair_of-only}
-use Rattle.swap_transcript.proofs.ResultBack.{pair_of-back}
 
 pub bind_ok : {A B E : Type 0} (r : Result A E) (f : A → Result B E) (y : B) → (r >>= f) ≡ Ok y → (x : A) × (r ≡ Ok x) × (f x ≡ Ok y)
 bind_ok (Ok x) f y e = (x, refl, e)

@@ -1,25 +1,20 @@
 -- What a transcript spells is read back, and two that spell one text are one.
-use Rattle.std.proofs.Common.{◌≡◌, ℕ, ◌+◌, ◌^◌, ◌<◌, ◌≤◌, Bool, true, false, cond, eqb, List, [], ◌∷◌, ◌++◌, map, length, Option, None, Some, Result, Ok, Err, codes, refl, sym, ap, ap₂, subst, ◌∙◌, arith}
-use Rattle.std.specs.Fmt.{decimal}
-use Rattle.std.specs.Option.{option_and_then, option_map_or}
+use Rattle.std.proofs.Common.{◌≡◌, ℕ, ◌+◌, ◌≤◌, cond, List, [], ◌∷◌, ◌++◌, map, length, None, Some, Ok, codes, refl, sym, ap, ap₂, subst, ◌∙◌, arith}
+use Rattle.std.specs.Option.{option_map_or}
 use Rattle.std.proofs.lemmas.Bool.{eq-eqb}
-use Rattle.swap_base.specs.Sizes.{Sizes, AreInLimits, first_beyond}
-use Rattle.swap_base.specs.declared.geometry.LenderSpec.{LenderSpec}
-use Rattle.swap_base.specs.declared.Caller.{Caller}
+use Rattle.swap_base.specs.Sizes.{Sizes, AreInLimits}
 use Rattle.swap_io.proofs.Back.{number_again}
 use Rattle.swap_wire.specs.declared.Event.{Event}
 use Rattle.swap_wire.specs.declared.Event.TheVariants as event
 use Rattle.swap_script.specs.declared.Grammar.TheVariants as grammar
-use Rattle.swap_script.specs.declared.Why.{Why}
 use Rattle.swap_script.specs.declared.Why.TheVariants as why
-use Rattle.swap_script.specs.declared.ScriptRefused.{ScriptRefused}
 use Rattle.swap_script.specs.Lines.{words_of, kept_lines}
-use Rattle.swap_script.specs.Transcript.{event_words, event_name}
-use Rattle.swap_script.specs.Reading.{◌>>=◌, at, unless, geometry_line, lender_rest, Front, front_from, end_of, caller_of}
+use Rattle.swap_script.specs.Transcript.{event_words}
+use Rattle.swap_script.specs.Reading.{◌>>=◌, at, unless, geometry_line, lender_rest, Front, front_from, end_of}
 use Rattle.swap_transcript.specs.Readers.{Words}
-use Rattle.swap_transcript.specs.Transcripts.{Pair, Transcript, Above, Judged, nothing_above, counted, tests, checked, end_rest, end_number, counts, ended_at, nothing_behind, before, pairs_from, transcript_lines, transcript, pair_of, with_told, with_pair, with_pairs, no_entries, judged, entries_in}
+use Rattle.swap_transcript.specs.Transcripts.{Pair, Transcript, Above, Judged, nothing_above, counted, checked, end_rest, end_number, counts, ended_at, before, pairs_from, transcript_lines, transcript, pair_of, with_told, with_pair, with_pairs, no_entries, entries_in}
 use Rattle.swap_transcript.specs.Told.{Told, Saw, Entered}
-use Rattle.swap_transcript.specs.Printed.{HasPairWords, pair_words, told_words}
+use Rattle.swap_transcript.specs.Printed.{pair_words, told_words}
 use Rattle.swap_transcript.specs.Verdicts.{entries_of}
 use Rattle.swap_transcript.specs.Laws.{geometry_words, lender_words, end_words, transcript_words, words_in, MayStandBelow, MayFollow, IsSpelled}
 use Rattle.swap_transcript.proofs.ResultBack.{pair_of-back}

@@ -1,8 +1,7 @@
 -- An event at the front of a line, by its words: those of a page-out end before its page.
-use Rattle.std.specs.Prelude.{ℕ, Bool, true, false, if◌then◌else◌, List, [], ◌∷◌, Option, None, Some, codes}
+use Rattle.std.specs.Prelude.{Bool, List, [], ◌∷◌, Option, None, Some, codes}
 use Rattle.swap_base.specs.declared.DiskWhich.{DiskWhich}
 use Rattle.swap_base.specs.declared.DiskWhich.TheVariants as which
-use Rattle.swap_base.specs.declared.Lender.{Lender}
 use Rattle.swap_script.specs.Forms.{◌>>=◌, ok_word}
 use Rattle.swap_wire.specs.declared.Event.{Event}
 use Rattle.swap_wire.specs.declared.Event.TheVariants as event

@@ -1,12 +1,12 @@
 -- What a lender did with a message, and the slots of a set.
-use Rattle.std.specs.Prelude.{ℕ, ◌+◌, ◌^◌, ◌&&◌, ◌==◌, nat_lt, nat_le, if◌then◌else◌, List, [], ◌∷◌, Option, None, Some, codes, bit_or}
+use Rattle.std.specs.Prelude.{ℕ, ◌+◌, ◌^◌, ◌&&◌, ◌==◌, nat_lt, nat_le, if◌then◌else◌, [], ◌∷◌, Option, None, Some, codes, bit_or}
 use Rattle.swap_base.specs.Sizes.{Sizes}
 use Rattle.swap_script.specs.Forms.{◌>>=◌, small, no_word}
 use Rattle.swap_script.specs.Lines.{is_word}
 use Rattle.swap_wire.specs.declared.Msg.{Msg}
 use Rattle.swap_wire.specs.declared.Seen.{Seen}
 use Rattle.swap_wire.specs.declared.Seen.TheVariants as seen
-use Rattle.swap_transcript.specs.Readers.{Words, Row, row, by_row}
+use Rattle.swap_transcript.specs.Readers.{Words}
 use Rattle.swap_transcript.specs.Messages.{msg_at}
 
 -- the slots of a set, ascending, behind those below `least`

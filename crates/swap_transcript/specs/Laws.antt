@@ -1,5 +1,5 @@
 -- What a transcript is: its lines are those that its sizes, its lenders and its pairs print.
-use Rattle.std.specs.Prelude.{◌≡◌, ℕ, ◌+◌, ◌<◌, ◌^◌, ◌↔◌, List, [], ◌∷◌, ◌++◌, map, length, Option, None, Some, Result, Ok, codes}
+use Rattle.std.specs.Prelude.{◌≡◌, ℕ, ◌↔◌, List, [], ◌∷◌, ◌++◌, map, Option, None, Some, Ok, codes}
 use Rattle.std.specs.Fmt.{decimal}
 use Rattle.swap_base.specs.Sizes.{Sizes, AreInLimits, first_beyond}
 use Rattle.swap_base.specs.declared.geometry.LenderSpec.{LenderSpec}

@@ -1,5 +1,5 @@
 -- A message, by its first word and its numbers. The word of a greeting has no sizes: they are the geometry's.
-use Rattle.std.specs.Prelude.{ℕ, ◌≡◌, ◌^◌, ◌<◌, List, [], ◌∷◌, ◌++◌, Option, Some, codes}
+use Rattle.std.specs.Prelude.{ℕ, ◌≡◌, ◌^◌, ◌<◌, List, [], ◌∷◌, Option, Some, codes}
 use Rattle.swap_base.specs.Sizes.{Sizes}
 use Rattle.swap_script.specs.Forms.{◌>>=◌}
 use Rattle.swap_wire.specs.declared.Msg.{Msg}

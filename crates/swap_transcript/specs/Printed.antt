@@ -1,6 +1,6 @@
 -- What a line prints of an event and of what it tells, and which of them have words: each number fits, and what is told
 -- is one of the results of that kind of event.
-use Rattle.std.specs.Prelude.{◌≡◌, ℕ, ◌^◌, ◌<◌, Bool, true, false, List, [], ◌∷◌, ◌++◌, length, replicate, Option, None, Some, IfSome, codes}
+use Rattle.std.specs.Prelude.{◌≡◌, ℕ, ◌^◌, ◌<◌, true, false, List, [], ◌∷◌, ◌++◌, replicate, Option, None, Some, IfSome, codes}
 use Rattle.std.specs.Fmt.{decimal}
 use Rattle.swap_base.specs.Sizes.{Sizes}
 use Rattle.swap_base.specs.declared.EntryNo.{EntryNo}
@@ -16,7 +16,6 @@ use Rattle.swap_io.specs.Words.{pattern, shortest}
 use Rattle.swap_record.specs.declared.Op.{Op}
 use Rattle.swap_record.specs.declared.Op.TheVariants as op
 use Rattle.swap_record.specs.Text.{op_words}
-use Rattle.swap_wire.specs.declared.Msg.{Msg}
 use Rattle.swap_wire.specs.declared.Event.{Event}
 use Rattle.swap_wire.specs.declared.Event.TheVariants as event
 use Rattle.swap_wire.specs.declared.Seen.{Seen}

@@ -1,8 +1,7 @@
 -- Transcripts by hand, and texts that are none.
-use Rattle.std.specs.Prelude.{◌≡◌, ℕ, List, [], ◌∷◌, length, replicate, flat_map, None, Some, Result, Ok, Err, codes}
+use Rattle.std.specs.Prelude.{◌≡◌, ℕ, List, [], ◌∷◌, length, replicate, flat_map, None, Some, Ok, Err, codes}
 use Rattle.swap_base.specs.Sizes.{Sizes}
 use Rattle.swap_base.specs.declared.Origin.TheVariants as origin
-use Rattle.swap_base.specs.declared.DiskWhich.TheVariants as which
 use Rattle.swap_record.specs.declared.Op.TheVariants as op
 use Rattle.swap_wire.specs.declared.Msg.TheVariants as msg
 use Rattle.swap_wire.specs.declared.Event.{Event}
@@ -12,8 +11,8 @@ use Rattle.swap_wire.specs.declared.Seen.TheVariants as seen
 use Rattle.swap_script.specs.declared.Why.{Why}
 use Rattle.swap_script.specs.declared.Why.TheVariants as why
 use Rattle.swap_script.specs.Lines.{ended}
-use Rattle.swap_transcript.specs.Told.{Told, Saw, Entered}
-use Rattle.swap_transcript.specs.Transcripts.{Pair, Transcript, transcript, judged}
+use Rattle.swap_transcript.specs.Told.{Saw, Entered}
+use Rattle.swap_transcript.specs.Transcripts.{Pair, transcript, judged}
 
 abbrev G : List ℕ
 G = codes "geometry 8 4 2 4 2 4 20"

@@ -11,12 +11,11 @@ use Rattle.swap_record.specs.declared.Op.TheVariants as op
 use Rattle.swap_record.specs.History.{is_page_out}
 use Rattle.swap_script.specs.Forms.{◌>>=◌, small, no_word}
 use Rattle.swap_script.specs.Lines.{is_word}
-use Rattle.swap_wire.specs.declared.Msg.{Msg}
 use Rattle.swap_wire.specs.declared.Event.{Event}
 use Rattle.swap_wire.specs.declared.Event.TheVariants as event
 use Rattle.swap_wire.specs.declared.Seen.{Seen}
 use Rattle.swap_wire.specs.declared.Seen.TheVariants as seen
-use Rattle.swap_transcript.specs.Readers.{Words, word_at, small_at, one_of, two_of, three_of, Row, row, by_row, by_row_or, by_rows, whole}
+use Rattle.swap_transcript.specs.Readers.{Words, word_at, small_at, one_of, two_of, Row, row, by_row, by_row_or, by_rows, whole}
 use Rattle.swap_transcript.specs.Messages.{msg_rows}
 use Rattle.swap_transcript.specs.Told.{Told, Saw, Entered, Shown, entry_of}
 use Rattle.swap_transcript.specs.Gave.{slots_of, gave_behind}

@@ -1,6 +1,5 @@
 -- What the code's readers give in the terms of the reading: the bytes of an entry's page stand beside it.
-use Rattle.std.specs.Prelude.{◌≡◌, ℕ, List, Option, None, Some, Result, Ok, Err}
-use Rattle.swap_record.specs.Book.{Book}
+use Rattle.std.specs.Prelude.{ℕ, List}
 use Rattle.swap_transcript.specs.declared.told.Did.{Did as CodeDid}
 use Rattle.swap_transcript.specs.declared.told.Shown.{Shown as CodeShown}
 use Rattle.swap_transcript.specs.declared.results.Told.{Told as CodeTold}

@@ -1,5 +1,5 @@
 -- What a line tells of its event: what was seen, and where that is an entry the entry itself, as it is printed.
-use Rattle.std.specs.Prelude.{ℕ, Bool, true, false, ◌&&◌, ◌==◌, if◌then◌else◌, List, [], ◌∷◌, ◌++◌, Option, None, Some, replicate, codes}
+use Rattle.std.specs.Prelude.{ℕ, if◌then◌else◌, List, [], ◌∷◌, Option, None, Some, replicate, codes}
 use Rattle.swap_base.specs.declared.Page.{Page}
 use Rattle.swap_base.specs.declared.EntryNo.{EntryNo}
 use Rattle.swap_base.specs.declared.Lender.{Lender}
@@ -13,7 +13,6 @@ use Rattle.swap_record.specs.History.{is_page_out}
 use Rattle.swap_script.specs.Forms.{◌>>=◌, small}
 use Rattle.swap_script.specs.Lines.{is_word}
 use Rattle.swap_wire.specs.declared.Seen.{Seen}
-use Rattle.swap_wire.specs.declared.Seen.TheVariants as seen
 use Rattle.swap_transcript.specs.Readers.{Words, word_at, small_at, wide_at, one_of, Row, row, by_rows}
 
 -- an entry as a line prints it: its printed number, its page, what the call did, the page's bytes, which are zeros where

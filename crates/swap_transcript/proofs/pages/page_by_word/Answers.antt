@@ -1,6 +1,5 @@
-use Rattle.std.proofs.Common.{◌≡◌, ◌++◌, Bool, true, false, length, Some, refl, sym, ap, ◌∙◌, arith}
-use Rattle.std.specs.Str.{bytes_eq}
-use Rattle.swap_io.specs.Words.{pattern, shortest}
+use Rattle.std.proofs.Common.{◌++◌, true, false, length, sym, ap, ◌∙◌, arith}
+use Rattle.swap_io.specs.Words.{shortest}
 use Rattle.swap_record.proofs.Spelled.{shortest_within}
 use Rattle.swap_transcript.proofs.Lines.{page_word-is}
 use Rattle.swap_transcript.proofs.pages.page_by_word.Goals as goal
