@@ -7,7 +7,7 @@ use Rattle.swap_io.specs.Causes.{Rose, AppendsFront}
 use Rattle.swap_io.specs.Gathered.{Gathered, gathered}
 use Rattle.swap_run.specs.declared.Ending.{Ending}
 use Rattle.swap_run.specs.declared.Ending.TheVariants as ending
-use Rattle.swap_run.specs.Clause.{Command, RunScript, Stream, stream, Ends, ScriptEnds, RanScript, BrokeOff}
+use Rattle.swap_run.specs.Clause.{Stream, stream, ScriptEnds, RanScript, BrokeOff}
 use Rattle.swap_run.specs.Run.{transcript_of}
 use Rattle.swap_run.specs.Blocks.{IsFresh, is_whole, LastWrite, HandsOnAt, HandsOn}
 
@@ -17,53 +17,43 @@ front_of y held text n e =
     let short : length y ≤ n = omega (arith, ap length e, length-append y held, length-take n text) in
     sym (take_at y held (length y) refl) ∙ ap (λ r. take (length y) r) e ∙ take-take (length y) n text short
 
-out_front : (before mid : Option (List ℕ)) (held text : List ℕ) → IsFresh before → AppendsFront (append_known before []) (append_known mid held) text → AppendsFront before mid text
+pub out_front : (before mid : Option (List ℕ)) (held text : List ℕ) → IsFresh before → AppendsFront (append_known before []) (append_known mid held) text → AppendsFront before mid text
 out_front None mid held text fresh p = (0, tt)
 out_front (Some x) None held text fresh p = absurd p.1
 out_front (Some x) (Some y) held text fresh p =
     let whole : y ++ held ≡ take p.0 text = p.1 ∙ ap (λ r. (r ++ []) ++ take p.0 text) fresh in
     (length y, front_of y held text p.0 whole ∙ ap (λ r. r ++ take (length y) text) (sym fresh))
 
-out_all : (before mid now : Option (List ℕ)) (held text : List ℕ) → held ≡ [] → Appends (append_known before []) mid text → Keeps mid (append_known now held) → Appends before now text
+pub out_all : (before mid now : Option (List ℕ)) (held text : List ℕ) → held ≡ [] → Appends (append_known before []) mid text → Keeps mid (append_known now held) → Appends before now text
 out_all None mid now held text none p q = tt
 out_all (Some x) None now held text none p q = absurd p
 out_all (Some x) (Some g) None held text none p q = absurd q
 out_all (Some x) (Some g) (Some y) held text none p q =
     sym (append-nil y) ∙ ap (λ r. y ++ r) (sym none) ∙ q ∙ p ∙ ap (λ r. r ++ text) (append-nil x)
 
-out_nothing : (before mid : Option (List ℕ)) (held : List ℕ) → IsFresh before → Keeps (append_known before []) (append_known mid held) → Keeps before mid
+pub out_nothing : (before mid : Option (List ℕ)) (held : List ℕ) → IsFresh before → Keeps (append_known before []) (append_known mid held) → Keeps before mid
 out_nothing None mid held fresh p = tt
 out_nothing (Some x) None held fresh p = absurd p
 out_nothing (Some x) (Some y) held fresh p =
     nil_from_length y (omega (arith, ap length (p ∙ append-nil x ∙ fresh), length-append y held)) ∙ sym fresh
 
-all_is_front : (before now : Option (List ℕ)) (text : List ℕ) → Appends before now text → AppendsFront before now text
+pub all_is_front : (before now : Option (List ℕ)) (text : List ℕ) → Appends before now text → AppendsFront before now text
 all_is_front before now text p = (length text, subst (λ r. Appends before now r) (sym (take_all (length text) text (omega arith))) p)
 
 -- a call that ends without a whole transcript
-other_ends : (c : Option Command) (source : Stream) (before mid : Option (List ℕ)) (held : List ℕ) (f g : ℕ) (end : Ending) → IsFresh before → is_whole end ≡ false
-    → Ends c source (stream (append_known before []) (append_known mid held) f g) end → Ends c source (stream before mid f g) end
-other_ends None source before mid held f g ending.Usage fresh other p = (p.0, out_nothing before mid held fresh p.1)
-other_ends None source before mid held f g ending.Done fresh other p = absurd p
-other_ends None source before mid held f g ending.Faulted fresh other p = absurd p
-other_ends None source before mid held f g ending.ReadFailed fresh other p = absurd p
-other_ends None source before mid held f g ending.WriteFailed fresh other p = absurd p
-other_ends None source before mid held f g (ending.Refused r) fresh other p = absurd p
-other_ends None source before mid held f g ending.NoMemory fresh other p = absurd p
-other_ends None source before mid held f g ending.NotLegal fresh other p = absurd p
-other_ends None source before mid held f g ending.HostFailed fresh other p = absurd p
-other_ends None source before mid held f g ending.TooLong fresh other p = absurd p
-other_ends (Some RunScript) source before mid held f g ending.Done fresh other p = cc
-other_ends (Some RunScript) source before mid held f g ending.Faulted fresh other p = cc
-other_ends (Some RunScript) source before mid held f g ending.Usage fresh other p = absurd p
-other_ends (Some RunScript) source before mid held f g ending.ReadFailed fresh other p = (p.0, out_nothing before mid held fresh p.1)
-other_ends (Some RunScript) source before mid held f g ending.WriteFailed fresh other p =
+other_ends : (source : Stream) (before mid : Option (List ℕ)) (held : List ℕ) (f g : ℕ) (end : Ending) → IsFresh before → is_whole end ≡ false
+    → ScriptEnds source (stream (append_known before []) (append_known mid held) f g) end → ScriptEnds source (stream before mid f g) end
+other_ends source before mid held f g ending.Done fresh other p = cc
+other_ends source before mid held f g ending.Faulted fresh other p = cc
+other_ends source before mid held f g ending.Usage fresh other p = absurd p
+other_ends source before mid held f g ending.ReadFailed fresh other p = (p.0, out_nothing before mid held fresh p.1)
+other_ends source before mid held f g ending.WriteFailed fresh other p =
     record { script = p.script; read = p.read; wrote = out_front before mid held (transcript_of p.script) fresh p.wrote; failed = p.failed }
-other_ends (Some RunScript) source before mid held f g (ending.Refused r) fresh other p = (p.0, out_nothing before mid held fresh p.1)
-other_ends (Some RunScript) source before mid held f g ending.NoMemory fresh other p = out_nothing before mid held fresh p
-other_ends (Some RunScript) source before mid held f g ending.NotLegal fresh other p = absurd p
-other_ends (Some RunScript) source before mid held f g ending.HostFailed fresh other p = absurd p
-other_ends (Some RunScript) source before mid held f g ending.TooLong fresh other p = (p.0, out_nothing before mid held fresh p.1)
+other_ends source before mid held f g (ending.Refused r) fresh other p = (p.0, out_nothing before mid held fresh p.1)
+other_ends source before mid held f g ending.NoMemory fresh other p = out_nothing before mid held fresh p
+other_ends source before mid held f g ending.NotLegal fresh other p = absurd p
+other_ends source before mid held f g ending.HostFailed fresh other p = absurd p
+other_ends source before mid held f g ending.TooLong fresh other p = (p.0, out_nothing before mid held fresh p.1)
 
 -- a transcript that was gathered whole and handed on, or not
 ran_whole : (source : Stream) (before : Option (List ℕ)) (f : ℕ) (mid now : Gathered) (fault : Bool) → now.held ≡ [] → Keeps (gathered mid) (gathered now) → RanScript source (stream (append_known before []) (gathered mid) f mid.faults) fault
@@ -102,7 +92,7 @@ whole_ends source before f mid now ending.ReadFailed end fresh later whole last 
 whole_ends source before f mid now ending.WriteFailed end fresh later whole last p = cc
 whole_ends source before f mid now (ending.Refused r) end fresh later whole last p = cc
 whole_ends source before f mid now ending.NoMemory end fresh later whole last p = cc
-whole_ends source before f mid now ending.NotLegal end fresh later whole last p = cc
+whole_ends source before f mid now ending.NotLegal end fresh later whole last p = absurd p
 whole_ends source before f mid now ending.HostFailed end fresh later whole last p = cc
 whole_ends source before f mid now ending.TooLong end fresh later whole last p = cc
 
@@ -112,7 +102,7 @@ hands_on_at true source before f mid now ran end is fresh later hands p = whole_
 hands_on_at false source before f mid now ran end is fresh later hands p =
     subst (λ e. ScriptEnds source (stream before now.handed f now.faults) e) (sym hands.0)
     (subst (λ (s : Gathered). ScriptEnds source (stream before s.handed f s.faults) ran) (sym hands.1)
-    (other_ends (Some RunScript) source before mid.handed mid.held f mid.faults ran fresh is p))
+    (other_ends source before mid.handed mid.held f mid.faults ran fresh is p))
 
 -- how a script's run ends for the sink behind one that gathers
 pub ends_in_blocks : (source : Stream) (before mid now : Gathered) (ran end : Ending) → before.held ≡ [] → IsFresh before.handed → before.faults ≤ mid.faults → HandsOn ran mid now end

@@ -16,9 +16,10 @@ use Rattle.swap_script.specs.declared.ScriptRefused.{ScriptRefused}
 use Rattle.swap_script.specs.Laws.{EventsInRange, LendersMayLend, HandsInAPage, PagesAreWhole}
 use Rattle.swap_script.specs.Reading as reading
 use Rattle.swap_script.specs.Transcript.{end_line}
+use Rattle.swap_run.specs.declared.Command.{Command}
 use Rattle.swap_run.specs.declared.Ending.{Ending}
 use Rattle.swap_run.specs.declared.Ending.TheVariants as ending
-use Rattle.swap_run.specs.Clause.{Command, Ends, Stream, Told, TextEnds, ScriptEnds}
+use Rattle.swap_run.specs.Clause.{Ends, Stream, Told, TextEnds, ScriptEnds}
 use Rattle.swap_run.specs.Printing.{headers, lines_from}
 use Rattle.swap_run.specs.Run.{transcript_of, history_of, ScriptsKeepTheHeadline}
 

@@ -5,3 +5,6 @@ pub mod Ends
 pub mod Unfailed
 pub mod BlockEnds
 pub mod Refused
+pub mod CheckSteps
+pub mod CheckCompletes
+pub mod ReadText

@@ -11,10 +11,11 @@ abbrev pub IsFresh : Option (List ℕ) → Type 0
 IsFresh None = Unit {0}
 IsFresh (Some bytes) = bytes ≡ []
 
--- the endings at which the transcript is written whole
+-- the endings at which a transcript, or a verdict, is written whole
 abbrev pub is_whole : Ending → Bool
 is_whole ending.Done = true
 is_whole ending.Faulted = true
+is_whole ending.NotLegal = true
 is_whole _ = false
 
 -- what was gathered is handed on whole, or the last write failed
@@ -25,6 +26,6 @@ abbrev pub HandsOnAt : Bool → Ending → Gathered → Gathered → Ending → 
 HandsOnAt true ran before now end = LastWrite ran before now end
 HandsOnAt false ran before now end = (end ≡ ran) × (now ≡ before)
 
--- only a transcript that was written whole is handed on
+-- only what was written whole is handed on
 abbrev pub HandsOn : Ending → Gathered → Gathered → Ending → Type 0
 HandsOn ran before now end = HandsOnAt (is_whole ran) ran before now end

@@ -7,15 +7,22 @@ use Rattle.swap_script.specs.Lines.{is_word, ended}
 use Rattle.swap_script.specs.Reading as reading
 use Rattle.swap_script.specs.Transcript.{refusal}
 use Rattle.swap_script.specs.declared.TheConstants.{TEXT_LIMIT}
+use Rattle.swap_base.specs.declared.EntryNo.{EntryNo}
+use Rattle.swap_record.specs.declared.Verdict.{Verdict}
+use Rattle.swap_record.specs.declared.Verdict.TheVariants as verdict
+use Rattle.swap_transcript.specs.declared.Judgement.{Judgement}
+use Rattle.swap_transcript.specs.Transcripts.{Transcript}
+use Rattle.swap_transcript.specs.Transcripts as transcripts
+use Rattle.swap_transcript.specs.Verdicts.{IsJudged}
+use Rattle.swap_run.specs.Judging.{verdict_line}
+use Rattle.swap_run.specs.declared.Command.{Command}
+use Rattle.swap_run.specs.declared.Command.TheVariants.{RunScript, CheckTranscript}
 use Rattle.swap_run.specs.declared.Ending.{Ending}
 use Rattle.swap_run.specs.declared.Ending.TheVariants as ending
 use Rattle.swap_run.specs.Run.{history_of, transcript_of, has_failed, IsHeadline}
 
-pub data Command : Type 0 where
-  RunScript : Command
-
 abbrev pub command_of : List (List ℕ) → Option Command
-command_of (word ∷ []) = if is_word (codes "script") word then Some RunScript else None
+command_of (word ∷ []) = if is_word (codes "script") word then Some RunScript else (if is_word (codes "check") word then Some CheckTranscript else None)
 command_of _ = None
 
 -- a source, or a sink, over a call: the bytes left or taken, where they are told, and its count of faults
@@ -107,11 +114,55 @@ ScriptEnds source out ending.NotLegal = ⊥
 ScriptEnds source out ending.HostFailed = ⊥
 ScriptEnds source out ending.TooLong = ReadTooMuch source × TookNothing out
 
+-- the source was read to its end, and its text is a transcript that is judged so
+pub record Judged (source : Stream) (j : Judgement) : Type 0 where
+  pub text : List ℕ
+  pub was_read : WasReadWhole source.before source.now text
+  pub within : length text ≤ TEXT_LIMIT
+  pub transcript : Transcript
+  pub is_transcript : transcripts.transcript text ≡ Ok transcript
+  pub judges : IsJudged transcript j
+
+-- out took the line of this verdict, and nothing else
+pub record Checked (source out : Stream) (verdict : Verdict) : Type 0 where
+  pub judgement : Judgement
+  pub judged : Judged source judgement
+  pub is : judgement.verdict ≡ verdict
+  pub wrote : Appends out.before out.now (verdict_line judgement)
+
+-- a write failed: out took a front of the verdict's line
+pub record CheckBrokeOff (source out : Stream) : Type 0 where
+  pub judgement : Judgement
+  pub judged : Judged source judgement
+  pub wrote : AppendsFront out.before out.now (verdict_line judgement)
+  pub failed : Failed out
+
+-- a text that is no transcript, whose first line at fault is this one
+pub record ReadNoTranscript (source : Stream) (refused : ScriptRefused) : Type 0 where
+  pub text : List ℕ
+  pub was_read : WasReadWhole source.before source.now text
+  pub within : length text ≤ TEXT_LIMIT
+  pub is_refused : transcripts.transcript text ≡ Err refused
+
+-- what holds where a check ends so
+abbrev pub CheckEnds : Stream → Stream → Ending → Type 0
+CheckEnds source out ending.Done = Checked source out verdict.Legal
+CheckEnds source out ending.NotLegal = (at : EntryNo) × Checked source out (verdict.NotLegal at)
+CheckEnds source out ending.Faulted = ⊥
+CheckEnds source out ending.Usage = ⊥
+CheckEnds source out ending.ReadFailed = ReadBrokeOff source × TookNothing out
+CheckEnds source out ending.WriteFailed = CheckBrokeOff source out
+CheckEnds source out (ending.Refused refused) = ReadNoTranscript source refused × TookNothing out
+CheckEnds source out ending.NoMemory = TookNothing out
+CheckEnds source out ending.HostFailed = ⊥
+CheckEnds source out ending.TooLong = ReadTooMuch source × TookNothing out
+
 -- words that are no form are answered by Usage, and by nothing else
 abbrev pub Ends : Option Command → Stream → Stream → Ending → Type 0
 Ends None source out ending.Usage = TookNothing source × TookNothing out
 Ends None source out _ = ⊥
 Ends (Some RunScript) source out end = ScriptEnds source out end
+Ends (Some CheckTranscript) source out end = CheckEnds source out end
 
 -- the status and the words on err
 abbrev pub status_of : Ending → ℕ

@@ -1,17 +1,27 @@
 //! The top calls of the program.
 #![tactic(auto)]
 
+ghost use Rattle.swap_run.specs.Checks.{ChecksTranscripts, ChecksRefuse};
 ghost use Rattle.swap_run.specs.Clause.{Completes};
 ghost use Rattle.swap_run.specs.Rows.{QueueRows, DiskRows, LenderRows, LinkRows, RefusedRows};
 ghost use Rattle.swap_run.specs.Run.{FailsWithTheDisk, ScriptsKeepTheHeadline};
 
+mod check;
 mod print;
 mod run;
 mod tell;
 
 pub use run::{run_lab, run_lab_in_blocks};
+use swap_record::passes_to_prefixes;
 use swap_script::{ScriptRefused, events_in_range, lenders_may_lend, pages_are_whole};
 use swap_world::{always_legal, each_call_once, entries_are_seen};
+
+/// What the program's words ask for.
+#[derive(Clone, Copy, Debug, PartialEq, Eq)]
+pub enum Command {
+    RunScript,
+    CheckTranscript,
+}
 
 /// How a call of the program ends.
 #[derive(Clone, Copy, Debug, PartialEq, Eq)]
@@ -57,6 +67,16 @@ pub fn fails_with_the_disk()
 pub fn completes()
     ensures { Completes }
 {}
+
+/// A check of a transcript that is told and within the limit, of which neither `source` nor `out` fails, ends as legal
+/// exactly where the transcript is, else as not legal, or for want of memory; and a text that is none is refused by its
+/// first line at fault, or for want of memory.
+pub fn checks_complete()
+    ensures transcripts { ChecksTranscripts }
+    ensures refuse { ChecksRefuse }
+{
+    passes_to_prefixes();
+}
 
 /// Scripts and their transcripts, byte by byte, and texts that are refused.
 pub fn rows()

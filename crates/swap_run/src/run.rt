@@ -1,15 +1,16 @@
-ghost use Rattle.std.specs.Prelude.{◌≡◌, ◌≤◌, length, map, All, true, false, Some, None, [], IfOk, OnErr, Err};
+ghost use Rattle.std.specs.Prelude.{◌≡◌, ◌≤◌, length, map, All, true, [], IfOk, OnErr, Err};
 ghost use Rattle.swap_record.specs.History.{History};
 ghost use Rattle.swap_script.specs.Reading.{script as script_of, IsWithinLimits};
 ghost use Rattle.swap_world.specs.World.{start};
-ghost use Rattle.swap_run.specs.Clause.{EndsWith, RunScript, stream, command_of, TextEnds, LabEnds, ScriptEnds, status_of};
+ghost use Rattle.swap_run.specs.Clause.{Ends, EndsWith, stream, command_of, TextEnds, LabEnds, ScriptEnds, status_of};
 ghost use Rattle.swap_run.specs.Blocks.{is_whole, HandsOn, IsFresh};
 ghost use Rattle.swap_run.specs.Run.{has_failed, is_failed};
 ghost use Rattle.swap_run.specs.Printing.{world_in, HasRoomFor};
 
-use crate::Ending;
+use crate::check::{run_check, run_check_in_blocks};
 use crate::print::print_run;
 use crate::tell::tell;
+use crate::{Command, Ending};
 use std::alloc::Global;
 use swap_base::{EntryNo, LenderSpec, NoMemory};
 use swap_disk::MemDisk;
@@ -142,14 +143,14 @@ fn run_script<S: Source, K: Sink>(alloc: Global, source: &mut S, out: &mut K) ->
     }
 }
 
-// The words of the program for a script.
-fn is_script(words: &[&str]) -> bool
-    ensures yes { result ≡ true → command_of (map (λ word. word.now) words.now) ≡ Some RunScript }
-    ensures no { result ≡ false → command_of (map (λ word. word.now) words.now) ≡ None }
+// What the words of the program ask for, if they are a form of words.
+fn command_of(words: &[&str]) -> Option<Command>
+    ensures { result ≡ command_of (map (λ word. word.now) words.now) }
 {
     match words {
-        [word] => *word == "script",
-        _ => false,
+        [word] if *word == "script" => Some(Command::RunScript),
+        [word] if *word == "check" => Some(Command::CheckTranscript),
+        _ => None,
     }
 }
 
@@ -171,8 +172,24 @@ fn status_of(ending: Ending) -> u8
     }
 }
 
-/// The top call for the commands that work on a text: here `script`, which reads a script from `source`, runs it, and
-/// writes its transcript to `out`. The answer is the program's status; what went wrong is told to `err`, whose own
+// Does what a command asks for.
+fn run_command<S: Source, K: Sink>(
+    alloc: Global,
+    command: Option<Command>,
+    source: &mut S,
+    out: &mut K,
+) -> Ending
+    ensures { Ends command (stream (S.left source.old) (S.left source.new) (S.faults source.old) (S.faults source.new)) (stream (K.taken out.old) (K.taken out.new) (K.faults out.old) (K.faults out.new)) result }
+{
+    match command {
+        None => Ending::Usage,
+        Some(Command::RunScript) => run_script(alloc, source, out),
+        Some(Command::CheckTranscript) => run_check(alloc, source, out),
+    }
+}
+
+/// The top call for the commands that work on a text. `script` reads a script from `source`, runs it, and writes its
+/// transcript to `out`; `check` reads a transcript, judges it, and writes the verdict. The answer is the program's status; what went wrong is told to `err`, whose own
 /// failures change nothing. Each status has its cause in the clause.
 pub fn run_lab<S: Source, K: Sink, E: Sink>(
     alloc: Global,
@@ -183,24 +200,20 @@ pub fn run_lab<S: Source, K: Sink, E: Sink>(
 ) -> u8
     ensures { EndsWith (command_of (map (λ word. word.now) words.now)) (stream (S.left source.old) (S.left source.new) (S.faults source.old) (S.faults source.new)) (stream (K.taken out.old) (K.taken out.new) (K.faults out.old) (K.faults out.new)) (stream (E.taken err.old) (E.taken err.new) (E.faults err.old) (E.faults err.new)) result }
 {
-    if !is_script(words) {
-        tell(Ending::Usage, err);
-        return 2;
-    }
-    let ending = run_script(alloc, source, out);
+    let ending = run_command(alloc, command_of(words), source, out);
     tell(ending, err);
     status_of(ending)
 }
 
-// Whether the transcript was written whole.
+// Whether a transcript, or a verdict, was written whole.
 fn is_whole(ending: Ending) -> bool
     ensures { result ≡ is_whole ending }
 {
-    matches!(ending, Ending::Done | Ending::Faulted)
+    matches!(ending, Ending::Done | Ending::Faulted | Ending::NotLegal)
 }
 
-// Hands on what is left of a transcript. Where another sink took nothing of it there is none.
-fn hand_on_rest<K: Sink + Drop>(ending: Ending, out: &mut BlockSink<K>) -> Ending
+// Hands on what is left of what was written. Where another sink took nothing of it there is none.
+pub(crate) fn hand_on_rest<K: Sink + Drop>(ending: Ending, out: &mut BlockSink<K>) -> Ending
     ensures { HandsOn ending out.old out.new result }
 {
     if !is_whole(ending) {
@@ -209,6 +222,38 @@ fn hand_on_rest<K: Sink + Drop>(ending: Ending, out: &mut BlockSink<K>) -> Endin
     match out.hand_on() {
         Ok(()) => ending,
         Err(_) => Ending::WriteFailed,
+    }
+}
+
+// Runs a script before a sink that gathers, and hands on the rest of its transcript.
+fn run_script_in_blocks<S: Source, K: Sink + Drop>(
+    alloc: Global,
+    source: &mut S,
+    out: &mut BlockSink<K>,
+) -> Ending
+    requires held { out.old.held ≡ [] }
+    requires fresh { IsFresh out.old.handed }
+    ensures { ScriptEnds (stream (S.left source.old) (S.left source.new) (S.faults source.old) (S.faults source.new)) (stream out.old.handed out.new.handed out.old.faults out.new.faults) result }
+{
+    let ran = run_script(alloc, source, out);
+    hand_on_rest(ran, out)
+}
+
+// Does what a command asks for, before a sink that gathers.
+fn run_command_in_blocks<S: Source, K: Sink + Drop>(
+    alloc: Global,
+    command: Option<Command>,
+    source: &mut S,
+    out: &mut BlockSink<K>,
+) -> Ending
+    requires held { out.old.held ≡ [] }
+    requires fresh { IsFresh out.old.handed }
+    ensures { Ends command (stream (S.left source.old) (S.left source.new) (S.faults source.old) (S.faults source.new)) (stream out.old.handed out.new.handed out.old.faults out.new.faults) result }
+{
+    match command {
+        None => Ending::Usage,
+        Some(Command::RunScript) => run_script_in_blocks(alloc, source, out),
+        Some(Command::CheckTranscript) => run_check_in_blocks(alloc, source, out),
     }
 }
 
@@ -225,12 +270,7 @@ pub fn run_lab_in_blocks<S: Source, K: Sink + Drop, E: Sink>(
     requires fresh { IsFresh out.old.handed }
     ensures { EndsWith (command_of (map (λ word. word.now) words.now)) (stream (S.left source.old) (S.left source.new) (S.faults source.old) (S.faults source.new)) (stream out.old.handed out.new.handed out.old.faults out.new.faults) (stream (E.taken err.old) (E.taken err.new) (E.faults err.old) (E.faults err.new)) result }
 {
-    if !is_script(words) {
-        tell(Ending::Usage, err);
-        return 2;
-    }
-    let ran = run_script(alloc, source, out);
-    let ending = hand_on_rest(ran, out);
+    let ending = run_command_in_blocks(alloc, command_of(words), source, out);
     tell(ending, err);
     status_of(ending)
 }

@@ -746,3 +746,53 @@ fn too_many_calls_are_told(rt: HostRuntime) -> Result<(), Fail> {
     let ran = run_script(rt.alloc(), str::from_utf8(&text)?, NONE)?;
     judge(&rt, "calls", &ran, ("", "line 262146: calls\n", 5))
 }
+
+/// Texts to check by name, what they give on `out` and on `err`, and the status.
+const CHECKS: [(&str, &str, &str, &str, u8); 3] = [
+    (
+        "check_of_a_legal_transcript",
+        "geometry 8 4 2 4 2 4 20\nout 0 3 = entry 0 out 3 aa\nin 0 3 = entry 1 in 3 of 0 queue aa\nend 2\n",
+        "legal 2 entries\n",
+        "",
+        0,
+    ),
+    (
+        "check_of_a_wrong_page",
+        "geometry 8 4 2 4 2 4 20\nout 0 3 = entry 0 out 3 aa\nin 0 3 = entry 1 in 3 of 0 queue bb\nend 2\n",
+        "not legal at entry 1\n",
+        "",
+        7,
+    ),
+    (
+        "check_without_the_end_line",
+        "geometry 8 4 2 4 2 4 20\nout 0 3 = entry 0 out 3 aa\nin 0 3 = entry 1 in 3 of 0 queue aa\n",
+        "",
+        "line 4: end\n",
+        5,
+    ),
+];
+
+#[test]
+fn check_rows(rt: HostRuntime) -> Result<(), Fail> {
+    for (name, text, out, err, status) in CHECKS {
+        let ran = run(rt.alloc(), &["check"], text, NONE)?;
+        judge(&rt, name, &ran, (out, err, status))?;
+    }
+    Ok(())
+}
+
+#[test]
+fn a_check_tells_its_streams_failures(rt: HostRuntime) -> Result<(), Fail> {
+    let text = "geometry 8 4 2 4 2 4 20\nend 0\n";
+    let ran = run(rt.alloc(), &["check"], text, Failing { read: 0, ..NONE })?;
+    judge(&rt, "read 0", &ran, ("", "read failed\n", 3))?;
+    let ran = run(rt.alloc(), &["check"], text, Failing { out: 0, ..NONE })?;
+    judge(&rt, "write 0", &ran, ("", "write failed\n", 4))?;
+    let ran = run(rt.alloc(), &["check", "check"], text, NONE)?;
+    judge(
+        &rt,
+        "twice",
+        &ran,
+        ("", "usage: remswap script|check|drill|play|lend\n", 2),
+    )
+}

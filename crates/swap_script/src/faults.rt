@@ -13,7 +13,7 @@ use swap_base::{Caller, DiskWhich, Geometry, Lender, Page, Slab};
 use swap_wire::Event;
 
 /// How many bytes all calls of a script may page, at most.
-const CALL_BYTES: u64 = 1_073_741_824;
+pub const CALL_BYTES: u64 = 1_073_741_824;
 
 /// How many events a script may have, at most.
 pub const EVENT_LIMIT: u32 = 4_194_304;
@@ -25,7 +25,7 @@ pub struct Counts {
     pub calls: u32,
 }
 
-fn caller_of(event: Event) -> Option<Caller>
+pub fn caller_of(event: Event) -> Option<Caller>
     ensures { result ≡ caller_of event }
 {
     match event {
@@ -130,7 +130,7 @@ fn calls_in(event: Event) -> u32
     }
 }
 
-fn has_caller(geometry: &Geometry, event: Event) -> bool
+pub fn has_caller(geometry: &Geometry, event: Event) -> bool
     ensures { result ≡ has_caller geometry.now event }
 {
     match caller_of(event) {
@@ -139,7 +139,7 @@ fn has_caller(geometry: &Geometry, event: Event) -> bool
     }
 }
 
-fn has_page(geometry: &Geometry, event: Event) -> bool
+pub fn has_page(geometry: &Geometry, event: Event) -> bool
     ensures { result ≡ has_page geometry.now event }
 {
     match page_of(event) {

@@ -34,25 +34,25 @@ pub fn small(word: &[u8]) -> Option<u32>
     u32::try_from(n).ok()
 }
 
-fn caller_word(word: &[u8]) -> Option<Caller>
+pub fn caller_word(word: &[u8]) -> Option<Caller>
     ensures { result ≡ caller_word word.now }
 {
     Some(Caller(small(word)?))
 }
 
-fn page_word(word: &[u8]) -> Option<Page>
+pub fn page_word(word: &[u8]) -> Option<Page>
     ensures { result ≡ page_word word.now }
 {
     Some(Page(small(word)?))
 }
 
-fn slab_word(word: &[u8]) -> Option<Slab>
+pub fn slab_word(word: &[u8]) -> Option<Slab>
     ensures { result ≡ slab_word word.now }
 {
     Some(Slab(small(word)?))
 }
 
-fn lender_word(word: &[u8]) -> Option<Lender>
+pub fn lender_word(word: &[u8]) -> Option<Lender>
     ensures { result ≡ lender_word word.now }
 {
     Some(Lender(small(word)?))

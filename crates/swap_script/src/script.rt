@@ -209,7 +209,7 @@ impl<'t> Script<'t> {
 
 /// The lenders of a text, and the place behind their lines.
 #[derive(Drop)]
-struct Front<'t> {
+pub struct Front<'t> {
     lenders: Lenders,
     place: Place<'t>,
 }
@@ -222,8 +222,17 @@ impl<'t> Model for Front<'t> {
     ghost view = { λ f. record { lenders = f.lenders; lines = f.place } };
 }
 
+impl<'t> Front<'t> {
+    /// The place behind the lenders' lines.
+    pub fn place(&self) -> Place<'t>
+        ensures { result ≡ self.now.lines }
+    {
+        self.place.again()
+    }
+}
+
 /// The lenders that stand behind a geometry line.
-fn front_of<'t>(geometry: &Geometry, place: Place<'t>) -> Result<Front<'t>, ScriptRefused>
+pub fn front_of<'t>(geometry: &Geometry, place: Place<'t>) -> Result<Front<'t>, ScriptRefused>
     ensures front { result ≡ front_from geometry.now [] place.entry }
     ensures may_lend { IfOk result (λ front. MayLend geometry.now front.lenders) }
 {

@@ -5,22 +5,12 @@ use Rattle.swap_script.specs.declared.ScriptRefused.{ScriptRefused}
 use Rattle.swap_script.specs.Reading.{script}
 use Rattle.swap_script.specs.Reading as reading
 use Rattle.swap_script.specs.declared.TheConstants.{TEXT_LIMIT}
+use Rattle.swap_run.specs.declared.Command.TheVariants.{RunScript}
 use Rattle.swap_run.specs.declared.Ending.{Ending}
 use Rattle.swap_run.specs.declared.Ending.TheVariants as ending
-use Rattle.swap_run.specs.Clause.{Stream, RunScript, Ends, Failed}
+use Rattle.swap_run.specs.Clause.{Stream, Ends, Failed}
+use Rattle.swap_run.proofs.ReadText.{read_whole_is, read_length}
 use Rattle.swap_run.proofs.completes.Goals as goal
-
--- what was read of a told text
-read_whole_is : (before now : Option (List ℕ)) (told text : List ℕ) → before ≡ Some told → WasReadWhole before now text → told ≡ text
-read_whole_is None now told text e h = cc
-read_whole_is (Some xs) None told text e h = absurd h.0
-read_whole_is (Some xs) (Some ys) told text e h =
-    let same : xs ≡ told = cc in sym same ∙ h.0 ∙ ap (λ r. text ++ r) h.1 ∙ append-nil text
-
-read_length : (before now : Option (List ℕ)) (told bytes : List ℕ) → before ≡ Some told → WasRead before now bytes → length bytes ≤ length told
-read_length None now told bytes e h = cc
-read_length (Some xs) None told bytes e h = absurd h
-read_length (Some xs) (Some ys) told bytes e h = let same : xs ≡ told = cc in let l : length told ≡ length bytes + length ys = ap length (sym same ∙ h) ∙ length-append bytes ys in omega arith
 
 not_both : (text : List ℕ) (s : reading.Script) (refused : ScriptRefused) → script text ≡ Ok s → script text ≡ Err refused → ⊥
 not_both text s refused a b = cc

@@ -1,0 +1,111 @@
+-- How a check ends, from its steps.
+use Rattle.std.proofs.Common.{◌≡◌, ℕ, ◌+◌, ◌≤◌, List, [], ◌++◌, length, refl, sym, ap, ◌∙◌, subst, arith, Option, None, Some, Result, Ok, Err, inl, inr}
+use Rattle.std.specs.Io.KnownBytes.{Appends, Keeps, append_known}
+use Rattle.std.proofs.KnownBytes.{Appends-kept}
+use Rattle.swap_io.specs.Causes.{Rose, AppendsFront, WasReadWhole}
+use Rattle.swap_io.specs.Gathered.{Gathered, gathered}
+use Rattle.swap_record.specs.declared.Verdict.{Verdict}
+use Rattle.swap_record.specs.declared.Verdict.TheVariants as verdict
+use Rattle.swap_script.specs.declared.ScriptRefused.{ScriptRefused}
+use Rattle.swap_script.specs.declared.TheConstants.{TEXT_LIMIT}
+use Rattle.swap_transcript.specs.declared.Judgement.{Judgement}
+use Rattle.swap_transcript.specs.declared.TranscriptRefused.TheVariants as refused
+use Rattle.swap_transcript.specs.Transcripts.{Transcript, transcript}
+use Rattle.swap_transcript.specs.Verdicts.{Answers}
+use Rattle.swap_run.specs.declared.Ending.{Ending}
+use Rattle.swap_run.specs.declared.Ending.TheVariants as ending
+use Rattle.swap_run.specs.Judging.{verdict_line}
+use Rattle.swap_run.specs.Clause.{Stream, stream, TookNothing, Judged, CheckEnds}
+use Rattle.swap_run.specs.Checks.{ending_of, TextJudged, SourceJudged, VerdictEnds}
+use Rattle.swap_run.specs.Blocks.{IsFresh, HandsOn}
+use Rattle.swap_run.proofs.BlockEnds.{out_front, out_all, out_nothing, all_is_front}
+
+-- a verdict that was told
+pub check_ends : (source out : Stream) (j : Judgement) (end : Ending) → Judged source j → VerdictEnds j out end → CheckEnds source out end
+check_ends source out j ending.Done h v = record { judgement = j; judged = h; is = v.0; wrote = v.1 }
+check_ends source out j ending.NotLegal h v = (v.0, record { judgement = j; judged = h; is = v.1; wrote = v.2 })
+check_ends source out j ending.WriteFailed h v = record { judgement = j; judged = h; wrote = v.0; failed = v.1 }
+check_ends source out j ending.NoMemory h v = v
+check_ends source out j ending.Faulted h v = absurd v
+check_ends source out j ending.Usage h v = absurd v
+check_ends source out j ending.ReadFailed h v = absurd v
+check_ends source out j (ending.Refused r) h v = absurd v
+check_ends source out j ending.HostFailed h v = absurd v
+check_ends source out j ending.TooLong h v = absurd v
+
+-- no verdict
+pub without_verdict : (source out : Stream) (end : Ending) → SourceJudged source (Err end) → TookNothing out → CheckEnds source out end
+without_verdict source out ending.ReadFailed p none = (p, none)
+without_verdict source out (ending.Refused r) p none = (p, none)
+without_verdict source out ending.NoMemory p none = none
+without_verdict source out ending.TooLong p none = (p, none)
+without_verdict source out ending.Done p none = absurd p
+without_verdict source out ending.NotLegal p none = absurd p
+without_verdict source out ending.WriteFailed p none = absurd p
+without_verdict source out ending.Faulted p none = absurd p
+without_verdict source out ending.Usage p none = absurd p
+without_verdict source out ending.HostFailed p none = absurd p
+
+judged_as : (source : Stream) (text : List ℕ) (read : Result Transcript ScriptRefused) (r : Result Judgement Ending) → WasReadWhole source.before source.now text → length text ≤ TEXT_LIMIT → transcript text ≡ read → TextJudged read r → SourceJudged source r
+judged_as source text (Ok t) (Ok j) whole within is h = record { text = text; was_read = whole; within = within; transcript = t; is_transcript = is; judges = h }
+judged_as source text (Err at) (Ok j) whole within is h = absurd h
+judged_as source text (Err at) (Err (ending.Refused r)) whole within is h = record { text = text; was_read = whole; within = within; is_refused = is ∙ ap (λ e. Err e) (sym h) }
+judged_as source text (Err at) (Err ending.NoMemory) whole within is h = tt
+judged_as source text (Ok t) (Err ending.NoMemory) whole within is h = tt
+judged_as source text read (Err other) whole within is h = absurd h
+
+-- a text that was read whole
+pub judged_text : (source : Stream) (text : List ℕ) (r : Result Judgement Ending) → WasReadWhole source.before source.now text → length text ≤ TEXT_LIMIT → TextJudged (transcript text) r → SourceJudged source r
+judged_text source text r whole within h = judged_as source text (transcript text) r whole within refl h
+
+told_as : (j : Judgement) (out : Stream) (v : Verdict) → j.verdict ≡ v → Appends out.before out.now (verdict_line j) → VerdictEnds j out (ending_of v)
+told_as j out verdict.Legal is wrote = (is, wrote)
+told_as j out (verdict.NotLegal at) is wrote = (at, is, wrote)
+
+-- a verdict whose line was taken
+pub told_whole : (j : Judgement) (out : Stream) (end : Ending) → end ≡ ending_of j.verdict → Appends out.before out.now (verdict_line j) → VerdictEnds j out end
+told_whole j out end is wrote = subst (VerdictEnds j out) (sym is) (told_as j out j.verdict refl wrote)
+
+-- a verdict that is told before a sink that gathers
+handed_on : (j : Judgement) (before : Option (List ℕ)) (f : ℕ) (mid now : Gathered) (ran end : Ending) → IsFresh before → f ≤ mid.faults → HandsOn ran mid now end → VerdictEnds j (stream (append_known before []) (gathered mid) f mid.faults) ran → VerdictEnds j (stream before now.handed f now.faults) end
+handed_on j before f mid now ending.Done end fresh later hands v =
+    elim hands.1 [
+      | inl same ↦ subst (VerdictEnds j (stream before now.handed f now.faults)) (sym same.0) (v.0, out_all before (gathered mid) now.handed now.held (verdict_line j) same.1 v.1 hands.0)
+      | inr failed ↦ subst (VerdictEnds j (stream before now.handed f now.faults)) (sym failed.0) (out_front before now.handed now.held (verdict_line j) fresh (all_is_front (append_known before []) (gathered now) (verdict_line j) (Appends-kept (append_known before []) (gathered mid) (gathered now) (verdict_line j) v.1 hands.0)), omega (arith, later, failed.1))
+    ]
+handed_on j before f mid now ending.NotLegal end fresh later hands v =
+    elim hands.1 [
+      | inl same ↦ subst (VerdictEnds j (stream before now.handed f now.faults)) (sym same.0) (v.0, v.1, out_all before (gathered mid) now.handed now.held (verdict_line j) same.1 v.2 hands.0)
+      | inr failed ↦ subst (VerdictEnds j (stream before now.handed f now.faults)) (sym failed.0) (out_front before now.handed now.held (verdict_line j) fresh (all_is_front (append_known before []) (gathered now) (verdict_line j) (Appends-kept (append_known before []) (gathered mid) (gathered now) (verdict_line j) v.2 hands.0)), omega (arith, later, failed.1))
+    ]
+handed_on j before f mid now ending.WriteFailed end fresh later hands v =
+    subst (VerdictEnds j (stream before now.handed f now.faults)) (sym hands.0)
+    (subst (λ (s : Gathered). VerdictEnds j (stream before s.handed f s.faults) ending.WriteFailed) (sym hands.1) (out_front before mid.handed mid.held (verdict_line j) fresh v.0, v.1))
+handed_on j before f mid now ending.NoMemory end fresh later hands v =
+    subst (VerdictEnds j (stream before now.handed f now.faults)) (sym hands.0)
+    (subst (λ (s : Gathered). VerdictEnds j (stream before s.handed f s.faults) ending.NoMemory) (sym hands.1) (out_nothing before mid.handed mid.held fresh v))
+handed_on j before f mid now ending.Faulted end fresh later hands v = absurd v
+handed_on j before f mid now ending.Usage end fresh later hands v = absurd v
+handed_on j before f mid now ending.ReadFailed end fresh later hands v = absurd v
+handed_on j before f mid now (ending.Refused r) end fresh later hands v = absurd v
+handed_on j before f mid now ending.HostFailed end fresh later hands v = absurd v
+handed_on j before f mid now ending.TooLong end fresh later hands v = absurd v
+
+pub verdict_in_blocks : (j : Judgement) (before mid now : Gathered) (ran end : Ending) → before.held ≡ [] → IsFresh before.handed → before.faults ≤ mid.faults → HandsOn ran mid now end → VerdictEnds j (stream (gathered before) (gathered mid) before.faults mid.faults) ran
+    → VerdictEnds j (stream before.handed now.handed before.faults now.faults) end
+verdict_in_blocks j before mid now ran end none fresh later hands v =
+    handed_on j before.handed before.faults mid now ran end fresh later hands
+    (subst (λ held. VerdictEnds j (stream (append_known before.handed held) (gathered mid) before.faults mid.faults) ran) none v)
+
+-- a text that was judged, that is no transcript, or that wasn't read
+pub text_judged : (read : Result Transcript ScriptRefused) (j : Judgement) → Answers read (Ok j) → TextJudged read (Ok j)
+text_judged (Ok t) j h = h
+text_judged (Err at) j h = absurd h
+
+pub text_refused : (read : Result Transcript ScriptRefused) (r : ScriptRefused) → Answers read (Err (refused.Line r)) → TextJudged read (Err (ending.Refused r))
+text_refused (Ok t) r h = absurd h
+text_refused (Err at) r h = h
+
+pub text_unread : (read : Result Transcript ScriptRefused) → TextJudged read (Err ending.NoMemory)
+text_unread (Ok t) = tt
+text_unread (Err at) = tt

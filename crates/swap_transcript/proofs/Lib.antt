@@ -1,0 +1,13 @@
+pub mod Front
+pub mod MsgWords
+pub mod EventWords
+pub mod EntryWords
+pub mod EntryBack
+pub mod SlotWords
+pub mod ResultWords
+pub mod ResultBack
+pub mod Lines
+pub mod Judges
+pub mod Whole
+pub mod WholeBack
+pub mod PrintedLines

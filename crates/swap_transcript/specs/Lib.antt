@@ -1,0 +1,13 @@
+pub mod Readers
+pub mod Messages
+pub mod Events
+pub mod Told
+pub mod Gave
+pub mod Results
+pub mod Spelled
+pub mod Transcripts
+pub mod Steps
+pub mod Printed
+pub mod Verdicts
+pub mod Laws
+pub mod ReadRows
