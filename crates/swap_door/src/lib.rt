@@ -1,0 +1,11 @@
+//! Doors that links come in by over TCP.
+#![tactic(auto)]
+
+mod streams;
+mod tcp_door;
+
+pub use streams::{TcpSink, TcpSource};
+pub use tcp_door::{TcpDoor, socket_address};
+
+#[cfg(test)]
+mod tests;
