@@ -106,6 +106,71 @@ PageOutIntoAFullWindowLeavesTheBitClear =
     (codes "geometry 8 4 2 4 2 1 20" ∷ codes "lender 4 1 1" ∷ codes "connect 0" ∷ codes "map 0 0" ∷ codes "give 0" ∷ codes "give 0" ∷ codes "take 0" ∷ codes "out 0 3 aa" ∷ codes "out 0 3 bb" ∷ codes "give 0" ∷ codes "take 0" ∷ codes "start" ∷ codes "disk write 3 ok" ∷ codes "in 0 3" ∷ codes "disk read 0 ok" ∷ codes "finish 0" ∷ [])
     (codes "geometry 8 4 2 4 2 1 20" ∷ codes "lender 4 1 1" ∷ codes "connect 0 = link 0" ∷ codes "map 0 0 = borrow" ∷ codes "give 0 = hello 1" ∷ codes "give 0 = borrow 0 > lent 0 0" ∷ codes "take 0 = lent 0 0" ∷ codes "out 0 3 = entry 0 out 3 aa to 0" ∷ codes "out 0 3 = entry 1 out 3 bb" ∷ codes "give 0 = write 0 3 > wrote 0 3" ∷ codes "take 0 = wrote 0 3" ∷ codes "start = write 3 1" ∷ codes "disk write 3 ok = written 1" ∷ codes "in 0 3 = wait disk" ∷ codes "disk read 0 ok = came 3" ∷ codes "finish 0 = entry 2 in 3 of 1 disk bb" ∷ codes "end 3" ∷ [])
 
+abbrev pub LossAfterTheReplyWasSent : Type 0
+LossAfterTheReplyWasSent =
+    Gives
+    (codes "geometry 8 4 2 4 2 4 20" ∷ codes "lender 4 1 1" ∷ codes "connect 0" ∷ codes "map 0 0"
+    ∷ codes "give 0" ∷ codes "give 0" ∷ codes "take 0" ∷ codes "out 0 3 aa" ∷ codes "give 0" ∷ codes "take 0"
+    ∷ codes "start" ∷ codes "disk write 3 ok" ∷ codes "in 0 3" ∷ codes "give 0" ∷ codes "cut 0 0 1"
+    ∷ codes "take 0" ∷ codes "take 0" ∷ codes "finish 0" ∷ [])
+    (codes "geometry 8 4 2 4 2 4 20" ∷ codes "lender 4 1 1" ∷ codes "connect 0 = link 0"
+    ∷ codes "map 0 0 = borrow" ∷ codes "give 0 = hello 1" ∷ codes "give 0 = borrow 0 > lent 0 0"
+    ∷ codes "take 0 = lent 0 0" ∷ codes "out 0 3 = entry 0 out 3 aa to 0"
+    ∷ codes "give 0 = write 0 3 > wrote 0 3" ∷ codes "take 0 = wrote 0 3" ∷ codes "start = write 3 0"
+    ∷ codes "disk write 3 ok = written 0" ∷ codes "in 0 3 = wait lender 0"
+    ∷ codes "give 0 = read 0 3 > page 0 3" ∷ codes "cut 0 0 1 = cut" ∷ codes "take 0 = page 0 3"
+    ∷ codes "take 0 = lost" ∷ codes "finish 0 = entry 1 in 3 of 0 lender 0 aa" ∷ codes "end 2" ∷ [])
+
+abbrev pub LossOfTheReplySendsTheReadToTheDisk : Type 0
+LossOfTheReplySendsTheReadToTheDisk =
+    Gives
+    (codes "geometry 8 4 2 4 2 4 20" ∷ codes "lender 4 1 1" ∷ codes "connect 0" ∷ codes "map 0 0"
+    ∷ codes "give 0" ∷ codes "give 0" ∷ codes "take 0" ∷ codes "out 0 3 aa" ∷ codes "give 0" ∷ codes "take 0"
+    ∷ codes "start" ∷ codes "disk write 3 ok" ∷ codes "in 0 3" ∷ codes "give 0" ∷ codes "cut 0 0 0"
+    ∷ codes "take 0" ∷ codes "finish 0" ∷ codes "disk read 0 ok" ∷ codes "finish 0" ∷ [])
+    (codes "geometry 8 4 2 4 2 4 20" ∷ codes "lender 4 1 1" ∷ codes "connect 0 = link 0"
+    ∷ codes "map 0 0 = borrow" ∷ codes "give 0 = hello 1" ∷ codes "give 0 = borrow 0 > lent 0 0"
+    ∷ codes "take 0 = lent 0 0" ∷ codes "out 0 3 = entry 0 out 3 aa to 0"
+    ∷ codes "give 0 = write 0 3 > wrote 0 3" ∷ codes "take 0 = wrote 0 3" ∷ codes "start = write 3 0"
+    ∷ codes "disk write 3 ok = written 0" ∷ codes "in 0 3 = wait lender 0"
+    ∷ codes "give 0 = read 0 3 > page 0 3" ∷ codes "cut 0 0 0 = cut" ∷ codes "take 0 = lost"
+    ∷ codes "finish 0 = again disk" ∷ codes "disk read 0 ok = came 3"
+    ∷ codes "finish 0 = entry 1 in 3 of 0 disk aa" ∷ codes "end 2" ∷ [])
+
+abbrev pub CrashWithTheLossUnread : Type 0
+CrashWithTheLossUnread =
+    Gives
+    (codes "geometry 8 4 2 4 2 4 20" ∷ codes "lender 4 1 1" ∷ codes "connect 0" ∷ codes "map 0 0"
+    ∷ codes "give 0" ∷ codes "give 0" ∷ codes "take 0" ∷ codes "out 0 3 aa" ∷ codes "give 0" ∷ codes "take 0"
+    ∷ codes "start" ∷ codes "disk write 3 ok" ∷ codes "crash 0" ∷ codes "in 0 3" ∷ codes "connect 0"
+    ∷ codes "finish 0" ∷ codes "map 0 0" ∷ codes "give 0" ∷ codes "give 0" ∷ codes "take 0"
+    ∷ codes "disk read 0 ok" ∷ codes "finish 0" ∷ [])
+    (codes "geometry 8 4 2 4 2 4 20" ∷ codes "lender 4 1 1" ∷ codes "connect 0 = link 0"
+    ∷ codes "map 0 0 = borrow" ∷ codes "give 0 = hello 1" ∷ codes "give 0 = borrow 0 > lent 0 0"
+    ∷ codes "take 0 = lent 0 0" ∷ codes "out 0 3 = entry 0 out 3 aa to 0"
+    ∷ codes "give 0 = write 0 3 > wrote 0 3" ∷ codes "take 0 = wrote 0 3" ∷ codes "start = write 3 0"
+    ∷ codes "disk write 3 ok = written 0" ∷ codes "crash 0 = crashed" ∷ codes "in 0 3 = wait lender 0"
+    ∷ codes "connect 0 = link 1" ∷ codes "finish 0 = again disk" ∷ codes "map 0 0 = borrow"
+    ∷ codes "give 0 = hello 1" ∷ codes "give 0 = borrow 0 > lent 0 0" ∷ codes "take 0 = lent 0 0"
+    ∷ codes "disk read 0 ok = came 3" ∷ codes "finish 0 = entry 1 in 3 of 0 disk aa" ∷ codes "end 2" ∷ [])
+
+abbrev pub LinksAreCutAndMadeAnew : Type 0
+LinksAreCutAndMadeAnew =
+    Gives
+    (codes "geometry 8 4 2 4 2 4 20" ∷ codes "lender 4 1 1" ∷ codes "lender 4 1 1" ∷ codes "cut 1 0 0"
+    ∷ codes "crash 1" ∷ codes "connect 0" ∷ codes "connect 1" ∷ codes "map 0 1" ∷ codes "cut 1 1 0"
+    ∷ codes "cut 1 1 0" ∷ codes "give 1" ∷ codes "give 1" ∷ codes "take 1" ∷ codes "connect 1" ∷ codes "map 0 1"
+    ∷ codes "give 1" ∷ codes "give 1" ∷ codes "take 1" ∷ codes "map 1 0" ∷ codes "out 0 3 aa"
+    ∷ codes "out 0 7 bb" ∷ codes "crash 0" ∷ codes "take 0" ∷ codes "connect 0" ∷ codes "map 1 0" ∷ [])
+    (codes "geometry 8 4 2 4 2 4 20" ∷ codes "lender 4 1 1" ∷ codes "lender 4 1 1" ∷ codes "cut 1 0 0 = -"
+    ∷ codes "crash 1 = crashed" ∷ codes "connect 0 = link 0" ∷ codes "connect 1 = link 1"
+    ∷ codes "map 0 1 = borrow" ∷ codes "cut 1 1 0 = cut" ∷ codes "cut 1 1 0 = -" ∷ codes "give 1 = hello 1"
+    ∷ codes "give 1 = end" ∷ codes "take 1 = lost" ∷ codes "connect 1 = link 2" ∷ codes "map 0 1 = borrow"
+    ∷ codes "give 1 = hello 1" ∷ codes "give 1 = borrow 0 > lent 0 0" ∷ codes "take 1 = lent 0 0"
+    ∷ codes "map 1 0 = borrow" ∷ codes "out 0 3 = entry 0 out 3 aa to 1" ∷ codes "out 0 7 = entry 1 out 7 bb"
+    ∷ codes "crash 0 = crashed" ∷ codes "take 0 = lost" ∷ codes "connect 0 = link 3" ∷ codes "map 1 0 = borrow"
+    ∷ codes "end 2" ∷ [])
+
 abbrev pub PatternIsPrintedShortest : Type 0
 PatternIsPrintedShortest =
     Gives
@@ -143,6 +208,11 @@ DiskRows =
 -- the rows of a lender
 abbrev pub LenderRows : Type 0
 LenderRows = PageInFromALender × PageOutBetweenRequestAndReplyOfARead × PageOutIntoAFullWindowLeavesTheBitClear
+
+-- the rows of links that are cut, ended by a crash and made anew
+abbrev pub LinkRows : Type 0
+LinkRows =
+    LossAfterTheReplyWasSent × LossOfTheReplySendsTheReadToTheDisk × CrashWithTheLossUnread × LinksAreCutAndMadeAnew
 
 -- the rows of texts that are no scripts
 abbrev pub RefusedRows : Type 0

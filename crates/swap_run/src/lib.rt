@@ -2,7 +2,7 @@
 #![tactic(auto)]
 
 ghost use Rattle.swap_run.specs.Clause.{Completes};
-ghost use Rattle.swap_run.specs.Rows.{QueueRows, DiskRows, LenderRows, RefusedRows};
+ghost use Rattle.swap_run.specs.Rows.{QueueRows, DiskRows, LenderRows, LinkRows, RefusedRows};
 ghost use Rattle.swap_run.specs.Run.{FailsWithTheDisk, ScriptsKeepTheHeadline};
 
 mod print;
@@ -63,6 +63,7 @@ pub fn rows()
     ensures queue { QueueRows }
     ensures disk { DiskRows }
     ensures lender { LenderRows }
+    ensures links { LinkRows }
     ensures refused { RefusedRows }
 {}
 

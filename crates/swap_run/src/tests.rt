@@ -293,6 +293,213 @@ const LENDER: [(&str, &str, &str, u8); 3] = [
     ),
 ];
 
+/// Scripts with links that are cut, ended by a crash and made anew, and with two lenders.
+const LINKS: [(&str, &str, &str, u8); 5] = [
+    (
+        "loss_after_the_reply_was_sent",
+        "geometry 8 4 2 4 2 4 20\n\
+         lender 4 1 1\n\
+         connect 0\n\
+         map 0 0\n\
+         give 0\n\
+         give 0\n\
+         take 0\n\
+         out 0 3 aa\n\
+         give 0\n\
+         take 0\n\
+         start\n\
+         disk write 3 ok\n\
+         in 0 3\n\
+         give 0\n\
+         cut 0 0 1\n\
+         take 0\n\
+         take 0\n\
+         finish 0\n",
+        "geometry 8 4 2 4 2 4 20\n\
+         lender 4 1 1\n\
+         connect 0 = link 0\n\
+         map 0 0 = borrow\n\
+         give 0 = hello 1\n\
+         give 0 = borrow 0 > lent 0 0\n\
+         take 0 = lent 0 0\n\
+         out 0 3 = entry 0 out 3 aa to 0\n\
+         give 0 = write 0 3 > wrote 0 3\n\
+         take 0 = wrote 0 3\n\
+         start = write 3 0\n\
+         disk write 3 ok = written 0\n\
+         in 0 3 = wait lender 0\n\
+         give 0 = read 0 3 > page 0 3\n\
+         cut 0 0 1 = cut\n\
+         take 0 = page 0 3\n\
+         take 0 = lost\n\
+         finish 0 = entry 1 in 3 of 0 lender 0 aa\n\
+         end 2\n",
+        0,
+    ),
+    (
+        "loss_of_the_reply_sends_the_read_to_the_disk",
+        "geometry 8 4 2 4 2 4 20\n\
+         lender 4 1 1\n\
+         connect 0\n\
+         map 0 0\n\
+         give 0\n\
+         give 0\n\
+         take 0\n\
+         out 0 3 aa\n\
+         give 0\n\
+         take 0\n\
+         start\n\
+         disk write 3 ok\n\
+         in 0 3\n\
+         give 0\n\
+         cut 0 0 0\n\
+         take 0\n\
+         finish 0\n\
+         disk read 0 ok\n\
+         finish 0\n",
+        "geometry 8 4 2 4 2 4 20\n\
+         lender 4 1 1\n\
+         connect 0 = link 0\n\
+         map 0 0 = borrow\n\
+         give 0 = hello 1\n\
+         give 0 = borrow 0 > lent 0 0\n\
+         take 0 = lent 0 0\n\
+         out 0 3 = entry 0 out 3 aa to 0\n\
+         give 0 = write 0 3 > wrote 0 3\n\
+         take 0 = wrote 0 3\n\
+         start = write 3 0\n\
+         disk write 3 ok = written 0\n\
+         in 0 3 = wait lender 0\n\
+         give 0 = read 0 3 > page 0 3\n\
+         cut 0 0 0 = cut\n\
+         take 0 = lost\n\
+         finish 0 = again disk\n\
+         disk read 0 ok = came 3\n\
+         finish 0 = entry 1 in 3 of 0 disk aa\n\
+         end 2\n",
+        0,
+    ),
+    (
+        "crash_with_the_loss_unread",
+        "geometry 8 4 2 4 2 4 20\n\
+         lender 4 1 1\n\
+         connect 0\n\
+         map 0 0\n\
+         give 0\n\
+         give 0\n\
+         take 0\n\
+         out 0 3 aa\n\
+         give 0\n\
+         take 0\n\
+         start\n\
+         disk write 3 ok\n\
+         crash 0\n\
+         in 0 3\n\
+         connect 0\n\
+         finish 0\n\
+         map 0 0\n\
+         give 0\n\
+         give 0\n\
+         take 0\n\
+         disk read 0 ok\n\
+         finish 0\n",
+        "geometry 8 4 2 4 2 4 20\n\
+         lender 4 1 1\n\
+         connect 0 = link 0\n\
+         map 0 0 = borrow\n\
+         give 0 = hello 1\n\
+         give 0 = borrow 0 > lent 0 0\n\
+         take 0 = lent 0 0\n\
+         out 0 3 = entry 0 out 3 aa to 0\n\
+         give 0 = write 0 3 > wrote 0 3\n\
+         take 0 = wrote 0 3\n\
+         start = write 3 0\n\
+         disk write 3 ok = written 0\n\
+         crash 0 = crashed\n\
+         in 0 3 = wait lender 0\n\
+         connect 0 = link 1\n\
+         finish 0 = again disk\n\
+         map 0 0 = borrow\n\
+         give 0 = hello 1\n\
+         give 0 = borrow 0 > lent 0 0\n\
+         take 0 = lent 0 0\n\
+         disk read 0 ok = came 3\n\
+         finish 0 = entry 1 in 3 of 0 disk aa\n\
+         end 2\n",
+        0,
+    ),
+    (
+        "links_are_cut_and_made_anew",
+        "geometry 8 4 2 4 2 4 20\n\
+         lender 4 1 1\n\
+         lender 4 1 1\n\
+         cut 1 0 0\n\
+         crash 1\n\
+         connect 0\n\
+         connect 1\n\
+         map 0 1\n\
+         cut 1 1 0\n\
+         cut 1 1 0\n\
+         give 1\n\
+         give 1\n\
+         take 1\n\
+         connect 1\n\
+         map 0 1\n\
+         give 1\n\
+         give 1\n\
+         take 1\n\
+         map 1 0\n\
+         out 0 3 aa\n\
+         out 0 7 bb\n\
+         crash 0\n\
+         take 0\n\
+         connect 0\n\
+         map 1 0\n",
+        "geometry 8 4 2 4 2 4 20\n\
+         lender 4 1 1\n\
+         lender 4 1 1\n\
+         cut 1 0 0 = -\n\
+         crash 1 = crashed\n\
+         connect 0 = link 0\n\
+         connect 1 = link 1\n\
+         map 0 1 = borrow\n\
+         cut 1 1 0 = cut\n\
+         cut 1 1 0 = -\n\
+         give 1 = hello 1\n\
+         give 1 = end\n\
+         take 1 = lost\n\
+         connect 1 = link 2\n\
+         map 0 1 = borrow\n\
+         give 1 = hello 1\n\
+         give 1 = borrow 0 > lent 0 0\n\
+         take 1 = lent 0 0\n\
+         map 1 0 = borrow\n\
+         out 0 3 = entry 0 out 3 aa to 1\n\
+         out 0 7 = entry 1 out 7 bb\n\
+         crash 0 = crashed\n\
+         take 0 = lost\n\
+         connect 0 = link 3\n\
+         map 1 0 = borrow\n\
+         end 2\n",
+        0,
+    ),
+    (
+        "usual_size_last_page",
+        "geometry 4096 1024 16 256 4 32 20\n\
+         lender 8 2 2\n\
+         lender 8 2 2\n\
+         out 3 16383 0102\n\
+         in 0 16383\n",
+        "geometry 4096 1024 16 256 4 32 20\n\
+         lender 8 2 2\n\
+         lender 8 2 2\n\
+         out 3 16383 = entry 0 out 16383 0102\n\
+         in 0 16383 = entry 1 in 16383 of 0 queue 0102\n\
+         end 2\n",
+        0,
+    ),
+];
+
 /// Texts by name that are no scripts, and what is on `err`.
 const REFUSED: [(&str, &str, &str); 4] = [
     ("empty_text", "", "line 1: geometry\n"),
@@ -334,6 +541,15 @@ fn disk_rows(rt: HostRuntime) -> Result<(), Fail> {
 #[test]
 fn lender_rows(rt: HostRuntime) -> Result<(), Fail> {
     for (name, text, out, status) in LENDER {
+        let ran = run_script(rt.alloc(), text, NONE)?;
+        judge(&rt, name, &ran, (out, "", status))?;
+    }
+    Ok(())
+}
+
+#[test]
+fn link_rows(rt: HostRuntime) -> Result<(), Fail> {
+    for (name, text, out, status) in LINKS {
         let ran = run_script(rt.alloc(), text, NONE)?;
         judge(&rt, name, &ran, (out, "", status))?;
     }
@@ -451,7 +667,7 @@ fn other_words_are_told_the_usage(rt: HostRuntime) -> Result<(), Fail> {
 }
 
 /// Texts, and what `err` is told of them.
-const FAULTS: [(&str, &str); 16] = [
+const FAULTS: [(&str, &str); 23] = [
     ("\n# no header\n", "line 3: geometry\n"),
     ("geometry 8 4 2 4 2 4\n", "line 1: form\n"),
     ("#\ngeometry 16384 4 2 4 2 4 20\n", "line 2: page_bytes\n"),
@@ -464,6 +680,35 @@ const FAULTS: [(&str, &str); 16] = [
     ("geometry 8 1024 1025 4 2 4 20\n", "line 1: pages\n"),
     ("geometry 4096 1024 65 4 2 4 20\n", "line 1: bytes\n"),
     ("geometry 8 4 2 4 2 4 20\nstart now\n", "line 2: form\n"),
+    (
+        "geometry 8 4 2 4 2 4 20\nlender 65 1 1\n",
+        "line 2: slots\n",
+    ),
+    (
+        "geometry 8 4 2 4 2 4 20\nlender 4 65 1\n",
+        "line 2: headroom\n",
+    ),
+    (
+        "geometry 8 4 2 4 2 4 20\nlender 4 1 65\n",
+        "line 2: extra\n",
+    ),
+    (
+        "geometry 8 4 2 4 2 4 20\nlender 4 1 1\nlender 4 1 1\nlender 4 1 1\nlender 4 1 1\n\
+         lender 4 1 1\nlender 4 1 1\nlender 4 1 1\nlender 4 1 1\nlender 4 1 1\n",
+        "line 10: lenders\n",
+    ),
+    (
+        "geometry 4096 65536 1 4 2 4 20\nlender 1 1 1\nlender 1 1 1\nlender 1 1 1\n",
+        "line 4: lent\n",
+    ),
+    (
+        "geometry 8 4 2 4 2 4 20\nlender 4 1 1\nmap 2 1\n",
+        "line 3: slab\n",
+    ),
+    (
+        "geometry 8 4 2 4 2 4 20\nlender 4 1 1\nconnect 0\nconnect 0\nconnect 1\n",
+        "line 5: lender\n",
+    ),
     (
         "geometry 8 4 2 4 2 4 20\ndisk read 2 ok\n",
         "line 2: caller\n",

@@ -62,7 +62,7 @@ pub owes_nothing : (g : Grammar) (s : Sizes) (lenders : ℕ) (above : Above) (li
     → Reads s lenders (Some line) × (above.events < 4_194_304) × (is_within_reach g line.event ≡ true)
 owes_nothing g s lenders above line e =
     let owed = tests g s lenders above line in
-    let form = passes why.Form (may_run g above line.event) (drop 1 owed) e in
+    let form = passes why.Form (may_run g line.event) (drop 1 owed) e in
     let addressed = passes why.Lenders (are_addressed g lenders) (drop 2 owed) form.1 in
     let caller = passes why.Caller (has_caller s line.event) (drop 3 owed) addressed.1 in
     let page = passes why.Page (has_page s line.event) (drop 4 owed) caller.1 in

@@ -15,7 +15,7 @@ use Rattle.swap_script.specs.declared.Why.TheVariants as why
 use Rattle.swap_script.specs.declared.ScriptRefused.{ScriptRefused}
 use Rattle.swap_script.specs.Lines.{words_of, kept_lines, is_word}
 use Rattle.swap_script.specs.Forms.{sizes_words, spec_words}
-use Rattle.swap_script.specs.Reading.{Script, Front, front_from, reading, text_events, text_lines, end_of, geometry_line, sizes_within, fielded, spec_within, lender_line, lender_rest, lending_tests, lends_within, lent_bytes, may_follow, first_fault, nothing_above, inputs_of, unless, at, IsWithinLimits, MayLend, ◌>>=◌}
+use Rattle.swap_script.specs.Reading.{Script, Front, front_from, reading, text_events, text_lines, end_of, geometry_line, sizes_within, fielded, spec_within, lender_line, lender_rest, lending_tests, lends_within, lent_bytes, first_fault, nothing_above, inputs_of, unless, at, IsWithinLimits, MayLend, ◌>>=◌}
 use Rattle.swap_script.proofs.Read.{passes}
 
 kept_sizes : (o : Option Field) (x s : Sizes) → fielded (unless o x) ≡ Ok s → (o ≡ None) × (x ≡ s)
@@ -89,42 +89,35 @@ if_tested s others (Ok x) spec limits may e =
     let parts = unless_none (first_beyond (lending_tests s (others ++ x ∷ []))) x spec e in
     subst (λ t. MayLend s (others ++ t ∷ [])) parts.1 (one_more_lends s others x may (limits x refl) parts.0)
 
-if_follows : (b : Bool) (r : Result LenderSpec Why) (spec : LenderSpec) → (let t : Result LenderSpec Why = cond b r (Err why.Form) in t ≡ Ok spec) → r ≡ Ok spec
-if_follows true r spec e = e
-if_follows false r spec e = cc
-
 -- a lender line that has no fault
-line_lends : (g : Grammar) (s : Sizes) (others : List LenderSpec) (words : List (List ℕ)) (spec : LenderSpec) → MayLend s others
-    → lender_line g s others words ≡ Ok spec → MayLend s (others ++ spec ∷ [])
-line_lends g s others words spec may e =
-    let given = spec_within (spec_words words) in
-    if_tested s others given spec (spec_limits (spec_words words)) may
-    (if_follows (may_follow g others) (given >>= λ x. unless (first_beyond (lending_tests s (others ++ x ∷ []))) x) spec e)
+line_lends : (s : Sizes) (others : List LenderSpec) (words : List (List ℕ)) (spec : LenderSpec) → MayLend s others
+    → lender_line s others words ≡ Ok spec → MayLend s (others ++ spec ∷ [])
+line_lends s others words spec may e = if_tested s others (spec_within (spec_words words)) spec (spec_limits (spec_words words)) may e
 
 same_front : (s : Sizes) (x front : Front) → MayLend s x.lenders → (let r : Result Front ScriptRefused = Ok x in r ≡ Ok front) → MayLend s front.lenders
 same_front s x front may e = let same : x ≡ front = cc in subst (λ (f : Front). MayLend s f.lenders) same may
 
-line_front_lends : (g : Grammar) (s : Sizes) (others : List LenderSpec) (n : ℕ) (r : Result LenderSpec Why) (rest : List (ℕ × List ℕ)) (front : Front)
+line_front_lends : (s : Sizes) (others : List LenderSpec) (n : ℕ) (r : Result LenderSpec Why) (rest : List (ℕ × List ℕ)) (front : Front)
     → ((spec : LenderSpec) → r ≡ Ok spec → MayLend s (others ++ spec ∷ []))
-    → ((more : List LenderSpec) → MayLend s more → front_from g s more rest ≡ Ok front → MayLend s front.lenders)
-    → (at n r >>= λ spec. front_from g s (others ++ spec ∷ []) rest) ≡ Ok front → MayLend s front.lenders
-line_front_lends g s others n (Err w) rest front lends later e = cc
-line_front_lends g s others n (Ok spec) rest front lends later e = later (others ++ spec ∷ []) (lends spec refl) e
+    → ((more : List LenderSpec) → MayLend s more → front_from s more rest ≡ Ok front → MayLend s front.lenders)
+    → (at n r >>= λ spec. front_from s (others ++ spec ∷ []) rest) ≡ Ok front → MayLend s front.lenders
+line_front_lends s others n (Err w) rest front lends later e = cc
+line_front_lends s others n (Ok spec) rest front lends later e = later (others ++ spec ∷ []) (lends spec refl) e
 
-if_lender : (g : Grammar) (s : Sizes) (others : List LenderSpec) (n : ℕ) (o : Option (List (List ℕ))) (lines rest : List (ℕ × List ℕ)) (front : Front)
-    → MayLend s others → ((more : List LenderSpec) → MayLend s more → front_from g s more rest ≡ Ok front → MayLend s front.lenders)
-    → option_map_or (λ words. at n (lender_line g s others words) >>= λ spec. front_from g s (others ++ spec ∷ []) rest) o
+if_lender : (s : Sizes) (others : List LenderSpec) (n : ℕ) (o : Option (List (List ℕ))) (lines rest : List (ℕ × List ℕ)) (front : Front)
+    → MayLend s others → ((more : List LenderSpec) → MayLend s more → front_from s more rest ≡ Ok front → MayLend s front.lenders)
+    → option_map_or (λ words. at n (lender_line s others words) >>= λ spec. front_from s (others ++ spec ∷ []) rest) o
     (Ok (record { lenders = others; lines = lines })) ≡ Ok front → MayLend s front.lenders
-if_lender g s others n None lines rest front may later e = same_front s (record { lenders = others; lines = lines }) front may e
-if_lender g s others n (Some words) lines rest front may later e =
-    line_front_lends g s others n (lender_line g s others words) rest front (λ spec ok. line_lends g s others words spec may ok) later e
+if_lender s others n None lines rest front may later e = same_front s (record { lenders = others; lines = lines }) front may e
+if_lender s others n (Some words) lines rest front may later e =
+    line_front_lends s others n (lender_line s others words) rest front (λ spec ok. line_lends s others words spec may ok) later e
 
 -- the lenders of a text may lend
-pub front_lends : (g : Grammar) (s : Sizes) (others : List LenderSpec) (lines : List (ℕ × List ℕ)) (front : Front) → MayLend s others
-    → front_from g s others lines ≡ Ok front → MayLend s front.lenders
-front_lends g s others [] front may e = same_front s (record { lenders = others; lines = [] }) front may e
-front_lends g s others ((n, text) ∷ rest) front may e =
-    if_lender g s others n (lender_rest (words_of text)) ((n, text) ∷ rest) rest front may (λ more lends ok. front_lends g s more rest front lends ok) e
+pub front_lends : (s : Sizes) (others : List LenderSpec) (lines : List (ℕ × List ℕ)) (front : Front) → MayLend s others
+    → front_from s others lines ≡ Ok front → MayLend s front.lenders
+front_lends s others [] front may e = same_front s (record { lenders = others; lines = [] }) front may e
+front_lends s others ((n, text) ∷ rest) front may e =
+    if_lender s others n (lender_rest (words_of text)) ((n, text) ∷ rest) rest front may (λ more lends ok. front_lends s more rest front lends ok) e
 
 unless_ok : (o : Option ScriptRefused) (x y : Script) → unless o x ≡ Ok y → (o ≡ None) × (x ≡ y)
 unless_ok None x y e = (refl, cc)
@@ -143,10 +136,10 @@ with_front g P holds end sizes (Err w) s within may e = cc
 with_front g P holds end sizes (Ok front) s within may e = with_events g P holds end sizes front s within (may front refl) e
 
 with_sizes : (g : Grammar) (P : Script → Type 0) → OfChecked g P → (end n : ℕ) (rest : List (ℕ × List ℕ)) (r : Result Sizes Why) (s : Script)
-    → ((sizes : Sizes) → r ≡ Ok sizes → AreInLimits sizes) → (at n r >>= λ sizes. (front_from g sizes [] rest >>= text_events g end sizes)) ≡ Ok s → P s
+    → ((sizes : Sizes) → r ≡ Ok sizes → AreInLimits sizes) → (at n r >>= λ sizes. (front_from sizes [] rest >>= text_events g end sizes)) ≡ Ok s → P s
 with_sizes g P holds end n rest (Err w) s within e = cc
 with_sizes g P holds end n rest (Ok sizes) s within e =
-    with_front g P holds end sizes (front_from g sizes [] rest) s (within sizes refl) (λ front ok. front_lends g sizes [] rest front (none_may_lend sizes) ok) e
+    with_front g P holds end sizes (front_from sizes [] rest) s (within sizes refl) (λ front ok. front_lends sizes [] rest front (none_may_lend sizes) ok) e
 
 of_lines : (g : Grammar) (P : Script → Type 0) → OfChecked g P → (end : ℕ) (lines : List (ℕ × List ℕ)) (s : Script) → text_lines g end lines ≡ Ok s → P s
 of_lines g P holds end [] s e = cc

@@ -1,4 +1,4 @@
--- Lines by hand of the events that no script has yet.
+-- Lines by hand of ticks, cuts, crashes, hosts and rounds.
 use Rattle.std.specs.Prelude.{◌≡◌, [], None, Some, codes}
 use Rattle.swap_base.specs.declared.Slab.{Slab}
 use Rattle.swap_base.specs.declared.Lender.{Lender}

@@ -114,6 +114,28 @@ LenderRows =
     Lends (text (G ∷ L ∷ [])) []
     × Lends (text page_in_from_a_lender_script) (map bare (connect ∷ map_slab ∷ give ∷ give ∷ take ∷ []) ++ record { event = page_out; page = replicate 8 170 } ∷ map bare (give ∷ take ∷ event.Start ∷ written ∷ page_in ∷ give ∷ take ∷ finish ∷ []))
 
+-- with two lenders: links are made any number of times, cut, and ended by a crash
+abbrev two_specs : List LenderSpec
+two_specs = one_spec ∷ record { slots = 64; headroom = 0; extra = 64 } ∷ []
+
+abbrev two_lenders_script : List (List ℕ)
+two_lenders_script =
+    G ∷ L ∷ codes "lender 64 0 64" ∷ codes "connect 1" ∷ codes "connect 0" ∷ codes "connect 1"
+    ∷ codes "cut 1 2 4294967295" ∷ codes "crash 0" ∷ codes "connect 0" ∷ []
+
+abbrev connects : ℕ → Event
+connects l = event.Connect (record { 0 = l })
+
+abbrev link_events : List Event
+link_events =
+    connects 1 ∷ connects 0 ∷ connects 1 ∷ event.Cut (record { 0 = 1 }) 2 4_294_967_295
+    ∷ event.Crash (record { 0 = 0 }) ∷ connects 0 ∷ []
+
+abbrev pub LinkEventRows : Type 0
+LinkEventRows =
+    script (text two_lenders_script)
+    ≡ Ok (record { sizes = small_sizes; lenders = two_specs; inputs = map bare link_events })
+
 abbrev pub FaultRows : Type 0
 FaultRows =
     Refuses [] 1 why.Geometry
@@ -134,16 +156,21 @@ LenderFaultRows =
     × Refuses (text (G ∷ codes "lender 4 65 65" ∷ [])) 2 (why.Field Headroom)
     × Refuses (text (G ∷ codes "lender 4 1 65" ∷ [])) 2 (why.Field Extra)
     × Refuses (text (codes "geometry 4096 65536 1 4 2 4 20" ∷ codes "lender 3 1 1" ∷ [])) 2 why.Lent
-    × Refuses (text (G ∷ L ∷ L ∷ [])) 3 why.Form
+    × Refuses (text (codes "geometry 4096 65536 1 4 2 4 20" ∷ codes "lender 1 1 1" ∷ codes "lender 1 1 1"
+    ∷ codes "lender 1 1 1" ∷ [])) 4 why.Lent
+    × Refuses (text (G ∷ L ∷ L ∷ L ∷ L ∷ L ∷ L ∷ L ∷ L ∷ L ∷ [])) 10 why.Lenders
+    × Refuses (text (G ∷ L ∷ L ∷ L ∷ L ∷ L ∷ L ∷ L ∷ L ∷ codes "lender 4 65 1" ∷ [])) 10 (why.Field Headroom)
     × Refuses (text (G ∷ codes "start" ∷ L ∷ [])) 3 why.Form
     × Refuses (text (G ∷ L ∷ codes "map 2 1" ∷ [])) 3 why.Slab
     × Refuses (text (G ∷ L ∷ codes "map 1 1" ∷ [])) 3 why.Lender
     × Refuses (text (G ∷ codes "connect 0" ∷ [])) 2 why.Lender
-    × Refuses (text (G ∷ L ∷ codes "connect 0" ∷ codes "connect 0" ∷ [])) 4 why.Form
-    × Refuses (text (G ∷ L ∷ codes "connect 0" ∷ codes "connect 1" ∷ [])) 4 why.Form
-    × Refuses (text (G ∷ L ∷ codes "tick 0" ∷ [])) 3 why.Form
+    × Refuses (text (G ∷ L ∷ codes "connect 0" ∷ codes "connect 1" ∷ [])) 4 why.Lender
+    × Refuses (text (G ∷ L ∷ L ∷ codes "cut 1 0 0" ∷ codes "cut 2 0 0" ∷ [])) 5 why.Lender
+    × Refuses (text (G ∷ L ∷ codes "crash 1" ∷ [])) 3 why.Lender
+    × Refuses (text (G ∷ L ∷ codes "host 1 1 2" ∷ [])) 3 why.Lender
+    × Refuses (text (G ∷ L ∷ codes "round 0" ∷ [])) 3 why.Form
 
--- forms that the machine doesn't run yet, and those of a number that is too wide
+-- forms of an operator's events, and those of a number that is too wide
 abbrev IsForm : List ℕ → Event → Type 0
 IsForm bytes e = event_line (words_of bytes) ≡ plain e
 

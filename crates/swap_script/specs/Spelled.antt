@@ -34,7 +34,7 @@ is_caller c None = false
 is_caller c (Some first) = first.0 == c.0
 
 abbrev pub above_of : Counts → Above
-above_of counts = record { events = counts.events; calls = counts.calls; connected = counts.connected }
+above_of counts = record { events = counts.events; calls = counts.calls }
 
 -- a lender by its three numbers
 abbrev pub spec_of : ℕ × ℕ × ℕ → LenderSpec

@@ -3,7 +3,7 @@ ghost use Rattle.std.specs.Prelude.{◌≡◌, ℕ, ◌+◌, ◌<◌, ◌≤◌,
 ghost use Rattle.std.specs.List.{list_any};
 ghost use Rattle.swap_base.specs.Sizes.{first_beyond};
 ghost use Rattle.swap_io.specs.Words.{pattern, piece_of, lengths};
-ghost use Rattle.swap_script.specs.Reading.{caller_of, page_of, mapped_slab, lender_of, is_connect, is_out, is_far, calls_in, may_run, are_addressed, is_within_reach, has_caller, has_page, has_slab, has_lender, tests};
+ghost use Rattle.swap_script.specs.Reading.{caller_of, page_of, mapped_slab, lender_of, is_out, is_far, calls_in, may_run, are_addressed, is_within_reach, has_caller, has_page, has_slab, has_lender, tests};
 ghost use Rattle.swap_script.specs.Spelled.{spelled, above_of};
 
 use super::forms::Line;
@@ -18,12 +18,11 @@ const CALL_BYTES: u64 = 1_073_741_824;
 /// How many events a script may have, at most.
 pub const EVENT_LIMIT: u32 = 4_194_304;
 
-/// How many events stand above a line, how many of them are calls, and whether one is a `connect` line.
+/// How many events stand above a line, and how many of them are calls.
 #[derive(Clone, Copy)]
 pub struct Counts {
     pub events: u32,
     pub calls: u32,
-    pub connected: bool,
 }
 
 fn caller_of(event: Event) -> Option<Caller>
@@ -77,12 +76,6 @@ fn lender_of(event: Event) -> Option<Lender>
     }
 }
 
-fn is_connect(event: Event) -> bool
-    ensures { result ≡ is_connect event }
-{
-    matches!(event, Event::Connect { .. })
-}
-
 pub fn is_out(event: Event) -> bool
     ensures { result ≡ is_out event }
 {
@@ -98,11 +91,11 @@ fn is_far(event: Event) -> bool
     )
 }
 
-fn may_run(grammar: Grammar, above: Counts, event: Event) -> bool
-    ensures { result ≡ may_run grammar (above_of above) event }
+fn may_run(grammar: Grammar, event: Event) -> bool
+    ensures { result ≡ may_run grammar event }
 {
     match grammar {
-        Grammar::Script => runs_today(above, event),
+        Grammar::Script => runs_today(event),
         Grammar::Trace { .. } => true,
     }
 }
@@ -205,7 +198,7 @@ pub fn fault_of(
     requires hex { is_out line.event ≡ true → is_some (piece_of line.hex.now) ≡ true }
     ensures { result ≡ first_beyond (tests grammar geometry.now lenders (above_of above) (spelled line.entry)) }
 {
-    if !may_run(grammar, above, line.event) {
+    if !may_run(grammar, line.event) {
         return Some(Why::Form);
     }
     if !are_addressed(grammar, lenders) {
@@ -246,12 +239,10 @@ impl Counts {
         requires within { self.events < EVENT_LIMIT }
         ensures events { result.events ≡ self.events + 1 }
         ensures calls { result.calls ≡ self.calls + calls_in event }
-        ensures connected { result.connected ≡ (self.connected || is_connect event) }
     {
         Counts {
             events: self.events + 1,
             calls: self.calls + calls_in(event),
-            connected: self.connected || is_connect(event),
         }
     }
 }

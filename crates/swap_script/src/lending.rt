@@ -4,13 +4,12 @@ ghost use Rattle.std.specs.Option.{option_map};
 ghost use Rattle.swap_script.specs.Lines.{words_of};
 ghost use Rattle.swap_script.specs.Forms.{spec_words};
 ghost use Rattle.swap_base.specs.Sizes.{first_beyond};
-ghost use Rattle.swap_script.specs.Reading.{lender_line, lender_rest, lending_tests, slots_of, may_follow, spec_within, IsWithinLimits, MayLend};
+ghost use Rattle.swap_script.specs.Reading.{lender_line, lender_rest, lending_tests, slots_of, spec_within, IsWithinLimits, MayLend};
 ghost use Rattle.swap_script.specs.Spelled.{spec_of};
 
+use super::Why;
 use super::forms::{is_word, small};
 use super::text::Words;
-use super::today::lends_today;
-use super::{Grammar, Why};
 use std::marker::Model;
 use swap_base::{Geometry, LenderSpec};
 
@@ -156,30 +155,17 @@ fn lending_fault(geometry: &Geometry, others: &Lenders, spec: &LenderSpec) -> Op
     None
 }
 
-fn may_follow(grammar: Grammar, others: &Lenders) -> bool
-    ensures { result ≡ may_follow grammar others.now }
-{
-    match grammar {
-        Grammar::Script => lends_today(others),
-        Grammar::Trace { .. } => true,
-    }
-}
-
 /// The lender that the words behind the first of a lender line give, behind the lenders of the lines above it.
 pub fn lender_line(
-    grammar: Grammar,
     geometry: &Geometry,
     others: &Lenders,
     words: Words<'_>,
 ) -> Result<LenderSpec, Why>
     requires { MayLend geometry.now others.now }
-    ensures line { result ≡ lender_line grammar geometry.now others.now words.entry }
+    ensures line { result ≡ lender_line geometry.now others.now words.entry }
     ensures may_lend { IfOk result (λ spec. MayLend geometry.now (others.now ++ spec ∷ [])) }
     ensures limits { IfOk result (λ spec. IsWithinLimits spec) }
 {
-    if !may_follow(grammar, others) {
-        return Err(Why::Form);
-    }
     match spec_within(words) {
         Err(why) => Err(why),
         Ok(spec) => match lending_fault(geometry, others, &spec) {

@@ -223,12 +223,8 @@ impl<'t> Model for Front<'t> {
 }
 
 /// The lenders that stand behind a geometry line.
-fn front_of<'t>(
-    grammar: Grammar,
-    geometry: &Geometry,
-    place: Place<'t>,
-) -> Result<Front<'t>, ScriptRefused>
-    ensures front { result ≡ front_from grammar geometry.now [] place.entry }
+fn front_of<'t>(geometry: &Geometry, place: Place<'t>) -> Result<Front<'t>, ScriptRefused>
+    ensures front { result ≡ front_from geometry.now [] place.entry }
     ensures may_lend { IfOk result (λ front. MayLend geometry.now front.lenders) }
 {
     let mut lenders = Lenders::none();
@@ -238,7 +234,7 @@ fn front_of<'t>(
         let Some(words) = lender_rest(text) else {
             return Ok(Front { lenders, place });
         };
-        match lender_line(grammar, geometry, &lenders, words) {
+        match lender_line(geometry, &lenders, words) {
             Ok(spec) => {
                 lenders = lenders.with(spec);
                 place = ahead.again();
@@ -268,7 +264,6 @@ fn checked_lines(
     let mut counts = Counts {
         events: 0,
         calls: 0,
-        connected: false,
     };
     'reading: while let Some(kept) = place.next() {
         let line = kept.line;
@@ -345,7 +340,7 @@ pub fn read_text<'t>(grammar: Grammar, text: &'t [u8]) -> Result<Script<'t>, Scr
             });
         }
     };
-    match front_of(grammar, &geometry, place) {
+    match front_of(&geometry, place) {
         Ok(Front { lenders, place }) => read_events(grammar, text, geometry, lenders, place),
         Err(refused) => Err(refused),
     }

@@ -73,9 +73,15 @@ fn the_first_fault_is_named_with_its_line(rt: HostRuntime) {
         ),
         ("geometry 4096 65536 1 4 2 4 20\nlender 3 1 1", 2, Why::Lent),
         (
-            "geometry 8 4 2 4 2 4 20\nlender 4 1 1\nlender 4 1 1",
-            3,
-            Why::Form,
+            "geometry 4096 65536 1 4 2 4 20\nlender 1 1 1\nlender 1 1 1\nlender 1 1 1",
+            4,
+            Why::Lent,
+        ),
+        (
+            "geometry 8 4 2 4 2 4 20\nlender 4 1 1\nlender 4 1 1\nlender 4 1 1\nlender 4 1 1\n\
+             lender 4 1 1\nlender 4 1 1\nlender 4 1 1\nlender 4 1 1\nlender 4 1 1",
+            10,
+            Why::Lenders,
         ),
         ("geometry 8 4 2 4 2 4 20\nstart\nlender 4 1 1", 3, Why::Form),
         (
@@ -92,18 +98,23 @@ fn the_first_fault_is_named_with_its_line(rt: HostRuntime) {
         (
             "geometry 8 4 2 4 2 4 20\nlender 4 1 1\nconnect 0\nconnect 1",
             4,
-            Why::Form,
+            Why::Lender,
         ),
         (
-            "geometry 8 4 2 4 2 4 20\nlender 4 1 1\ncrash 0",
-            3,
+            "geometry 8 4 2 4 2 4 20\nlender 4 1 1\ncut 0 1 2\ncrash 1",
+            4,
+            Why::Lender,
+        ),
+        (
+            "geometry 8 4 2 4 2 4 20\nlender 4 1 1\ntick 5\nhost 0 1 2\nround 1",
+            5,
             Why::Form,
         ),
         ("geometry 8 4 2 4 2 4 20\nout 2 8 aabbcc", 2, Why::Caller),
         ("geometry 8 4 2 4 2 4 20\nin 0 7\nin 0 8", 3, Why::Page),
         ("geometry 8 4 2 4 2 4 20\nout 0 0 aabbcc", 2, Why::Pattern),
     ] {
-        assert!(rt; text.len() < 100);
+        assert!(rt; text.len() < 200);
         assert_eq!(rt;
             refused(text),
             Some(ScriptRefused { line, why }),
@@ -161,18 +172,21 @@ fn a_walk_gives_each_event_and_its_page(rt: HostRuntime) -> Result<(), Fail> {
 
 #[test]
 fn a_walk_gives_the_events_of_a_lender(rt: HostRuntime) -> Result<(), Fail> {
-    let text =
-        b"geometry 8 4 2 4 2 4 20\n# one\nlender 4 1 2\nconnect 0\nmap 1 0\ngive 0\ntake 0\n";
-    let Ok(script) = read_script(text) else {
+    let text = "geometry 8 4 2 4 2 4 20\n# one\nlender 4 1 2\nlender 9 0 0\nconnect 0\nmap 1 0\n\
+                give 0\ntake 0\ncut 0 3 4\ncrash 0\nconnect 0\n";
+    assert!(rt; text.len() < 200);
+    let Ok(script) = read_script(text.as_bytes()) else {
         return Err("refused")?;
     };
     assert_eq!(rt;
         (script.calls(), script.events(), script.lenders()),
-        (0, 4, 1)
+        (0, 7, 2)
     );
     let mut line = LineBuf::make(rt.alloc())?;
     lender_line(&script.lender(0), &mut line);
     assert_eq!(rt; line.bytes(), b"lender 4 1 2\n".as_slice());
+    lender_line(&script.lender(1), &mut line);
+    assert_eq!(rt; line.bytes(), b"lender 9 0 0\n".as_slice());
     let lender = Lender(0);
     let slab = Slab(1);
     let mut walk = script.walk();
@@ -183,6 +197,13 @@ fn a_walk_gives_the_events_of_a_lender(rt: HostRuntime) -> Result<(), Fail> {
         Some(Event::Map { slab, lender }),
         Some(Event::Give { lender }),
         Some(Event::Take { lender }),
+        Some(Event::Cut {
+            lender,
+            to_lender: 3,
+            to_device: 4,
+        }),
+        Some(Event::Crash { lender }),
+        Some(Event::Connect { lender }),
         None,
     ] {
         assert_eq!(rt; walk.next(&mut page), want);

@@ -327,7 +327,7 @@ module _ {D F : Type 0} (disk : DiskMeaning D) (follows : FollowsItsMoves disk) 
   each_accounts x asked y k k' f f' (waits_for_room {d = d} c p bytes e within hands) stay h a =
       one_set fabric.answers d (disk.means k).flights (disk.means k).flights d.remote c (record { state = _; bytes = bytes }) (λ b other q v w. w) (omega arith) a
   each_accounts x asked y k k' f f' (rates_change {d = d} rates) stay h a = rates_on fabric.answers d rates (disk.means k).flights a
-  each_accounts x asked y k k' f f' (lets_go {d = d} l up) stay h a = let_go fabric.answers d l (disk.means k).flights a
+  each_accounts x asked y k k' f f' (lets_go {d = d} l within up) stay h a = let_go fabric.answers d l (disk.means k).flights a
   each_accounts x asked y k k' f f' (gives_up {d = d} l t off asks) stay h a = stays_on fabric.answers d (remote.gone d.remote l t) (disk.means k).flights refl a
   each_accounts x asked y k k' f f' (starts {d = d} {p = p} {line = line} {copy = copy} {r = r} el ec) (by_disk moved) h a =
       flying_now (record d { queue = queue.start d.queue }) k' _ (ap (λ (x : Port). x.flights) (follows k (StartWrite p copy.bytes) r k' moved)) (one_started fabric.answers d (disk.means k).flights p line copy _ el ec a)

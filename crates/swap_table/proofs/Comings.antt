@@ -14,7 +14,7 @@ use Rattle.swap_table.specs.Device.{Device, lost}
 use Rattle.swap_table.proofs.Programs.{Leads-implies}
 use Rattle.swap_table.specs.Happens.{happens}
 use Rattle.swap_table.specs.Moves.{of_sizes, anything, quiet, Move}
-use Rattle.swap_table.specs.Comes.{Comes, Linked, as_was, sent_on, let_go}
+use Rattle.swap_table.specs.Comes.{ComesTo, Linked, as_was, sent_on, let_go}
 use Rattle.swap_table.proofs.Going.{Goes-leads}
 use Rattle.swap_table.proofs.Walks.{Names, happens_fares}
 
@@ -52,10 +52,10 @@ names_anything d page (event.Host l used word) = tt
 names_anything d page e = tt
 
 module _ {D F : Type 0} (disk_moves : D → (c : DiskCall) → DiskAnswer c → D → Type 0) (moves : F → (c : FabricCall) → FabricAnswer c → F → Type 0) where
-  pub happens_comes : (d : Device) (k : D) (f : F) (page : List ℕ) (e : Event) → Leads disk_moves moves (happens d page e) k f (λ a _ _. Comes d page e a.0 a.1)
+  pub happens_comes : (d : Device) (k : D) (f : F) (page : List ℕ) (e : Event) → Leads disk_moves moves (happens d page e) k f (λ a _ _. ComesTo d page e a.0 a.1)
   happens_comes d k f page e =
       Leads-implies disk_moves moves (happens d page e) k f _ _ (λ a _ _ r. r.1.1)
-      (Goes-leads (Move anything) disk_moves moves (λ _ _ _. Unit {0}) (λ s asked t k k' f f' m went h. tt) (λ (a : Device × Seen) s. (s ≡ quiet a.0) × Comes d page e a.0 a.1) k f (happens_fares anything d page e (names_anything d page e)) tt)
+      (Goes-leads (Move anything) disk_moves moves (λ _ _ _. Unit {0}) (λ s asked t k k' f f' m went h. tt) (λ (a : Device × Seen) s. (s ≡ quiet a.0) × ComesTo d page e a.0 a.1) k f (happens_fares anything d page e (names_anything d page e)) tt)
 
 -- what requests leave, and the loss of a link keeps, holds once a device's links were used
 pub linked_keep : (P : Device → Type 0) → ((e : Device) (r : Remote) (made : ℕ) → P e → P (record e { remote = r; links_made = made })) → ((e : Device) (l : Lender) → P e → P (lost e l)) → (d d' : Device) → Linked d d' → P d → P d'

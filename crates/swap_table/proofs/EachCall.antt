@@ -70,16 +70,19 @@ module _ {D F : Type 0} (disk : DiskMeaning D) (follows : FollowsItsMoves disk) 
   pub fares_keep : {R : Type 0} (T : Bool) (d : Device) (page : List ℕ) (e : Event) (see : R → Seen) (p : Prog (Device × R)) (k : D) (f : F) → walk.Fares (there d) d page e see d p → AgreeWith disk fabric T d k f → AgreesAfter disk fabric T p d k f
   fares_keep T d page e see p k f g h = goes_keep T d p k f (Goes-implies (Move (there d)) _ _ (λ a s q. q.0) g) h
 
+  fares_to_keep : {R : Type 0} (T : Bool) (d : Device) (page : List ℕ) (e : Event) (see : R → Seen) (p : Prog (Device × R)) (k : D) (f : F) → walk.FaresTo (there d) d page e see p → AgreeWith disk fabric T d k f → AgreesAfter disk fabric T p d k f
+  fares_to_keep T d page e see p k f g h = goes_keep T d p k f (Goes-implies (Move (there d)) _ _ (λ a s q. q.0) g) h
+
   pub each_call_keeps : EachCallKeeps disk fabric
   each_call_keeps = record {
-    out = λ T d k f c p bytes h idle within. fares_keep T d bytes _ _ _ k f (walk.out_fares (there d) d bytes c p idle within tt) h;
-    read = λ T d k f c p h idle caller within. fares_keep T d [] _ _ _ k f (walk.read_fares_hit (there d) d [] c p idle caller within) h;
+    out = λ T d k f c p bytes h idle within. fares_to_keep T d bytes _ _ _ k f (walk.out_fares (there d) d bytes c p idle within tt) h;
+    read = λ T d k f c p h idle caller within. fares_to_keep T d [] _ _ _ k f (walk.read_fares_hit (there d) d [] c p idle caller within) h;
     finish = λ T d k f c h caller. fares_keep T d [] _ _ _ k f (walk.finish_fares (there d) d [] c caller) h;
     disk_start = λ T d k f h. fares_keep T d [] _ _ _ k f (walk.disk_start_fares (there d) d []) h;
     disk_take = λ T d k f h. fares_keep T d [] _ _ _ k f (walk.disk_take_fares (there d) d [] (which.Write (record { 0 = 0 })) true) h;
     disk_finish = λ T d k f w ok h. goes_keep T d _ k f (walk.disk_finish_goes (there d) d [] w ok) h;
     link_take = λ T d k f l h. fares_keep T d [] _ _ _ k f (walk.link_take_fares (there d) d [] l) h;
-    tick = λ T d k f word h. fares_keep T d [] _ _ _ k f (walk.tick_fares (there d) d [] word) h;
+    tick = λ T d k f word h. fares_to_keep T d [] _ _ _ k f (walk.tick_fares (there d) d [] word) h;
     map = λ T d k f t l h within. fares_keep T d [] _ _ _ k f (walk.map_fares (there d) d [] t l within) h;
     connect = λ T d k f l h within. fares_keep T d [] _ _ _ k f (walk.connect_fares (there d) d [] l within) h;
     give = λ T d k f l h. fares_keep T d [] _ _ _ k f (walk.give_fares (there d) d [] l tt) h;
@@ -93,4 +96,4 @@ module _ {D F : Type 0} (disk : DiskMeaning D) (follows : FollowsItsMoves disk) 
 
   -- an event
   pub happens_kept : (T : Bool) (d : Device) (k : D) (f : F) (page : List ℕ) (e : Event) → AgreeWith disk fabric T d k f → IsInRange d.sizes d.lenders e → AgreesAfter disk fabric T (happens d page e) d k f
-  happens_kept T d k f page e h range = fares_keep T d page e _ _ k f (walk.happens_fares (there d) d page e (names_there d.sizes d.lenders anyone any d page e range (hands_any page e))) h
+  happens_kept T d k f page e h range = fares_to_keep T d page e _ _ k f (walk.happens_fares (there d) d page e (names_there d.sizes d.lenders anyone any d page e range (hands_any page e))) h

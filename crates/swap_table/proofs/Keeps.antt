@@ -590,7 +590,7 @@ module _ {D F : Type 0} (disk : DiskMeaning D) (follows : FollowsItsMoves disk) 
   each_keeps x asked y k k' f f' (faults {d = d} {c = c} {p = p} {k = kind} {since = since} {at = at} {bytes = bytes} fails) stay h = fault_kept d k f c p kind since at bytes h fails
   each_keeps x asked y k k' f f' (waits_for_room {d = d} c p bytes e within hands) stay h = room_wait_kept d k f c p bytes h e within
   each_keeps x asked y k k' f f' (rates_change {d = d} rates) stay h = rates_kept d k f rates h
-  each_keeps x asked y k k' f f' (lets_go {d = d} l up) stay h = lost_kept d k f f l h (up_below d k f l h up) (λ m other j i b w. w) (λ m other pages w. w) h.of_f
+  each_keeps x asked y k k' f f' (lets_go {d = d} l within up) stay h = lost_kept d k f f l h (up_below d k f l h up) (λ m other j i b w. w) (λ m other pages w. w) h.of_f
   each_keeps x asked y k k' f f' (gives_up {d = d} l t off asks) stay h = gone_kept d k f l t h off asks
   each_keeps x asked y k k' f f' (starts {d = d} {p = p} {line = line} {copy = copy} {r = r} el ec) (by_disk moved) h = start_kept d k k' f p line copy r h el ec moved
   each_keeps x asked y k k' f f' (waits_for_disk {d = d} {c = c} {p = p} {n = n} {r = r} ins within is none) (by_disk moved) h = disk_wait_kept d k k' f c p n r h ins within is none moved

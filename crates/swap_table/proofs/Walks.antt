@@ -1,5 +1,5 @@
 -- Each program of the device goes by moves, and each event comes to what it may.
-use Rattle.std.proofs.Common.{◌≡◌, ◌&&◌, ℕ, ◌<◌, Bool, true, false, cond, ◌==◌, nat_lt, List, [], ◌∷◌, length, refl, sym, ap, ◌∙◌, subst, is_none, length-set, ⊎_elim, Option, None, Some}
+use Rattle.std.proofs.Common.{◌≡◌, ◌&&◌, ℕ, ◌<◌, Bool, true, false, cond, ◌==◌, nat_lt, List, [], ◌∷◌, length, refl, sym, ap, ◌∙◌, subst, is_none, length-set, ⊎_elim, inl, inr, Option, None, Some}
 use Rattle.std.proofs.lemmas.Bool.{cases_lt}
 use Rattle.std.proofs.lemmas.List.{get_or_past}
 use Rattle.swap_base.specs.declared.Page.{Page}
@@ -45,6 +45,7 @@ use Rattle.swap_remote.specs.Remote as remote
 use Rattle.swap_remote.specs.Remote.{target}
 use Rattle.swap_table.specs.declared.TheConstants.{MOST_LINKS}
 use Rattle.swap_table.specs.declared.OutStep.{OutStep}
+use Rattle.swap_table.specs.declared.OutStep.TheVariants as outs
 use Rattle.swap_table.specs.declared.InStep.{InStep}
 use Rattle.swap_table.specs.declared.InStep.TheVariants as ins
 use Rattle.swap_table.specs.declared.Step.{Step}
@@ -60,7 +61,7 @@ use Rattle.swap_table.proofs.Waits.{front_of}
 use Rattle.swap_table.specs.Happens.{happens, seen_by, see_out, see_in, see_step, see_start, see_disk, see_tick, see_map, see_link, see_gave, see_cut, see_crash, see_host, see_take}
 use Rattle.swap_table.specs.Goes.{Goes, ends, first, asks_disk, asks_fabric, After, by, OfFabric}
 use Rattle.swap_table.specs.Moves.{Within, anything, Speaker, quiet, Outs, new_out, late_out, Ins, new_in, late_in, zero, copied, came, full, unread, told, write, read, borrow, query, query_too, Hears, roomy, lent, refused, written, brought, asked_rate, told_to_go, IsWord, greeting, rating, giving_back, far_give, far_cut, far_crash, far_host, Move, enters, gives, faults, waits_for_room, rates_change, lets_go, starts, waits_for_disk, takes, lets_finish, sends, finds_down, raises, speaks, speaks_to_nobody, hears, hears_nothing, loses, misunderstands, breaks_off, far}
-use Rattle.swap_table.specs.Comes.{is_rest, is_of_link, Linked, as_was, sent_on, let_go, StepOut, begins_out, goes_on_out, StepIn, begins_in, goes_on_in, wait_seen, Comes, refuses, rests, accepts, gives_page, fails, keeps_page, reads, starts_write, takes_back, links, brings, rated}
+use Rattle.swap_table.specs.Comes.{is_rest, is_of_link, Linked, as_was, sent_on, let_go, StepOut, begins_out, goes_on_out, StepIn, begins_in, goes_on_in, wait_seen, Comes, refuses, rests, accepts, gives_page, fails, keeps_page, reads, starts_write, takes_back, links, brings, rates_slabs, is_of_rates, ComesTo}
 use Rattle.swap_table.proofs.Going.{Goes-implies, Goes-then, Goes-answering}
 use Rattle.swap_table.proofs.Placing.{place_goes}
 use Rattle.swap_table.proofs.Losing.{lost_ins, linked_trans, Leaves, lost_down, chosen_slab, lose_passes, say_passes, follow_passes}
@@ -119,7 +120,7 @@ answered_is d x l q h = by_oldest (rings.oldest (ring_of d.remote.links l)) refl
             test true named h = from _ (brought (front_of _ _ is).is says named) h
             test false named h = cc
 
-heard_is : (d : Device) (x : Heard) (l : Lender) (q : Parcel) → heard d l q (rings.oldest (ring_of d.remote.links l)) ≡ Some x → Hears d l q x
+pub heard_is : (d : Device) (x : Heard) (l : Lender) (q : Parcel) → heard d l q (rings.oldest (ring_of d.remote.links l)) ≡ Some x → Hears d l q x
 heard_is d x l q h = go (rate_asked q.msg) refl (taken_back q.msg) refl h
   where
     from : (y : Heard) → Hears d l q y → Some y ≡ Some x → Hears d l q x
@@ -143,7 +144,7 @@ done_is : (d : Device) (lease : Option Lease) (q : Parcel) → done_word lease �
 done_is d None q is = cc
 done_is d (Some k) q is = let same : parcel_of (msg.Done k) [] ≡ q = cc in subst (λ x. IsWord d x) same (giving_back k)
 
-heard_word : (d : Device) (x : Heard) (l : Lender) (q w : Parcel) → Hears d l q x → x.word ≡ Some w → IsWord x.device w
+pub heard_word : (d : Device) (x : Heard) (l : Lender) (q w : Parcel) → Hears d l q x → x.word ≡ Some w → IsWord x.device w
 heard_word d x l q w (roomy ring says same) is = cc
 heard_word d x l q w (lent ring says same none) is = cc
 heard_word d x l q w (refused ring says same) is = cc
@@ -160,7 +161,7 @@ choice_asks (Borrowing o) l reply t u m is = cc
 choice_asks (Mapped o k f) l reply t u m is = cc
 choice_asks (Draining o k f) l reply t u m is = cc
 
-heard_choice : (d : Device) (x : Heard) (l : Lender) (q : Parcel) (u : Slab) (m : Lender) → Hears d l q x → x.choice ≡ Some (u, m) → u.0 < length x.device.remote.slabs
+pub heard_choice : (d : Device) (x : Heard) (l : Lender) (q : Parcel) (u : Slab) (m : Lender) → Hears d l q x → x.choice ≡ Some (u, m) → u.0 < length x.device.remote.slabs
 heard_choice d x l q u m (lent ring says same none) is = cc
 heard_choice d x l q u m (refused ring says same) is = cc
 heard_choice d x l q u m (written ring says named) is = cc
@@ -356,7 +357,7 @@ module _ (W : Within) (d : Device) (page : List ℕ) where
 
       on : (up : Bool) → is_up d.remote.links l ≡ up → Fares (event.Connect l) see_link d (and_then (cond up (lose d l) (Ret d)) (λ x. connect_on x l))
       on false off = raise d (quiet d) refl as_was off
-      on true up = first (lets_go l up) (Goes-then (Move W) _ _ (λ x. connect_on x l) (λ x t q. raise x t q.0 (linked_trans d (lost d l) x (let_go as_was l) q.1.linked) (q.1.down l (lost_down d l))) (lose_passes W d l))
+      on true up = first (lets_go l within up) (Goes-then (Move W) _ _ (λ x. connect_on x l) (λ x t q. raise x t q.0 (linked_trans d (lost d l) x (let_go as_was l) q.1.linked) (q.1.down l (lost_down d l))) (lose_passes W d l))
 
   -- the far side moves
   pub give_fares : (l : Lender) → W.far l → Fares (event.Give l) see_gave d (give_to d l)
@@ -377,26 +378,42 @@ module _ (W : Within) (d : Device) (page : List ℕ) where
   pub host_fares : (l : Lender) (used word : ℕ) → W.far l → Fares (event.Host l used word) see_host d (device.host d l used word)
   host_fares l used word within = asks_fabric (elim [ None ↦ by (far (far_host within)) (ends (refl, rests refl refl)) | Some hosted ↦ by (far (far_host within)) (ends (refl, rests refl refl)) ])
 
-  -- an event's call of the device, by what is seen
-  pub seen_fares : {R : Type 0} {e : Event} {p : Prog (Device × R)} (see : R → Seen) → Fares e see d p → Fares e (λ s. s) d (seen_by see p)
-  seen_fares see g = fares_as see (λ s. s) (λ r. (r.0, see r.1)) (λ a. (refl, refl)) g
-
 -- a slab's rate is hit by a call's first step, and each period ends with a tick
 module _ (W : Within) (d : Device) (page : List ℕ) where
-  abbrev Rated : {R : Type 0} → Event → (R → Seen) → List Activity → Prog (Device × R) → Type 0
-  Rated {R} e see rates p = Fares W (record d { rates = rates }) page e see (record d { rates = rates }) p
+  -- from a device that may have other rates
+  abbrev pub FaresTo : {R : Type 0} → Event → (R → Seen) → Prog (Device × R) → Type 0
+  FaresTo {R} e see p = Goes (Move W) (λ (a : Device × R) s. (s ≡ quiet a.0) × ComesTo d page e a.0 (see a.1)) (quiet d) p
 
-  rated_fares : {R : Type 0} {e : Event} {p : Prog (Device × R)} (see : R → Seen) (rates : List Activity) → Rated e see rates p → Fares W d page e see d p
-  rated_fares see rates g = first (rates_change rates) (Goes-implies (Move W) _ _ (λ a s q. (q.0, rated rates q.1)) g)
+  rated_fares : {R : Type 0} {e : Event} {p : Prog (Device × R)} (see : R → Seen) (rates : List Activity) → rates_slabs e ≡ true → ((r : R) → is_of_rates (see r) ≡ true) → Fares W (record d { rates = rates }) page e see (record d { rates = rates }) p → FaresTo e see p
+  rated_fares see rates may seen_ g = first (rates_change rates) (Goes-implies (Move W) _ _ (λ a s q. (q.0, (rates, inr (may, seen_ a.1), q.1))) g)
 
-  pub out_fares : (c : Caller) (p : Page) → is_idle (state_of d.calls c) ≡ true → W.page p → W.bytes page → Fares W d page (event.PageOut c p) see_out d (out d c p page)
-  out_fares c p idle within hands = rated_fares see_out (hit d p).rates (put_fares W (hit d p) page c p idle within hands)
+  same_fares : {R : Type 0} {e : Event} {p : Prog (Device × R)} (see : R → Seen) → Fares W d page e see d p → FaresTo e see p
+  same_fares see g = Goes-implies (Move W) _ _ (λ a s q. (q.0, (d.rates, inl refl, q.1))) g
 
-  pub read_fares_hit : (c : Caller) (p : Page) → is_idle (state_of d.calls c) ≡ true → W.caller c → W.page p → Fares W d page (event.PageIn c p) see_in d (device.read d c p)
-  read_fares_hit c p idle within page_within = rated_fares see_in (hit d p).rates (read_in_fares W (hit d p) page c p idle within page_within)
+  -- an event's call of the device, by what is seen
+  seen_fares : {R : Type 0} {e : Event} {p : Prog (Device × R)} (see : R → Seen) → FaresTo e see p → FaresTo e (λ s. s) (seen_by see p)
+  seen_fares see g = Goes-answering (Move W) _ _ (λ r. (r.0, see r.1)) (λ a s q. q) g
 
-  pub tick_fares : (word : ℕ) → Fares W d page (event.Tick word) see_tick d (device.tick d word)
-  tick_fares word = rated_fares see_tick (periods_ended d).rates (Goes-implies (Move W) _ _ (λ a s q. (q.0, links refl (seen_of a.1) q.1.linked)) (place_goes W (periods_ended d) word))
+  out_rates : (o : OutStep) → is_of_rates (see_out o) ≡ true
+  out_rates (outs.Done entry to) = refl
+  out_rates outs.Room = refl
+
+  in_rates : (o : InStep) → is_of_rates (see_in o) ≡ true
+  in_rates (ins.Done entry) = refl
+  in_rates (ins.Wait v) = refl
+
+  tick_rates : (o : Option Placed) → is_of_rates (see_tick o) ≡ true
+  tick_rates None = refl
+  tick_rates (Some placed) = refl
+
+  pub out_fares : (c : Caller) (p : Page) → is_idle (state_of d.calls c) ≡ true → W.page p → W.bytes page → FaresTo (event.PageOut c p) see_out (out d c p page)
+  out_fares c p idle within hands = rated_fares see_out (hit d p).rates refl out_rates (put_fares W (hit d p) page c p idle within hands)
+
+  pub read_fares_hit : (c : Caller) (p : Page) → is_idle (state_of d.calls c) ≡ true → W.caller c → W.page p → FaresTo (event.PageIn c p) see_in (device.read d c p)
+  read_fares_hit c p idle within page_within = rated_fares see_in (hit d p).rates refl in_rates (read_in_fares W (hit d p) page c p idle within page_within)
+
+  pub tick_fares : (word : ℕ) → FaresTo (event.Tick word) see_tick (device.tick d word)
+  tick_fares word = rated_fares see_tick (periods_ended d).rates refl tick_rates (Goes-implies (Move W) _ _ (λ a s q. (q.0, links refl (seen_of a.1) q.1.linked)) (place_goes W (periods_ended d) word))
     where
       seen_of : (o : Option Placed) → is_of_link (see_tick o) ≡ true
       seen_of None = refl
@@ -415,24 +432,21 @@ module _ (W : Within) (d : Device) (page : List ℕ) where
   Names (event.Host l used word) = W.far l
   Names e = Unit {0}
 
-  abbrev pub FaresOn : {R : Type 0} → Event → (R → Seen) → Device → Prog (Device × R) → Type 0
-  FaresOn {R} e see now p = Fares W d page e see now p
-
-  pub happens_fares : (e : Event) → Names e → FaresOn e (λ s. s) d (happens d page e)
-  happens_fares (event.PageOut c p) names = chosen (λ (x : Prog (Device × Seen)). FaresOn (event.PageOut c p) (λ s. s) d x) (is_idle (state_of d.calls c)) _ _ (λ idle. seen_fares W d page see_out (out_fares c p idle names.0 names.1)) (λ _. ends (refl, refuses refl))
-  happens_fares (event.PageIn c p) names = chosen (λ (x : Prog (Device × Seen)). FaresOn (event.PageIn c p) (λ s. s) d x) (is_idle (state_of d.calls c)) _ _ (λ idle. seen_fares W d page see_in (read_fares_hit c p idle names.0 names.1)) (λ _. ends (refl, refuses refl))
-  happens_fares (event.Finish c) names = chosen (λ (x : Prog (Device × Seen)). FaresOn (event.Finish c) (λ s. s) d x) (is_idle (state_of d.calls c)) _ _ (λ _. ends (refl, rests refl refl)) (λ _. seen_fares W d page see_step (finish_fares W d page c names))
-  happens_fares event.Start names = seen_fares W d page see_start (disk_start_fares W d page)
-  happens_fares (event.Disk w ok) names = asks_disk (elim [ true ↦ by lets_finish (seen_fares W d page see_disk (disk_take_fares W d page w ok)) | false ↦ by lets_finish (ends (refl, rests refl refl)) ])
-  happens_fares (event.Map t l) names = seen_fares W d page see_map (map_fares W d page t l names)
-  happens_fares (event.Connect l) names = seen_fares W d page see_link (connect_fares W d page l names)
-  happens_fares (event.Give l) names = seen_fares W d page see_gave (give_fares W d page l names)
-  happens_fares (event.Take l) names = seen_fares W d page see_take (link_take_fares W d page l)
-  happens_fares (event.Tick word) names = seen_fares W d page see_tick (tick_fares word)
-  happens_fares (event.Cut l a b) names = seen_fares W d page see_cut (cut_fares W d page l a b names)
-  happens_fares (event.Crash l) names = seen_fares W d page see_crash (crash_fares W d page l names)
-  happens_fares (event.Host l used word) names = seen_fares W d page see_host (host_fares W d page l used word names)
-  happens_fares (event.Round word) names = ends (refl, rests refl refl)
+  pub happens_fares : (e : Event) → Names e → FaresTo e (λ s. s) (happens d page e)
+  happens_fares (event.PageOut c p) names = chosen (λ (x : Prog (Device × Seen)). FaresTo (event.PageOut c p) (λ s. s) x) (is_idle (state_of d.calls c)) _ _ (λ idle. seen_fares see_out (out_fares c p idle names.0 names.1)) (λ _. ends (refl, (d.rates, inl refl, refuses refl)))
+  happens_fares (event.PageIn c p) names = chosen (λ (x : Prog (Device × Seen)). FaresTo (event.PageIn c p) (λ s. s) x) (is_idle (state_of d.calls c)) _ _ (λ idle. seen_fares see_in (read_fares_hit c p idle names.0 names.1)) (λ _. ends (refl, (d.rates, inl refl, refuses refl)))
+  happens_fares (event.Finish c) names = chosen (λ (x : Prog (Device × Seen)). FaresTo (event.Finish c) (λ s. s) x) (is_idle (state_of d.calls c)) _ _ (λ _. ends (refl, (d.rates, inl refl, rests refl refl))) (λ _. seen_fares see_step (same_fares see_step (finish_fares W d page c names)))
+  happens_fares event.Start names = seen_fares see_start (same_fares see_start (disk_start_fares W d page))
+  happens_fares (event.Disk w ok) names = asks_disk (elim [ true ↦ by lets_finish (seen_fares see_disk (same_fares see_disk (disk_take_fares W d page w ok))) | false ↦ by lets_finish (ends (refl, (d.rates, inl refl, rests refl refl))) ])
+  happens_fares (event.Map t l) names = seen_fares see_map (same_fares see_map (map_fares W d page t l names))
+  happens_fares (event.Connect l) names = seen_fares see_link (same_fares see_link (connect_fares W d page l names))
+  happens_fares (event.Give l) names = seen_fares see_gave (same_fares see_gave (give_fares W d page l names))
+  happens_fares (event.Take l) names = seen_fares see_take (same_fares see_take (link_take_fares W d page l))
+  happens_fares (event.Tick word) names = seen_fares see_tick (tick_fares word)
+  happens_fares (event.Cut l a b) names = seen_fares see_cut (same_fares see_cut (cut_fares W d page l a b names))
+  happens_fares (event.Crash l) names = seen_fares see_crash (same_fares see_crash (crash_fares W d page l names))
+  happens_fares (event.Host l used word) names = seen_fares see_host (same_fares see_host (host_fares W d page l used word names))
+  happens_fares (event.Round word) names = ends (refl, (d.rates, inl refl, rests refl refl))
 
   -- the call that no event makes by itself
   pub disk_finish_goes : (w : DiskWhich) (ok : Bool) → Goes (Move W) Rests (quiet d) (disk_finish d w ok)

@@ -1,5 +1,5 @@
 -- What an event comes to: what the device is after it, and what is seen, whatever disk and fabric answered.
-use Rattle.std.specs.Prelude.{◌≡◌, ℕ, Bool, true, false, List, Option, None, Some}
+use Rattle.std.specs.Prelude.{◌≡◌, ◌⊎◌, ℕ, Bool, true, false, List, Option, None, Some}
 use Rattle.swap_base.specs.declared.Page.{Page}
 use Rattle.swap_base.specs.declared.Caller.{Caller}
 use Rattle.swap_base.specs.declared.EntryNo.{EntryNo}
@@ -88,4 +88,26 @@ pub data Comes : Device → List ℕ → Event → Device → Seen → Type 0 wh
   takes_back : {d : Device} {page : List ℕ} {w : DiskWhich} {ok : Bool} (taken : Option Taken) → Comes d page (event.Disk w ok) (took_back d taken).0 (see_disk (took_back d taken).1)
   links : {d : Device} {page : List ℕ} {e : Event} {s : Seen} {d' : Device} → is_new e ≡ false → is_of_link s ≡ true → Linked d d' → Comes d page e d' s
   brings : {d : Device} {page : List ℕ} {l : Lender} {m : Msg} {d' : Device} (c : Caller) (bytes : List ℕ) (r : Remote) → Linked (record d { remote = r; calls = calls.came d.calls c bytes }) d' → Comes d page (event.Take l) d' (seen.Took m)
-  rated : {d : Device} {page : List ℕ} {e : Event} {s : Seen} {d' : Device} (rates : List Activity) → Comes (record d { rates = rates }) page e d' s → Comes d page e d' s
+
+-- the events that hit a slab or end the periods of all, and what is seen where they do
+abbrev pub rates_slabs : Event → Bool
+rates_slabs (event.PageOut c p) = true
+rates_slabs (event.PageIn c p) = true
+rates_slabs (event.Tick word) = true
+rates_slabs _ = false
+
+abbrev pub is_of_rates : Seen → Bool
+is_of_rates (seen.Done entry to) = true
+is_of_rates seen.Room = true
+is_of_rates (seen.Wait v) = true
+is_of_rates seen.Ticked = true
+is_of_rates (seen.Asked slab first second) = true
+is_of_rates _ = false
+
+-- rates are as they were, or the event may change them
+abbrev pub MayRate : Device → List Activity → Event → Seen → Type 0
+MayRate d rates e s = (rates ≡ d.rates) ⊎ ((rates_slabs e ≡ true) × (is_of_rates s ≡ true))
+
+-- what an event comes to, with the rates that it leaves
+abbrev pub ComesTo : Device → List ℕ → Event → Device → Seen → Type 0
+ComesTo d page e d' s = (rates : List Activity) × MayRate d rates e s × Comes (record d { rates = rates }) page e d' s

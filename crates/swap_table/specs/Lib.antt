@@ -9,3 +9,4 @@ pub mod Fits
 pub mod Accounts
 pub mod Promises
 pub mod Laws
+pub mod Branches

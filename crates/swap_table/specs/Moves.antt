@@ -150,7 +150,7 @@ pub data Move (W : Within) : Speaker → Asked → Speaker → Type 0 where
   faults : {d : Device} {c : Caller} {p : Page} {k : CallKind} {since at : ℕ} {bytes : List ℕ} → Faults d c p k since at bytes → Move W (quiet d) Nothing (quiet (fault d c p k since at bytes))
   waits_for_room : {d : Device} (c : Caller) (p : Page) (bytes : List ℕ) → is_idle (state_of d.calls c) ≡ true → W.page p → W.bytes bytes → Move W (quiet d) Nothing (quiet (wait_for_room d c p bytes))
   rates_change : {d : Device} (rates : List Activity) → Move W (quiet d) Nothing (quiet (record d { rates = rates }))
-  lets_go : {d : Device} (l : Lender) → is_up d.remote.links l ≡ true → Move W (quiet d) Nothing (quiet (lost d l))
+  lets_go : {d : Device} (l : Lender) → W.lender l → is_up d.remote.links l ≡ true → Move W (quiet d) Nothing (quiet (lost d l))
   gives_up : {d : Device} (l : Lender) (t : Slab) → is_up d.remote.links l ≡ false → slabs.asks l (slabs.state_of d.remote.slabs t) ≡ true → Move W (quiet d) Nothing (quiet (record d { remote = remote.gone d.remote l t }))
   -- with the disk
   starts : {d : Device} {p : Page} {line : List Page} {copy : Copy} {r : DiskAnswer (StartWrite p copy.bytes)} → d.queue.line ≡ p ∷ line → queue.next d.queue p ≡ Some copy → Move W (quiet d) (OfDisk (StartWrite p copy.bytes) r) (quiet (record d { queue = queue.start d.queue }))

@@ -2,6 +2,7 @@
 #![tactic(auto)]
 
 ghost use Rattle.swap_table.specs.Laws.{EachCallKeeps, NewAgrees};
+ghost use Rattle.swap_table.specs.Branches.{LiesEndTheLink, LeaseInUse, WriteFindsTheLinkDown, ReadFindsTheLinkDown, BorrowFindsTheLinkDown, GreetingFindsTheLinkDown, QueryFindsTheLinkDown, SlabsAreGivenBack, LossMakesTheChoice};
 ghost use Rattle.swap_table.specs.Promises.{FollowsItsMoves, Promises};
 
 use swap_base::{Caller, EntryNo, Lender, Page, Slab, Via};
@@ -94,3 +95,16 @@ pub fn calls_keep<D: DiskPort, F: Fabric>()
 {
     ports_promise::<D, F>();
 }
+
+/// Branches of the table that no script reaches, over a fabric that is a list of answers.
+pub fn branches()
+    ensures lies { LiesEndTheLink }
+    ensures lease_in_use { LeaseInUse }
+    ensures write { WriteFindsTheLinkDown }
+    ensures read { ReadFindsTheLinkDown }
+    ensures borrow { BorrowFindsTheLinkDown }
+    ensures greeting { GreetingFindsTheLinkDown }
+    ensures query { QueryFindsTheLinkDown }
+    ensures given_back { SlabsAreGivenBack }
+    ensures loss { LossMakesTheChoice }
+{}

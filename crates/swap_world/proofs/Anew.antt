@@ -1,5 +1,5 @@
 -- A call is newer where a page-out of its page was accepted since its last start, and lost where its link ended since.
-use Rattle.std.proofs.Common.{◌≡◌, ℕ, ◌⊎◌, Bool, true, false, cond, ◌==◌, List, [], ◌∷◌, ◌++◌, map, refl, sym, ap, ◌∙◌, subst, inl, inr, Option, None, Some}
+use Rattle.std.proofs.Common.{◌≡◌, ℕ, nat_lt, ◌⊎◌, Bool, true, false, cond, ◌==◌, List, [], ◌∷◌, ◌++◌, map, refl, sym, ap, ◌∙◌, subst, inl, inr, Option, None, Some}
 use Rattle.std.proofs.lemmas.Bool.{eq-eqb, eqb-true}
 use Rattle.swap_base.specs.declared.Page.{Page}
 use Rattle.swap_base.specs.declared.Caller.{Caller}
@@ -27,15 +27,18 @@ use Rattle.swap_calls.specs.declared.CallState.{CallState}
 use Rattle.swap_calls.specs.declared.CallState.TheVariants.{Idle, Room, Reading}
 use Rattle.swap_rings.specs.Rings.{is_up}
 use Rattle.swap_table.specs.declared.DiskStep.{DiskStep}
-use Rattle.swap_table.specs.Ports.{Prog, Ret, AskDisk, AskFabric, Along}
-use Rattle.swap_table.specs.Device.{Device, enter, lost, wrote, took, took_back}
-use Rattle.swap_table.specs.Happens.{happens}
+use Rattle.swap_table.specs.Ports.{Prog, Ret, AskDisk, AskFabric, answering, and_then, Along}
+use Rattle.swap_wire.specs.declared.Event.TheVariants as event
+use Rattle.swap_table.specs.declared.TheConstants.{MOST_LINKS}
+use Rattle.swap_table.specs.Device as device
+use Rattle.swap_table.specs.Device.{Device, Heard, enter, lost, wrote, took, took_back}
+use Rattle.swap_table.specs.Happens.{happens, seen_by, see_link}
 use Rattle.swap_table.specs.Goes.{Asked, Nothing, OfDisk, OfFabric, Goes, ends, first, asks_disk, asks_fabric, After, by}
-use Rattle.swap_table.specs.Moves.{anything, Speaker, quiet, Sends, write, read, borrow, Hears, lent, refused, written, brought, Move, enters, gives, faults, waits_for_room, starts, waits_for_disk, takes, lets_finish, sends, finds_down, raises, speaks, speaks_to_nobody, hears, hears_nothing, loses, misunderstands, breaks_off, far}
-use Rattle.swap_table.specs.Comes.{Linked, Comes, refuses, rests, accepts, gives_page, fails, keeps_page, reads, starts_write, takes_back, links, brings}
+use Rattle.swap_table.specs.Moves.{Within, anything, Speaker, quiet, Sends, write, read, borrow, query, query_too, Hears, roomy, lent, refused, written, brought, asked_rate, told_to_go, Move, enters, gives, faults, waits_for_room, rates_change, lets_go, gives_up, starts, waits_for_disk, takes, lets_finish, sends, finds_down, raises, speaks, speaks_to_nobody, hears, hears_nothing, loses, misunderstands, breaks_off, far}
+use Rattle.swap_table.specs.Comes.{Linked, Comes, ComesTo, refuses, rests, accepts, gives_page, fails, keeps_page, reads, starts_write, takes_back, links, brings}
 use Rattle.swap_table.proofs.Comings.{linked_keep, names_anything, happens_comes}
 use Rattle.swap_table.proofs.Programs.{Leads-Along}
-use Rattle.swap_table.proofs.Walks.{happens_fares}
+use Rattle.swap_table.proofs.Walks.{Names, happens_fares}
 use Rattle.swap_table.proofs.Lists.{chosen}
 use Rattle.swap_table.proofs.Agree.{get_or-map_idle}
 use Rattle.swap_table.proofs.Places.{set_either}
@@ -130,10 +133,48 @@ with_asked before Nothing = before
 with_asked before (OfDisk call r) = before ++ OfDisk call r ∷ []
 with_asked before (OfFabric call r) = before ++ OfFabric call r ∷ []
 
-module _ (d0 : Device) (c : Caller) where
-  -- where the call's link is lost, it was before, or a call of the fabric has ended it
+-- the link that an event makes anew
+abbrev pub made_anew : Event → ℕ → Type 0
+made_anew (event.Connect m) n = m.0 ≡ n
+made_anew _ n = ⊥
+
+-- each way through a program ends a link
+abbrev pub MustEnd : {A : Type 0} → Lender → Prog A → Type 0
+MustEnd l (Ret a) = ⊥
+MustEnd l (AskDisk call next) = (r : DiskAnswer call) → MustEnd l (next r)
+MustEnd l (AskFabric call next) = ((r : FabricAnswer call) → ends_by l call r ≡ true) ⊎ ((r : FabricAnswer call) → MustEnd l (next r))
+
+answering_ends : {A B : Type 0} (l : Lender) (g : A → B) (p : Prog A) → MustEnd l p → MustEnd l (answering g p)
+answering_ends l g (Ret a) must = must
+answering_ends l g (AskDisk call next) must = λ r. answering_ends l g (next r) (must r)
+answering_ends l g (AskFabric call next) (inl ends_it) = inl ends_it
+answering_ends l g (AskFabric call next) (inr must) = inr (λ r. answering_ends l g (next r) (must r))
+
+then_ends : {A B : Type 0} (l : Lender) (p : Prog A) (next : A → Prog B) → ((a : A) → MustEnd l (next a)) → MustEnd l (and_then p next)
+then_ends l (Ret a) next must = must a
+then_ends l (AskDisk call more) next must = λ r. then_ends l (more r) next must
+then_ends l (AskFabric call more) next must = inr (λ r. then_ends l (more r) next must)
+
+-- what callers may name, where the links that may be made anew are these
+abbrev pub making : (ℕ → Type 0) → Within
+making made = record anything { lender = λ l. made l.0 }
+
+names_making : (d : Device) (page : List ℕ) (e : Event) → Names (making (made_anew e)) d page e
+names_making d page (event.PageOut c p) = (tt, tt)
+names_making d page (event.PageIn c p) = (tt, tt)
+names_making d page (event.Finish c) = tt
+names_making d page (event.Map t l) = tt
+names_making d page (event.Connect l) = refl
+names_making d page (event.Give l) = tt
+names_making d page (event.Cut l a b) = tt
+names_making d page (event.Crash l) = tt
+names_making d page (event.Host l used word) = tt
+names_making d page e = tt
+
+module _ (made : ℕ → Type 0) (d0 : Device) (c : Caller) where
+  -- where the call's link is lost, it was before, or is to be made anew, or a call of the fabric has ended it
   abbrev pub LossIsAsked : List Asked → Device → Type 0
-  LossIsAsked before d = (l : Lender) → IsLostBy l (state_of d.calls c) → IsLostBy l (state_of d0.calls c) ⊎ EndsIn l before
+  LossIsAsked before d = (l : Lender) → IsLostBy l (state_of d.calls c) → (IsLostBy l (state_of d0.calls c) ⊎ made l.0) ⊎ EndsIn l before
 
   abbrev pub Back : Calls → Calls → Type 0
   Back cs now = (l : Lender) → IsLostBy l (state_of now c) → IsLostBy l (state_of cs c)
@@ -177,33 +218,41 @@ module _ (d0 : Device) (c : Caller) where
         | inr same ↦ inr (ends_last l before (OfFabric call r) (ends_it l same))
       ]
 
-  sent_back : (d : Device) (l : Lender) (q : Parcel) (e base : Device) → Sends anything d l q e base → Back d.calls e.calls × Back d.calls base.calls
+  sent_back : (d : Device) (l : Lender) (q : Parcel) (e base : Device) → Sends (making made) d l q e base → Back d.calls e.calls × Back d.calls base.calls
   sent_back d l q e base (write {c = a} {p = p} {bytes = bytes} outs is) = (entered_back d a p bytes, entered_back d a p bytes)
   sent_back d l q e base (read {c = a} ins within is none at) = (set_call_back d.calls a _ (λ m n. n), λ m n. n)
   sent_back d l q e base (borrow within may) = ((λ m n. n), λ m n. n)
+  sent_back d l q e base (query within may) = ((λ m n. n), λ m n. n)
+  sent_back d l q e base (query_too within state other may) = ((λ m n. n), λ m n. n)
 
-  heard_back : (d : Device) (l : Lender) (q : Parcel) (e : Device) → Hears d l q e → Back d.calls e.calls
+  heard_back : (d : Device) (l : Lender) (q : Parcel) (x : Heard) → Hears d l q x → Back d.calls x.device.calls
+  heard_back d l q e (roomy ring says same) m n = n
+  heard_back d l q e (asked_rate says at) m n = n
+  heard_back d l q e (told_to_go says at) m n = n
   heard_back d l q e (lent ring says same none) m n = n
   heard_back d l q e (refused ring says same) m n = n
   heard_back d l q e (written ring says named) m n = n
   heard_back d l q e (brought {c = a} ring says named) m n = came_back d.calls a q.page m n
 
-  each : (before : List Asked) (x : Speaker) (asked : Asked) (y : Speaker) → Move anything x asked y → LossIsAsked before x.device → LossIsAsked (with_asked before asked) y.device
+  each : (before : List Asked) (x : Speaker) (asked : Asked) (y : Speaker) → Move (making made) x asked y → LossIsAsked before x.device → LossIsAsked (with_asked before asked) y.device
   each before x asked y (enters {d = d} {c = a} {p = p} {bytes = bytes} outs) was = stays before asked d (enter d a p bytes) (entered_back d a p bytes) was
   each before x asked y (gives {d = d} {c = a} given) was = stays before asked d y.device (set_call_back d.calls a idle (λ m n. n)) was
   each before x asked y (faults {d = d} {c = a} why) was = stays before asked d y.device (set_call_back d.calls a idle (λ m n. n)) was
   each before x asked y (waits_for_room {d = d} a p bytes e within hands) was = stays before asked d y.device (set_call_back d.calls a _ (λ m n. n)) was
+  each before x asked y (rates_change {d = d} rates) was = stays before asked d y.device (λ m n. n) was
+  each before x asked y (lets_go {d = d} m within up) was = λ l is.
+      elim (lost_through l m (state_of d.calls c) (map_back (IsLostBy l) (λ x. x) c d.calls (calls.lost_if_through m) refl is)) [ inl n ↦ was l n | inr same ↦ inl (inr (subst made same within)) ]
+  each before x asked y (gives_up {d = d} l t off asks) was = stays before asked d y.device (λ m n. n) was
   each before x asked y (starts {d = d} el ec) was = stays before asked d y.device (λ m n. n) was
   each before x asked y (waits_for_disk {d = d} {c = a} ins within is none) was = stays before asked d y.device (set_call_back d.calls a _ (λ m n. n)) was
   each before x asked y (takes {d = d} {taken = taken}) was = stays before asked d y.device (took_back_back d taken) was
   each before x asked y (lets_finish {d = d}) was = stays before asked d y.device (λ m n. n) was
   each before x asked y (sends {d = d} {e = e} {base = base} {l = l} {q = q} one) was = stays before asked d e (sent_back d l q e base one).0 was
   each before x asked y (finds_down {d = d} {e = e} {base = base} {l = l} {q = q} one) was = loses_link before (Send l q) sent.Down base l (λ m same. eq-eqb l.0 m.0 same) (λ m n. was m ((sent_back d l q e base one).1 m n))
-  each before x asked y (raises {d = d} {l = l} {r = r} within) was =
-      chosen (λ (z : Device). LossIsAsked (with_asked before asked) z) (is_up d.remote.links l) (lost d l) d (λ _. loses_link before _ r d l (λ m same. eq-eqb l.0 m.0 same) was) (λ _. stays before asked d d (λ m n. n) was)
+  each before x asked y (raises {d = d} within off) was = stays before asked d y.device (λ m n. n) was
   each before x asked y (speaks {d = d} word) was = stays before asked d d (λ m n. n) was
   each before x asked y (speaks_to_nobody {d = d} {l = l} {q = q} word) was = loses_link before (Send l q) sent.Down d l (λ m same. eq-eqb l.0 m.0 same) was
-  each before x asked y (hears {d = d} {e = e} {l = l} {q = q} up one) was = stays before asked d e (heard_back d l q e one) was
+  each before x asked y (hears {d = d} {h = heard} {l = l} {q = q} up one) was = stays before asked d heard.device (heard_back d l q heard one) was
   each before x asked y (hears_nothing {d = d} up) was = stays before asked d d (λ m n. n) was
   each before x asked y (loses {d = d} {l = l} up) was = loses_link before (Take l) LinkLost d l (λ m same. eq-eqb l.0 m.0 same) was
   each before x asked y (misunderstands {d = d} up) was = stays before asked d d (λ m n. n) was
@@ -213,7 +262,7 @@ module _ (d0 : Device) (c : Caller) where
   -- along a program
   module _ {D F : Type 0} (disk_moves : D → (call : DiskCall) → DiskAnswer call → D → Type 0) (moves : F → (call : FabricCall) → FabricAnswer call → F → Type 0) where
     mutual
-      along_asked : {A : Type 0} (Q : A → Speaker → Type 0) (before : List Asked) (k : D) (f : F) (k' : D) (f' : F) (a : A) (s : Speaker) (p : Prog A) → Goes (Move anything) Q s p → (along : Along disk_moves moves p k f k' f' a) → LossIsAsked before s.device
+      along_asked : {A : Type 0} (Q : A → Speaker → Type 0) (before : List Asked) (k : D) (f : F) (k' : D) (f' : F) (a : A) (s : Speaker) (p : Prog A) → Goes (Move (making made)) Q s p → (along : Along disk_moves moves p k f k' f' a) → LossIsAsked before s.device
           → (t : Speaker) × Q a t × LossIsAsked (before ++ asked_along disk_moves moves p k f k' f' a along) t.device
       along_asked Q before k f k' f' a s (Ret b) (ends q) along was = (s, subst (λ x. Q x s) (sym along.2) q, subst (λ xs. LossIsAsked xs s.device) (sym (nil_behind before)) was)
       along_asked Q before k f k' f' a s p (first {t = t} m g) along was = along_asked Q before k f k' f' a t p g along (each before s Nothing t m was)
@@ -222,7 +271,7 @@ module _ (d0 : Device) (c : Caller) where
       along_asked Q before k f k' f' a s (AskFabric call next) (asks_fabric g) along was =
           let r = after_asked Q before k along.1 k' f' a s (OfFabric call along.0) (next along.0) (g along.0) along.3 was in (r.0, r.1, subst (λ xs. LossIsAsked xs r.0.device) (one_before before (OfFabric call along.0) _) r.2)
 
-      after_asked : {A : Type 0} (Q : A → Speaker → Type 0) (before : List Asked) (k : D) (f : F) (k' : D) (f' : F) (a : A) (s : Speaker) (asked : Asked) (p : Prog A) → After (Move anything) Q s asked p → (along : Along disk_moves moves p k f k' f' a) → LossIsAsked before s.device
+      after_asked : {A : Type 0} (Q : A → Speaker → Type 0) (before : List Asked) (k : D) (f : F) (k' : D) (f' : F) (a : A) (s : Speaker) (asked : Asked) (p : Prog A) → After (Move (making made)) Q s asked p → (along : Along disk_moves moves p k f k' f' a) → LossIsAsked before s.device
           → (t : Speaker) × Q a t × LossIsAsked (with_asked before asked ++ asked_along disk_moves moves p k f k' f' a along) t.device
       after_asked Q before k f k' f' a s asked p (by {t = t} m g) along was = along_asked Q (with_asked before asked) k f k' f' a t p g along (each before s asked t m was)
 
@@ -304,7 +353,7 @@ module _ (c : Caller) (p : Page) where
   newer_step d d' page e s starts_write n = inl n
   newer_step d d' page e s (takes_back taken) n = inl (took_newer d taken n)
   newer_step d d' page e s (links new of_link used) n = inl (linked_newer d d' used n)
-  newer_step d d' page e s (brings {d' = x} a bytes used) n = inl (linked_newer d x used (arrived_newer x.calls a arrived.Came bytes n))
+  newer_step d d' page e s (brings a bytes r used) n = inl (arrived_newer d.calls a arrived.Came bytes (linked_newer (record d { remote = r; calls = calls.came d.calls a bytes }) d' used n))
 
 -- no call that waits for the disk loses a link
 abbrev pub IsLostAtDisk : CallState → Type 0
@@ -400,44 +449,65 @@ module _ (c : Caller) where
   disk_step d d' page e s starts_write n = n
   disk_step d d' page e s (takes_back taken) n = took_disk d taken n
   disk_step d d' page e s (links new of_link used) n = linked_disk d d' used n
-  disk_step d d' page e s (brings {d' = x} a bytes used) n = linked_disk d x used (came_disk x.calls a bytes n)
+  disk_step d d' page e s (brings a bytes r used) n = came_disk d.calls a bytes (linked_disk (record d { remote = r; calls = calls.came d.calls a bytes }) d' used n)
 
 -- so after every run
 module _ {D F : Type 0} (disk_moves : D → (call : DiskCall) → DiskAnswer call → D → Type 0) (moves : F → (call : FabricCall) → FabricAnswer call → F → Type 0) where
-  step_comes : (d d' : Device) (k k' : D) (f f' : F) (i : Input) (s : Seen) → IsStep disk_moves moves d k f i s d' k' f' → Comes d i.page i.event d' s
+  step_comes : (d d' : Device) (k k' : D) (f f' : F) (i : Input) (s : Seen) → IsStep disk_moves moves d k f i s d' k' f' → ComesTo d i.page i.event d' s
   step_comes d d' k k' f f' i s step = Leads-Along disk_moves moves (happens d i.page i.event) k f k' f' (d', s) _ (happens_comes disk_moves moves d k f i.page i.event) step
 
   pub newer_since : {first_ : Device} {disk : D} {fabric : F} {made : List (Input × Seen)} {d : Device} {k : D} {f : F} (c : Caller) (p : Page) (run : IsRun disk_moves moves first_ disk fabric made d k f) → (IsNewerOf p (state_of first_.calls c) → ⊥) → IsNewerOf p (state_of d.calls c) → AcceptedSince disk_moves moves c p run
   newer_since c p begin none n = absurd (none n)
   newer_since c p (effect {d = d} {k = k} {f = f} i s d' k' f' run range step has) none n = go (is_start_of c i.event s) refl (newer_since c p run none)
     where
-      comes : Comes d i.page i.event d' s
+      comes : ComesTo d i.page i.event d' s
       comes = step_comes d d' k k' f f' i s step
 
       go : (b : Bool) → is_start_of c i.event s ≡ b → (IsNewerOf p (state_of d.calls c) → AcceptedSince disk_moves moves c p run) → SinceStart b (AcceptsOut p d d' ⊎ AcceptedSince disk_moves moves c p run)
-      go true is before = absurd (start_is_fresh (IsNewerOf p) (λ x. x) (λ q since x. x) (λ q m v since r. not r.1) d d' i.page i.event s c comes is n)
+      go true is before = absurd (start_is_fresh (IsNewerOf p) (λ x. x) (λ q since x. x) (λ q m v since r. not r.1) (record d { rates = comes.0 }) d' i.page i.event s c comes.2 is n)
         where
           not : false ≡ true → ⊥
           not e = cc
-      go false is before = elim (newer_step c p d d' i.page i.event s comes n) [ inl was ↦ inr (before was) | inr out ↦ inl out ]
+      go false is before = elim (newer_step c p (record d { rates = comes.0 }) d' i.page i.event s comes.2 n) [ inl was ↦ inr (before was) | inr out ↦ inl out ]
   newer_since c p (without i s k' f' run range step has) none n = newer_since c p run none n
   newer_since c p (polled {d = d} step d' k' f' run along) none n =
       newer_since c p run none (took_newer c p d along.0 (subst (λ (x : Device × DiskStep). IsNewerOf p (state_of x.0.calls c)) along.3.2 n))
+
+  -- a program that always ends a link
+  must_end : {A : Type 0} (l : Lender) (p : Prog A) (k : D) (f : F) (k' : D) (f' : F) (a : A) (along : Along disk_moves moves p k f k' f' a) → MustEnd l p → EndsIn l (asked_along disk_moves moves p k f k' f' a along)
+  must_end l (Ret b) k f k' f' a along must = absurd must
+  must_end l (AskDisk call next) k f k' f' a along must = inr (must_end l (next along.0) along.1 f k' f' a along.3 (must along.0))
+  must_end l (AskFabric call next) k f k' f' a along (inl ends_it) = inl (ends_it along.0)
+  must_end l (AskFabric call next) k f k' f' a along (inr must) = inr (must_end l (next along.0) k along.1 k' f' a along.3 (must along.0))
+
+  -- a link that is made anew ends the one before, where any is made
+  anew_ends : (l : Lender) (d d' : Device) (page : List ℕ) (e : Event) (s : Seen) (k k' : D) (f f' : F) (along : Along disk_moves moves (happens d page e) k f k' f' (d', s)) → made_anew e l.0 → EndsIn l (asked_along disk_moves moves (happens d page e) k f k' f' (d', s) along) ⊎ (d' ≡ d)
+  anew_ends l d d' page (event.Connect m) s k k' f f' along same = go (nat_lt d.links_made MOST_LINKS) along
+    where
+      go : (b : Bool) (along : Along disk_moves moves (seen_by see_link (cond b (and_then (device.without_link d m) (λ x. device.connect_on x m)) (Ret (d, None)))) k f k' f' (d', s))
+          → EndsIn l (asked_along disk_moves moves (seen_by see_link (cond b (and_then (device.without_link d m) (λ x. device.connect_on x m)) (Ret (d, None)))) k f k' f' (d', s) along) ⊎ (d' ≡ d)
+      go true along = inl (must_end l _ k f k' f' (d', s) along (answering_ends l _ _ (then_ends l (device.without_link d m) (λ x. device.connect_on x m) (λ x. inl (λ r. eq-eqb m.0 l.0 same)))))
+      go false along = inr (ap (λ (x : Device × Seen). x.0) along.2)
+  anew_ends l d d' page e s k k' f f' along same = absurd same
 
   pub ended_since : {first_ : Device} {disk : D} {fabric : F} {made : List (Input × Seen)} {d : Device} {k : D} {f : F} (c : Caller) (l : Lender) (run : IsRun disk_moves moves first_ disk fabric made d k f) → (IsLostBy l (state_of first_.calls c) → ⊥) → IsLostBy l (state_of d.calls c) → EndedSince disk_moves moves c l run
   ended_since c l begin none n = absurd (none n)
   ended_since c l (effect {d = d} {k = k} {f = f} i s d' k' f' run range step has) none n = go (is_start_of c i.event s) refl (ended_since c l run none)
     where
-      comes : Comes d i.page i.event d' s
+      comes : ComesTo d i.page i.event d' s
       comes = step_comes d d' k k' f f' i s step
 
       asked : IsLostBy l (state_of d.calls c) ⊎ EndsIn l (asked_along disk_moves moves (happens d i.page i.event) k f k' f' (d', s) step)
       asked =
-          let r = along_asked d c disk_moves moves _ [] k f k' f' (d', s) (quiet d) (happens d i.page i.event) (happens_fares anything d i.page i.event (names_anything d i.page i.event)) step (λ m x. inl x) in
-          r.2 l (subst (λ (x : Speaker). IsLostBy l (state_of x.device.calls c)) (sym r.1.0) n)
+          let r = along_asked (made_anew i.event) d c disk_moves moves _ [] k f k' f' (d', s) (quiet d) (happens d i.page i.event) (happens_fares (making (made_anew i.event)) d i.page i.event (names_making d i.page i.event)) step (λ m x. inl (inl x)) in
+          elim (r.2 l (subst (λ (x : Speaker). IsLostBy l (state_of x.device.calls c)) (sym r.1.0) n)) [
+            | inl (inl was) ↦ inl was
+            | inl (inr again) ↦ elim (anew_ends l d d' i.page i.event s k k' f f' step again) [ inl now ↦ inr now | inr same ↦ inl (subst (λ (x : Device). IsLostBy l (state_of x.calls c)) same n) ]
+            | inr now ↦ inr now
+          ]
 
       go : (b : Bool) → is_start_of c i.event s ≡ b → (IsLostBy l (state_of d.calls c) → EndedSince disk_moves moves c l run) → SinceStart b (EndsIn l (asked_along disk_moves moves (happens d i.page i.event) k f k' f' (d', s) step) ⊎ EndedSince disk_moves moves c l run)
-      go true is before = absurd (start_is_fresh (IsLostBy l) (λ x. x) (λ q since x. x) fresh d d' i.page i.event s c comes is n)
+      go true is before = absurd (start_is_fresh (IsLostBy l) (λ x. x) (λ q since x. x) fresh (record d { rates = comes.0 }) d' i.page i.event s c comes.2 is n)
         where
           fresh : (q : Page) (m : EntryNo) (v : Via) (since : ℕ) → IsLostBy l (Reading q m v arrived.Waiting false since) → ⊥
           fresh q m via.Disk since x = x
@@ -445,10 +515,10 @@ module _ {D F : Type 0} (disk_moves : D → (call : DiskCall) → DiskAnswer cal
       go false is before = elim asked [ inl was ↦ inr (before was) | inr now ↦ inl now ]
   ended_since c l (without i s k' f' run range step has) none n = ended_since c l run none n
   ended_since c l (polled {d = d} step d' k' f' run along) none n =
-      ended_since c l run none (took_back_back d c d along.0 l (subst (λ (x : Device × DiskStep). IsLostBy l (state_of x.0.calls c)) along.3.2 n))
+      ended_since c l run none (took_back_back (λ x. ⊥) d c d along.0 l (subst (λ (x : Device × DiskStep). IsLostBy l (state_of x.0.calls c)) along.3.2 n))
 
   pub never_at_disk : {first_ : Device} {disk : D} {fabric : F} {made : List (Input × Seen)} {d : Device} {k : D} {f : F} (c : Caller) (run : IsRun disk_moves moves first_ disk fabric made d k f) → (IsLostAtDisk (state_of first_.calls c) → ⊥) → IsLostAtDisk (state_of d.calls c) → ⊥
   never_at_disk c begin none n = none n
-  never_at_disk c (effect {d = d} {k = k} {f = f} i s d' k' f' run range step has) none n = never_at_disk c run none (disk_step c d d' i.page i.event s (step_comes d d' k k' f f' i s step) n)
+  never_at_disk c (effect {d = d} {k = k} {f = f} i s d' k' f' run range step has) none n = never_at_disk c run none (let comes : ComesTo d i.page i.event d' s = step_comes d d' k k' f f' i s step in disk_step c (record d { rates = comes.0 }) d' i.page i.event s comes.2 n)
   never_at_disk c (without i s k' f' run range step has) none n = never_at_disk c run none n
   never_at_disk c (polled {d = d} step d' k' f' run along) none n = never_at_disk c run none (took_disk c d along.0 (subst (λ (x : Device × DiskStep). IsLostAtDisk (state_of x.0.calls c)) along.3.2 n))

@@ -174,7 +174,7 @@ comes_grows d d' page e s (reads {c = c} {p = p} {n = n} {d' = x} v (goes_on_in 
 comes_grows d d' page e s starts_write = omega arith
 comes_grows d d' page e s (takes_back taken) = took_back_grows d taken
 comes_grows d d' page e s (links new of_link linked) = let a = linked_grows 0 d d d' linked (stays d) in omega (arith, a)
-comes_grows d d' page e s (brings {d' = x} c bytes linked) = let a = came_grows x c bytes in let b = linked_grows 0 d d x linked (stays d) in omega (arith, a, b)
+comes_grows d d' page e s (brings c bytes r linked) = let a = came_grows d c bytes in let b = linked_grows 0 d (record d { remote = r; calls = calls.came d.calls c bytes }) d' linked a in omega (arith, b)
 
 -- what comes back from the disk leaves each caller as busy as it was
 idle-kept : (f : Call → Call) (cs : Calls) (i j : ℕ) → ((x : Call) → is_idle (f x).state ≡ is_idle x.state) → is_idle (get_or (set cs i (f (get_or cs i idle))) j idle).state ≡ is_idle (get_or cs j idle).state

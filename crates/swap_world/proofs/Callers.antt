@@ -22,7 +22,7 @@ use Rattle.swap_table.proofs.Lists.{by_caller, not_eqb}
 use Rattle.swap_table.proofs.Agree.{get_or-map_idle, state-paged_out}
 use Rattle.swap_world.specs.Failures.{is_of, is_start, is_start_of, before_start, failed_writes_in, failed_reads_in}
 use Rattle.swap_world.proofs.Once.{set-idle, idle_at}
-use Rattle.swap_table.specs.Comes.{Linked, is_new, is_rest, is_of_link, begins_in, goes_on_in, Comes, refuses, rests, accepts, gives_page, fails, keeps_page, reads, starts_write, takes_back, links, brings}
+use Rattle.swap_table.specs.Comes.{Linked, as_was, is_new, is_rest, is_of_link, begins_in, goes_on_in, Comes, refuses, rests, accepts, gives_page, fails, keeps_page, reads, starts_write, takes_back, links, brings}
 use Rattle.swap_table.proofs.Comings.{linked_keep}
 use Rattle.swap_base.specs.Sizes.{Sizes}
 use Rattle.swap_queue.specs.Queue.{Copy}
@@ -139,7 +139,7 @@ module _ (Q : Bool → CallState → Type 0) (d : Device) (c : Caller) (k : Carr
   comes_carries page e d' s back starts_write = was
   comes_carries page e d' s back (takes_back {w = w} {ok = ok} taken) = back w ok taken refl
   comes_carries page e d' s back (links new of_link used) = quiet e s d'.calls (link_starts e s new of_link) (linked false d d' used was)
-  comes_carries page e d' s back (brings {d' = x} a bytes used) = came_to x used a bytes
+  comes_carries page e d' s back (brings a bytes r used) = linked false (record d { remote = r; calls = calls.came d.calls a bytes }) d' used (came_to d as_was a bytes)
 
 -- a call's count is of what was made before its start
 abbrev pub Since : List (Input × Seen) → CallState → Type 0
@@ -239,7 +239,7 @@ not_started c d d' page e s idle other (reads v (goes_on_in {c = a} {p = p} {n =
 not_started c d d' page e s idle other starts_write = refl
 not_started c d d' page e s idle other (takes_back taken) = refl
 not_started c d d' page e s idle other (links new of_link used) = ap (λ b. is_of c e && b) (link_starts e s new of_link) ∙ and-false (is_of c e)
-not_started c d d' page e s idle other (brings a bytes used) = refl
+not_started c d d' page e s idle other (brings a bytes r used) = refl
 
 idle_carries : (d : Device) → Carries d (λ b state. b ≡ false → is_idle state ≡ true)
 idle_carries d = record {

@@ -15,7 +15,7 @@ use Rattle.swap_table.proofs.Lists.{one_if, count_by-cons}
 use Rattle.swap_table.specs.Happens.{see_disk}
 use Rattle.swap_world.specs.Failures.{is_write_failed, is_read_failed, failed_writes_in, failed_reads_in}
 use Rattle.swap_world.specs.Runs.{entry_seen, with_polled, GoesOn, AnswersState, AnswersEvent, Adds, nothing, one}
-use Rattle.swap_table.specs.Comes.{Linked, is_rest, is_of_link, StepIn, begins_in, goes_on_in, wait_seen, Comes, refuses, rests, accepts, gives_page, fails, keeps_page, reads, starts_write, takes_back, links, brings, begins_out, goes_on_out, StepOut}
+use Rattle.swap_table.specs.Comes.{Linked, is_rest, is_of_link, StepIn, begins_in, goes_on_in, wait_seen, Comes, ComesTo, refuses, rests, accepts, gives_page, fails, keeps_page, reads, starts_write, takes_back, links, brings, begins_out, goes_on_out, StepOut}
 use Rattle.swap_table.proofs.Comings.{linked_keep}
 use Rattle.swap_base.specs.declared.Caller.{Caller}
 use Rattle.swap_base.specs.declared.Via.{Via}
@@ -115,7 +115,7 @@ comes_counts d d' page e s (reads {c = c} {p = p} {d' = x} v step is linked) = l
 comes_counts d d' page e s starts_write = by_history d _ s refl refl refl refl
 comes_counts d d' page e s (takes_back taken) = took_counts d taken
 comes_counts d d' page e s (links new of_link linked) = let says = link_says s of_link in same d d' s (linked_same d d' linked) says.write says.read
-comes_counts d d' page e s (brings {d' = x} c bytes linked) = let k = linked_same d x linked in by_history d _ s k.writes k.reads refl refl
+comes_counts d d' page e s (brings c bytes r linked) = let k = linked_same _ d' linked in by_history d d' s k.writes k.reads refl refl
 
 -- the history
 seen_nothing : (d : Device) (taken : Option Taken) → let a : Device × DiskStep = took_back d taken in (entry_seen (see_disk a.1) ≡ None) × (a.0.history ≡ d.history)
@@ -167,7 +167,24 @@ comes_adds d d' page e s (reads {c = c} {p = p} {d' = x} v step is linked) = not
 comes_adds d d' page e s starts_write = nothing refl refl
 comes_adds d d' page e s (takes_back taken) = nothing (seen_nothing d taken).0 (seen_nothing d taken).1
 comes_adds d d' page e s (links new of_link linked) = nothing (link_says s of_link).entry (linked_same d d' linked).history
-comes_adds d d' page e s (brings {d' = x} c bytes linked) = nothing refl (linked_same d x linked).history
+comes_adds d d' page e s (brings c bytes r linked) = nothing refl (linked_same _ d' linked).history
+
+-- and so where rates changed before
+pub comes_to_counts : (d d' : Device) (page : List ℕ) (e : Event) (s : Seen) → ComesTo d page e d' s → Counts d (d', s)
+comes_to_counts d d' page e s (rates, why, c) = let k = comes_counts (record d { rates = rates }) d' page e s c in record { writes = k.writes; reads = k.reads }
+
+pub comes_to_adds : (d d' : Device) (page : List ℕ) (e : Event) (s : Seen) → ComesTo d page e d' s → Adds d (record { event = e; page = page }) s d'.history
+comes_to_adds d d' page e s (rates, why, c) = go (comes_adds (record d { rates = rates }) d' page e s c)
+  where
+    go : Adds (record d { rates = rates }) (record { event = e; page = page }) s d'.history → Adds d (record { event = e; page = page }) s d'.history
+    go (nothing seen_none same) = nothing seen_none same
+    go (one row seen_one same answers) = one row seen_one same (answers_as e answers)
+      where
+        answers_as : (e : Event) → AnswersEvent (record d { rates = rates }) page e row → AnswersEvent d page e row
+        answers_as (event.PageOut c p) a = a
+        answers_as (event.PageIn c p) a = a
+        answers_as (event.Finish c) a = a
+        answers_as _ a = absurd a
 
 -- so the history goes on
 pub adds_go_on : (d : Device) (i : Input) (s : Seen) (H : History) → Adds d i s H → GoesOn d.history H

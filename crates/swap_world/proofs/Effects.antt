@@ -1,5 +1,5 @@
 -- An event without an effect leaves the device as it was.
-use Rattle.std.proofs.Common.{◌≡◌, ℕ, Bool, true, false, cond, List, refl, is_none, Option, None, Some}
+use Rattle.std.proofs.Common.{inl, inr, ap, ◌∙◌, ◌≡◌, ℕ, Bool, true, false, cond, List, refl, is_none, Option, None, Some}
 use Rattle.swap_base.specs.declared.Page.{Page}
 use Rattle.swap_base.specs.declared.EntryNo.{EntryNo}
 use Rattle.swap_base.specs.declared.Lender.{Lender}
@@ -13,7 +13,7 @@ use Rattle.swap_table.specs.declared.DiskStep.{DiskStep}
 use Rattle.swap_table.specs.Device.{Device, wrote, took, took_back}
 use Rattle.swap_table.specs.Happens.{see_disk}
 use Rattle.swap_world.specs.Runs.{has_effect}
-use Rattle.swap_table.specs.Comes.{is_of_link, begins_in, goes_on_in, Comes, refuses, rests, accepts, gives_page, fails, keeps_page, reads, starts_write, takes_back, links, brings}
+use Rattle.swap_table.specs.Comes.{is_of_link, begins_in, goes_on_in, Comes, rates_slabs, is_of_rates, ComesTo, refuses, rests, accepts, gives_page, fails, keeps_page, reads, starts_write, takes_back, links, brings}
 use Rattle.swap_base.specs.declared.DiskWhich.TheVariants as which
 use Rattle.swap_wire.specs.declared.Event.TheVariants as event
 use Rattle.swap_wire.specs.declared.Seen.TheVariants as seen
@@ -65,4 +65,27 @@ comes_stays d d' page e s (reads v (goes_on_in at) is linked) none = cc
 comes_stays d d' page e s starts_write none = cc
 comes_stays d d' page e s (takes_back {w = w} {ok = ok} taken) none = took_stays d taken w ok none
 comes_stays d d' page e s (links new of_link linked) none = absurd (both (link_acts e s of_link) none)
-comes_stays d d' page e s (brings c bytes linked) none = cc
+comes_stays d d' page e s (brings c bytes r linked) none = cc
+
+-- and where rates may change, since that is seen
+rates_act : (e : Event) (s : Seen) → rates_slabs e ≡ true → is_of_rates s ≡ true → has_effect e s ≡ true
+rates_act (event.PageOut c p) (seen.Done m to) may of_rates = refl
+rates_act (event.PageOut c p) seen.Room may of_rates = refl
+rates_act (event.PageOut c p) (seen.Wait v) may of_rates = refl
+rates_act (event.PageOut c p) seen.Ticked may of_rates = refl
+rates_act (event.PageOut c p) (seen.Asked t l m) may of_rates = refl
+rates_act (event.PageIn c p) (seen.Done m to) may of_rates = refl
+rates_act (event.PageIn c p) seen.Room may of_rates = refl
+rates_act (event.PageIn c p) (seen.Wait v) may of_rates = refl
+rates_act (event.PageIn c p) seen.Ticked may of_rates = refl
+rates_act (event.PageIn c p) (seen.Asked t l m) may of_rates = refl
+rates_act (event.Tick word) (seen.Done m to) may of_rates = refl
+rates_act (event.Tick word) seen.Room may of_rates = refl
+rates_act (event.Tick word) (seen.Wait v) may of_rates = refl
+rates_act (event.Tick word) seen.Ticked may of_rates = refl
+rates_act (event.Tick word) (seen.Asked t l m) may of_rates = refl
+rates_act e s may of_rates = cc
+
+pub comes_to_stays : (d d' : Device) (page : List ℕ) (e : Event) (s : Seen) → ComesTo d page e d' s → has_effect e s ≡ false → d' ≡ d
+comes_to_stays d d' page e s (rates, inl same, comes) none = comes_stays (record d { rates = rates }) d' page e s comes none ∙ ap (λ r. record d { rates = r }) same
+comes_to_stays d d' page e s (rates, inr may, comes) none = absurd (both (rates_act e s may.0 may.1) none)

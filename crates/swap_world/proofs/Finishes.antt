@@ -1,5 +1,5 @@
 -- What a page-in's steps add to the history, and when one reads anew.
-use Rattle.std.proofs.Common.{◌≡◌, ℕ, ◌⊎◌, Bool, true, false, cond, nat_lt, List, ◌∷◌, refl, inl, inr, Option, None, Some}
+use Rattle.std.proofs.Common.{subst, sym, ap, ◌∙◌, ◌≡◌, ℕ, ◌⊎◌, Bool, true, false, cond, nat_lt, List, ◌∷◌, refl, inl, inr, Option, None, Some}
 use Rattle.swap_base.specs.declared.Page.{Page}
 use Rattle.swap_base.specs.declared.Caller.{Caller}
 use Rattle.swap_base.specs.declared.EntryNo.{EntryNo}
@@ -29,10 +29,14 @@ use Rattle.swap_table.specs.declared.InStep.{InStep}
 use Rattle.swap_table.specs.declared.InStep.TheVariants as ins
 use Rattle.swap_table.specs.declared.Step.{Step}
 use Rattle.swap_table.specs.declared.Step.TheVariants as steps
-use Rattle.swap_table.specs.Ports.{Prog, Ret, AskDisk, AskFabric, answering, Leads}
+use Rattle.swap_table.specs.Ports.{Prog, Ret, AskDisk, AskFabric, answering, Leads, and_then}
 use Rattle.swap_table.specs.Device as device
-use Rattle.swap_table.specs.Device.{Device, enter, give, fault, accept, accepted_late, write_to, read_at, route_by, route, routed_again, finish_out, finish_by, origin_of, source}
+use Rattle.swap_table.specs.Device.{Device, enter, give, fault, accept, accepted_late, write_to, read_at, route_by, route, routed_again, finish_out, finish_by, origin_of, source, lose, sent_nowhere, hit, read_disk}
 use Rattle.swap_table.specs.Happens.{happens, seen_by, see_in, see_step}
+use Rattle.swap_table.specs.Moves.{anything, Move}
+use Rattle.swap_table.proofs.Going.{Goes-leads}
+use Rattle.swap_table.proofs.Sequences.{Leads-then}
+use Rattle.swap_table.proofs.Losing.{lose_passes}
 use Rattle.swap_table.proofs.Programs.{Leads-answering, Leads-implies}
 use Rattle.swap_world.specs.Since.{is_read_op}
 
@@ -63,16 +67,29 @@ module _ {D F : Type 0} (disk_moves : D → (c : DiskCall) → DiskAnswer c → 
   all_answers (AskDisk c next) k f P each = λ r mid moved. all_answers (next r) mid f P each
   all_answers (AskFabric c next) k f P each = λ r mid moved. all_answers (next r) k mid P each
 
+  -- a loss leaves the history
+  lose_rows : {R : Type 0} (d x : Device) (l : Lender) (k : D) (f : F) (h : Device → Device × R) → ((y : Device) → (h y).0 ≡ y) → AddsNoRead d x.history → Leads disk_moves moves (answering h (lose x l)) k f (λ a _ _. AddsNoRead d a.0.history)
+  lose_rows d x l k f h same was =
+      Leads-answering disk_moves moves h (lose x l) k f _
+      (Leads-implies disk_moves moves (lose x l) k f _ _ (λ y _ _ r. subst (AddsNoRead d) (sym (ap (λ (z : Device). z.history) (same y) ∙ r.1.1.history)) was)
+      (Goes-leads (Move anything) disk_moves moves (λ _ _ _. Unit {0}) (λ s asked t k k' f f' m went h. tt) _ k f (lose_passes anything x l) tt))
+
   write_rows : (d e : Device) (k : D) (f : F) (p : Page) (n : EntryNo) (bytes : List ℕ) (at : Option (Lender × Lease)) → AddsNoRead d e.history → Leads disk_moves moves (write_to e p n bytes at) k f (λ a _ _. AddsNoRead d a.0.history)
   write_rows d e k f p n bytes None h = h
-  write_rows d e k f p n bytes (Some at) h = elim [ sent.Sent ↦ λ mid moved. h | sent.Down ↦ λ mid moved. h ]
+  write_rows d e k f p n bytes (Some at) h = elim [ sent.Sent ↦ λ mid moved. h | sent.Down ↦ λ mid moved. lose_rows d e at.0 k mid sent_nowhere (λ y. refl) h ]
 
   accept_rows : (d : Device) (k : D) (f : F) (c : Caller) (p : Page) (bytes : List ℕ) → Leads disk_moves moves (accept d c p bytes) k f (λ a _ _. AddsNoRead d a.0.history)
   accept_rows d k f c p bytes = write_rows d (enter d c p bytes) k f p (next_name d.history) bytes (remote.target d.sizes d.remote p) (inr (row_of d.history c p op.PageOut bytes, refl, refl))
 
   read_rows : (d : Device) (k : D) (f : F) (c : Caller) (p : Page) (n : EntryNo) (at : Option (Lender × Lease)) → Leads disk_moves moves (read_at d c p n at) k f (λ a _ _. AddsNoRead d a.0.history)
   read_rows d k f c p n None = λ r mid moved. inl refl
-  read_rows d k f c p n (Some at) = elim [ sent.Sent ↦ λ mid moved. inl refl | sent.Down ↦ λ mid moved. λ r now gone. inl refl ]
+  read_rows d k f c p n (Some at) = elim [ sent.Sent ↦ λ mid moved. inl refl | sent.Down ↦ λ mid moved. down at.0 mid ]
+    where
+      down : (l : Lender) (g : F) → Leads disk_moves moves (and_then (lose d l) (λ x. read_disk x c p n)) k g (λ a _ _. AddsNoRead d a.0.history)
+      down l g =
+          Leads-then disk_moves moves (lose d l) (λ x. read_disk x c p n) k g _
+          (Leads-implies disk_moves moves (lose d l) k g _ _ (λ y _ _ r. λ q mid moved. inl r.1.1.history)
+          (Goes-leads (Move anything) disk_moves moves (λ _ _ _. Unit {0}) (λ s asked t k k' f f' m went h. tt) _ k g (lose_passes anything d l) tt))
 
   route_rows : (d : Device) (k : D) (f : F) (c : Caller) (p : Page) → Leads disk_moves moves (route d c p) k f (λ a _ _. AddsNoRead d a.0.history)
   route_rows d k f c p = by (last d.history p) (queue.newest d.queue p)
@@ -161,5 +178,5 @@ module _ {D F : Type 0} (disk_moves : D → (c : DiskCall) → DiskAnswer c → 
   page_in_rows d k f page c p = go (is_idle (state_of d.calls c))
     where
       go : (b : Bool) → Leads disk_moves moves (cond b (seen_by see_in (device.read d c p)) (Ret (d, seen.Busy))) k f (λ a _ _. AddsNoRead d a.0.history)
-      go true = Leads-answering disk_moves moves _ (device.read d c p) k f _ (route_rows d k f c p)
+      go true = Leads-answering disk_moves moves _ (device.read d c p) k f _ (route_rows (hit d p) k f c p)
       go false = inl refl

@@ -1,5 +1,5 @@
 -- What take handed over for a caller's last started read is what its call keeps once it came.
-use Rattle.std.proofs.Common.{◌≡◌, ℕ, ◌⊎◌, Bool, true, false, cond, ◌&&◌, ◌==◌, nat_lt, List, [], ◌∷◌, refl, sym, ap, ◌∙◌, subst, inl, inr, Option, None, Some}
+use Rattle.std.proofs.Common.{zero, suc, ◌+◌, length, ◌≡◌, ℕ, ◌⊎◌, Bool, true, false, cond, ◌&&◌, ◌==◌, nat_lt, List, [], ◌∷◌, refl, sym, ap, ◌∙◌, subst, inl, inr, Option, None, Some}
 use Rattle.std.proofs.lemmas.Bool.{eq-eqb, and_from, eqb-true}
 use Rattle.swap_base.specs.declared.Page.{Page}
 use Rattle.swap_base.specs.declared.Slab.{Slab}
@@ -39,13 +39,24 @@ use Rattle.swap_table.specs.declared.Step.{Step}
 use Rattle.swap_table.specs.declared.DiskStep.{DiskStep}
 use Rattle.swap_table.specs.declared.TheConstants.{MOST_LINKS}
 use Rattle.swap_table.specs.declared.LinkStep.TheVariants as link
-use Rattle.swap_table.specs.Ports.{Prog, Ret, AskDisk, AskFabric, answering, Along}
+use Rattle.swap_table.specs.Ports.{Prog, Ret, AskDisk, AskFabric, answering, and_then, Along}
+use Rattle.std.proofs.Math.Bool.{and-false}
+use Rattle.swap_slabs.specs.Slabs as slabs
+use Rattle.swap_slabs.specs.declared.Reply.TheVariants as reply
+use Rattle.swap_slabs.specs.declared.TheConstants.{MOST_LENDERS}
+use Rattle.swap_choice.specs.declared.lenders.Asked.{Asked as Picked}
+use Rattle.swap_choice.specs.declared.lenders.Asked.TheVariants as picked
 use Rattle.swap_table.specs.Device as device
-use Rattle.swap_table.specs.Device.{Device, enter, lost, wrote, took, took_back, heard, understood, took_from, borrow_reply, borrow_answered, lent_or_refused, write_reply, write_answered, read_reply, read_answered}
+use Rattle.swap_table.specs.Device.{Device, Heard, enter, lost, wrote, took, took_back, heard, understood, took_from, chosen_for, choose, give_up, lose_with, lose, say, follow, query}
+use Rattle.swap_table.specs.Moves.{anything, Move, Hears, roomy, lent, refused, written, brought, asked_rate, told_to_go}
 use Rattle.swap_table.specs.Happens.{happens, seen_by, taken_if, see_take}
-use Rattle.swap_table.specs.Comes.{Linked, Comes, refuses, rests, accepts, gives_page, fails, keeps_page, reads, starts_write, takes_back, links, brings, begins_in, goes_on_in}
+use Rattle.swap_table.specs.Comes.{Linked, Comes, ComesTo, refuses, rests, accepts, gives_page, fails, keeps_page, reads, starts_write, takes_back, links, brings, begins_in, goes_on_in}
 use Rattle.swap_table.proofs.Comings.{linked_keep, happens_comes}
-use Rattle.swap_table.proofs.Programs.{Leads-Along}
+use Rattle.swap_table.proofs.Programs.{Leads-Along, Leads-answering, Leads-implies}
+use Rattle.swap_table.proofs.Going.{Goes-leads}
+use Rattle.swap_table.proofs.Losing.{lose_passes, follow_passes}
+use Rattle.swap_table.proofs.Walks.{heard_is, heard_word, heard_choice}
+use Rattle.swap_table.proofs.Promised.{room_is, lent_is, refused_is, wrote_is, page_is, rate_is, back_is}
 use Rattle.swap_table.proofs.Links.{first_of-none}
 use Rattle.swap_table.proofs.Lists.{by_caller, not_eqb, chosen}
 use Rattle.swap_table.proofs.Agree.{get_or-map_idle}
@@ -116,7 +127,7 @@ module _ (h : Option (List ℕ)) (c : Caller) where
   event_holds d d' page e s disk_not take_not was starts_write = was
   event_holds d d' page e s disk_not take_not was (takes_back {w = w} {ok = ok} taken) = absurd (disk_not w ok refl)
   event_holds d d' page e s disk_not take_not was (links new of_link used) = linked d d' used was
-  event_holds d d' page e s disk_not take_not was (brings {l = l} a bytes used) = absurd (take_not l refl)
+  event_holds d d' page e s disk_not take_not was (brings {l = l} a bytes r used) = absurd (take_not l refl)
 
 -- a call that was just started waits, and is not newer
 starts_here : (a c : Caller) (b : Bool) → ((a.0 == c.0) && b) ≡ true → a.0 ≡ c.0
@@ -148,7 +159,7 @@ module _ (N : CallState → Type 0) (idle_not : N Idle → ⊥) (room_not : (p :
   start_is_fresh d d' page e s c starts_write starts = absurd (let no : false ≡ true = starts in cc)
   start_is_fresh d d' page e s c (takes_back taken) starts = absurd (let no : false ≡ true = starts in cc)
   start_is_fresh d d' page e s c (links new of_link used) starts = absurd (not_by (is_of c e) _ (link_starts e s new of_link) starts)
-  start_is_fresh d d' page e s c (brings a bytes used) starts = absurd (let no : false ≡ true = starts in cc)
+  start_is_fresh d d' page e s c (brings a bytes r used) starts = absurd (let no : false ≡ true = starts in cc)
 
 -- what is handed over, or what was
 abbrev pub over : Bool → Option (List ℕ) → Option (List ℕ) → Option (List ℕ)
@@ -218,52 +229,26 @@ took_holds h c d (Some t) was = by t.done.which t.done.ok
 
 -- what a message makes of the calls: nothing, or the page of the oldest request's caller came
 abbrev pub HeardIs : Device → Parcel → Option Request → Device → Type 0
-HeardIs d q o e = ((e.calls ≡ d.calls) × ((c : Caller) → is_of_caller c o ≡ false)) ⊎ ((a : Caller) × (p : Page) × (o ≡ Some (request.Read a p)) × (e.calls ≡ calls.came d.calls a q.page) × (is_page q.msg ≡ true))
+HeardIs d q o e = ((e.calls ≡ d.calls) × ((c : Caller) → (is_of_caller c o && is_page q.msg) ≡ false)) ⊎ ((a : Caller) × (p : Page) × (o ≡ Some (request.Read a p)) × (e.calls ≡ calls.came d.calls a q.page) × (is_page q.msg ≡ true))
 
-borrow_is : (d e : Device) (l : Lender) (t : Slab) (reply : Option (Slab × Option Lease)) → borrow_answered d l t reply ≡ Some e → e.calls ≡ d.calls
-borrow_is d e l t None is = cc
-borrow_is d e l t (Some reply) is = by_slab (reply.0.0 == t.0) reply.1 is
-  where
-    by_free : (b : Bool) (k : Lease) → cond b (Some (record d { remote = remote.lent d.remote l t k })) None ≡ Some e → e.calls ≡ d.calls
-    by_free true k is = let same : record d { remote = remote.lent d.remote l t k } ≡ e = cc in sym (ap (λ (x : Device). x.calls) same)
-    by_free false k is = cc
+-- a message that brings no page hands nothing over
+no_page : (d e : Device) (q : Parcel) (o : Option Request) → e.calls ≡ d.calls → is_page q.msg ≡ false → HeardIs d q o e
+no_page d e q o same none = inl (same, λ c. ap (λ b. is_of_caller c o && b) none ∙ and-false (is_of_caller c o))
 
-    by_lease : (o : Option Lease) → lent_or_refused d l t o ≡ Some e → e.calls ≡ d.calls
-    by_lease None is = let same : record d { remote = remote.refused d.remote l t } ≡ e = cc in sym (ap (λ (x : Device). x.calls) same)
-    by_lease (Some k) is = by_free _ k is
-
-    by_slab : (b : Bool) (o : Option Lease) → cond b (lent_or_refused d l t o) None ≡ Some e → e.calls ≡ d.calls
-    by_slab true o is = by_lease o is
-    by_slab false o is = cc
-
-write_is : (d e : Device) (l : Lender) (p : Page) (n : EntryNo) (reply : Option (Lease × ℕ)) → write_answered d l p n reply ≡ Some e → e.calls ≡ d.calls
-write_is d e l p n None is = cc
-write_is d e l p n (Some at) is = by _ is
-  where
-    by : (b : Bool) → cond b (Some (record d { remote = remote.written d.sizes d.remote l p (device.is_newest (last d.history p) n) })) None ≡ Some e → e.calls ≡ d.calls
-    by true is = let same : record d { remote = remote.written d.sizes d.remote l p (device.is_newest (last d.history p) n) } ≡ e = cc in sym (ap (λ (x : Device). x.calls) same)
-    by false is = cc
-
-read_is : (d e : Device) (l : Lender) (a : Caller) (p : Page) (bytes : List ℕ) (m : Msg) → read_answered d l a p bytes (read_reply m) ≡ Some e → (e.calls ≡ calls.came d.calls a bytes) × (is_page m ≡ true)
-read_is d e l a p bytes (msg.PageIs k i) is = (by _ is, refl)
-  where
-    by : (b : Bool) → cond b (Some (record d { remote = remote.settled_for d.sizes d.remote l p; calls = calls.came d.calls a bytes })) None ≡ Some e → e.calls ≡ calls.came d.calls a bytes
-    by true is = let same : record d { remote = remote.settled_for d.sizes d.remote l p; calls = calls.came d.calls a bytes } ≡ e = cc in sym (ap (λ (x : Device). x.calls) same)
-    by false is = cc
-read_is d e l a p bytes m is = cc
-
-heard_calls : (d e : Device) (l : Lender) (q : Parcel) (o : Option Request) → heard d l q o ≡ Some e → HeardIs d q o e
-heard_calls d e l q None is = cc
-heard_calls d e l q (Some (request.Query t)) is = cc
-heard_calls d e l q (Some (request.Borrow t)) is = inl (borrow_is d e l t (borrow_reply q.msg) is, λ c. refl)
-heard_calls d e l q (Some (request.Write p n)) is = inl (write_is d e l p n (write_reply q.msg) is, λ c. refl)
-heard_calls d e l q (Some (request.Read a p)) is = let r = read_is d e l a p q.page q.msg is in inr (a, p, refl, r.0, r.1)
+heard_calls : (d : Device) (x : Heard) (l : Lender) (q : Parcel) → Hears d l q x → HeardIs d q (oldest (ring_of d.remote.links l)) x.device
+heard_calls d x l q (roomy {u = u} {free = free} ring says same) = no_page d x.device q _ refl (room_is q.msg (u, free) says).1
+heard_calls d x l q (lent {u = u} {k = k} ring says same none) = no_page d x.device q _ refl (lent_is q.msg u k says).1
+heard_calls d x l q (refused {u = u} ring says same) = no_page d x.device q _ refl (refused_is q.msg u says).1
+heard_calls d x l q (written {at = at} ring says named) = no_page d x.device q _ refl (wrote_is q.msg at says).1
+heard_calls d x l q (brought {c = a} {p = p} {at = at} ring says named) = inr (a, p, ap oldest ring, refl, (page_is q.msg at says).1)
+heard_calls d x l q (asked_rate {k = k} says at) = no_page d x.device q _ refl (rate_is q.msg k says).1
+heard_calls d x l q (told_to_go {k = k} says at) = no_page d x.device q _ refl (back_is q.msg k says).1
 
 -- a message that was taken
 brought_holds : (h : Option (List ℕ)) (c : Caller) (d e : Device) (l : Lender) (q : Parcel) (o : Option Request) → HeardIs d q o e → HoldsOf h c d.calls → HoldsOf (over (is_waiting (state_of d.calls c)) (cond (is_of_caller c o && is_page q.msg) (Some q.page) None) h) c e.calls
 brought_holds h c d e l q o (inl r) was =
     let W : Bool = is_waiting (state_of d.calls c) in
-    let P : Bool → Type 0 = λ b. HoldsOf (over W (cond (b && is_page q.msg) (Some q.page) None) h) c d.calls in
+    let P : Bool → Type 0 = λ b. HoldsOf (over W (cond b (Some q.page) None) h) c d.calls in
     subst (λ cs. HoldsOf (over W (cond (is_of_caller c o && is_page q.msg) (Some q.page) None) h) c cs) (sym r.0) (subst P (sym (r.1 c)) (nothing_over W h (call_of d.calls c) was))
 brought_holds h c d e l q o (inr r) was =
     let W : Bool = is_waiting (state_of d.calls c) in
@@ -304,17 +289,65 @@ none-answering f (Ret a) h = tt
 none-answering f (AskDisk call next) h = (h.0, λ r. none-answering f (next r) (h.1 r))
 none-answering f (AskFabric call next) h = (h.0, λ r. none-answering f (next r) (h.1 r))
 
+none-then : {A B : Type 0} (p : Prog A) (next : A → Prog B) → TakesNone p → ((a : A) → TakesNone (next a)) → TakesNone (and_then p next)
+none-then (Ret a) next h each = each a
+none-then (AskDisk call more) next h each = (h.0, λ r. none-then (more r) next (h.1 r) each)
+none-then (AskFabric call more) next h each = (h.0, λ r. none-then (more r) next (h.1 r) each)
+
+-- losses, choices and words
+choose_none : (loses : Device → Lender → Prog Device) → ((d : Device) (l : Lender) → TakesNone (loses d l)) → (d : Device) (at : Option (Slab × Lender)) → TakesNone (choose loses d at)
+choose_none loses none d None = tt
+choose_none loses none d (Some at) = chosen (λ (x : Prog Device). TakesNone x) (device.may_map d at.0 at.1) _ _ (λ _. (tt, elim [ sent.Sent ↦ tt | sent.Down ↦ none d at.1 ])) (λ _. tt)
+
+give_up_none : (loses : Device → Lender → Prog Device) → ((d : Device) (l : Lender) → TakesNone (loses d l)) → (left n : ℕ) (d : Device) (l : Lender) → TakesNone (give_up loses left n d l)
+give_up_none loses none zero n d l = tt
+give_up_none loses none (suc left) n d l =
+    let t : Slab = record { 0 = n } in
+    none-then _ (λ e. give_up loses left (n + 1) e l)
+    (chosen (λ (x : Prog Device). TakesNone x) (slabs.asks l (slabs.state_of d.remote.slabs t)) _ _ (λ _. choose_none loses none _ (chosen_for t (slabs.answer_choice (slabs.state_of d.remote.slabs t) l reply.Gone))) (λ _. tt))
+    (λ e. give_up_none loses none left (n + 1) e l)
+
+lose_with_none : (m : ℕ) (d : Device) (l : Lender) → TakesNone (lose_with m d l)
+lose_with_none zero d l = give_up_none (λ e m. Ret (lost e m)) (λ e m. tt) (length d.remote.slabs) 0 (lost d l) l
+lose_with_none (suc m) d l = give_up_none (lose_with m) (lose_with_none m) (length d.remote.slabs) 0 (lost d l) l
+
+lose_none : (d : Device) (l : Lender) → TakesNone (lose d l)
+lose_none d l = lose_with_none MOST_LENDERS d l
+
+say_none : (d : Device) (l : Lender) (word : Option Parcel) → TakesNone (say d l word)
+say_none d l None = tt
+say_none d l (Some q) = (tt, elim [ sent.Sent ↦ tt | sent.Down ↦ lose_none d l ])
+
+follow_none : (h : Heard) (l : Lender) → TakesNone (follow h l)
+follow_none h l = none-then (say h.device l h.word) (λ e. choose lose e h.choice) (say_none h.device l h.word) (λ e. choose_none lose lose_none e h.choice)
+
+query_none : (d : Device) (t : Slab) (first : Option Lender) (l : Lender) → TakesNone (query d t first l)
+query_none d t first l = chosen (λ (x : Prog (Device × Bool)). TakesNone x) (device.may_ask d t first l) _ _ (λ _. (tt, elim [ sent.Sent ↦ tt | sent.Down ↦ none-answering device.not_asked (lose d l) (lose_none d l) ])) (λ _. tt)
+
+second_none : (t : Slab) (m l : Lender) (a : Device × Bool) → TakesNone (device.ask_second t m l a)
+second_none t m l (d, true) = none-answering _ (query d t (Some m) l) (query_none d t (Some m) l)
+second_none t m l (d, false) = none-answering _ (query d t None l) (query_none d t None l)
+
+ask_none : (d : Device) (t : Slab) (asked : Picked) → TakesNone (device.ask d t asked)
+ask_none d t picked.Nobody = tt
+ask_none d t (picked.One n) = none-answering _ (query d t None (record { 0 = n })) (query_none d t None (record { 0 = n }))
+ask_none d t (picked.Two n m) = none-then (query d t None (record { 0 = n })) (device.ask_second t (record { 0 = n }) (record { 0 = m })) (query_none d t None (record { 0 = n })) (λ a. second_none t (record { 0 = n }) (record { 0 = m }) a)
+
+place_none : (d : Device) (word : ℕ) (slab : Option Slab) → TakesNone (device.place_at d word slab)
+place_none d word None = tt
+place_none d word (Some t) = ask_none d t _
+
 write_none : (d : Device) (p : Page) (n : EntryNo) (bytes : List ℕ) (at : Option (Lender × Lease)) → TakesNone (device.write_to d p n bytes at)
 write_none d p n bytes None = tt
-write_none d p n bytes (Some at) = (tt, λ r. tt)
+write_none d p n bytes (Some at) = (tt, elim [ sent.Sent ↦ tt | sent.Down ↦ none-answering device.sent_nowhere (lose d at.0) (lose_none d at.0) ])
 
-out_none : (d : Device) (c : Caller) (p : Page) (bytes : List ℕ) → TakesNone (device.out d c p bytes)
+out_none : (d : Device) (c : Caller) (p : Page) (bytes : List ℕ) → TakesNone (device.put d c p bytes)
 out_none d c p bytes =
     chosen (λ (x : Prog (Device × OutStep)). TakesNone x) (queue.has_room d.queue p) _ _ (λ _. none-answering (device.accepted (next_name d.history)) (device.accept d c p bytes) (write_none (enter d c p bytes) p (next_name d.history) bytes (remote.target d.sizes d.remote p))) (λ _. tt)
 
 read_none : (d : Device) (c : Caller) (p : Page) (n : EntryNo) (at : Option (Lender × Lease)) → TakesNone (device.read_at d c p n at)
 read_none d c p n None = (tt, λ r. tt)
-read_none d c p n (Some at) = (tt, elim [ sent.Sent ↦ tt | sent.Down ↦ (tt, λ r. tt) ])
+read_none d c p n (Some at) = (tt, elim [ sent.Sent ↦ tt | sent.Down ↦ none-then (lose d at.0) (λ x. device.read_disk x c p n) (lose_none d at.0) (λ x. (tt, λ r. tt)) ])
 
 route_none : (d : Device) (c : Caller) (p : Page) → TakesNone (device.route d c p)
 route_none d c p = by (last d.history p) (queue.newest d.queue p)
@@ -348,13 +381,19 @@ start_none d (p ∷ line) = by (queue.next d.queue p)
     by (Some copy) = (tt, λ r. tt)
 
 event_none : (d : Device) (page : List ℕ) (e : Event) → ((w : DiskWhich) (ok : Bool) → e ≡ event.Disk w ok → ⊥) → ((l : Lender) → e ≡ event.Take l → ⊥) → TakesNone (happens d page e)
-event_none d page (event.PageOut c p) no_disk no_take = chosen (λ (x : Prog (Device × Seen)). TakesNone x) (is_idle (state_of d.calls c)) _ _ (λ _. none-answering _ (device.out d c p page) (out_none d c p page)) (λ _. tt)
-event_none d page (event.PageIn c p) no_disk no_take = chosen (λ (x : Prog (Device × Seen)). TakesNone x) (is_idle (state_of d.calls c)) _ _ (λ _. none-answering _ (device.read d c p) (route_none d c p)) (λ _. tt)
+event_none d page (event.PageOut c p) no_disk no_take = chosen (λ (x : Prog (Device × Seen)). TakesNone x) (is_idle (state_of d.calls c)) _ _ (λ _. none-answering _ (device.out d c p page) (out_none (device.hit d p) c p page)) (λ _. tt)
+event_none d page (event.PageIn c p) no_disk no_take = chosen (λ (x : Prog (Device × Seen)). TakesNone x) (is_idle (state_of d.calls c)) _ _ (λ _. none-answering _ (device.read d c p) (route_none (device.hit d p) c p)) (λ _. tt)
 event_none d page (event.Finish c) no_disk no_take = chosen (λ (x : Prog (Device × Seen)). TakesNone x) (is_idle (state_of d.calls c)) _ _ (λ _. tt) (λ _. none-answering _ (device.finish d c) (late_none d c (call_of d.calls c).bytes (state_of d.calls c)))
 event_none d page event.Start no_disk no_take = none-answering _ (device.disk_start d) (start_none d d.queue.line)
 event_none d page (event.Disk w ok) no_disk no_take = absurd (no_disk w ok refl)
-event_none d page (event.Map t l) no_disk no_take = none-answering _ (device.map d t l) (chosen (λ (x : Prog (Device × Bool)). TakesNone x) (device.may_map d t l) _ _ (λ _. (tt, λ r. tt)) (λ _. tt))
-event_none d page (event.Connect l) no_disk no_take = none-answering _ (device.connect d l) (chosen (λ (x : Prog (Device × Option Link)). TakesNone x) (nat_lt d.links_made MOST_LINKS) _ _ (λ _. (tt, λ r. (tt, λ q. tt))) (λ _. tt))
+event_none d page (event.Tick word) no_disk no_take = none-answering _ (device.tick d word) (place_none (device.periods_ended d) word _)
+event_none d page (event.Map t l) no_disk no_take = none-answering _ (device.map d t l) (none-answering _ (device.borrow_from lose d t l) (choose_none lose lose_none d (Some (t, l))))
+event_none d page (event.Connect l) no_disk no_take =
+    none-answering _ (device.connect d l)
+    (chosen (λ (x : Prog (Device × Option Link)). TakesNone x) (nat_lt d.links_made MOST_LINKS) _ _
+    (λ _. none-then (device.without_link d l) (λ x. device.connect_on x l) (chosen (λ (x : Prog Device). TakesNone x) (is_up d.remote.links l) _ _ (λ _. lose_none d l) (λ _. tt))
+    (λ x. (tt, λ r. none-answering _ (say (device.raised x l) l (Some (device.hello x.sizes))) (say_none (device.raised x l) l (Some (device.hello x.sizes))))))
+    (λ _. tt))
 event_none d page (event.Give l) no_disk no_take = (tt, λ r. tt)
 event_none d page (event.Cut l a b) no_disk no_take = (tt, λ r. tt)
 event_none d page (event.Crash l) no_disk no_take = (tt, λ r. tt)
@@ -396,34 +435,71 @@ module _ {D F : Type 0} (disk_moves : D → (call : DiskCall) → DiskAnswer cal
         let now = to (took_back d rest.0).0 (ap (λ (x : Device × Seen). x.0) rest.3.2) o (took_holds h c d rest.0 was) in
         subst (λ x. HoldsOf (over (is_waiting (state_of d.calls c)) x h) c d'.calls) (sym (first_of-none o)) now
 
+    -- what follows on a message, and a loss, hand nothing over
+    loss_step : {R : Type 0} (l : Lender) (step : R) (see : R → Seen) (x : Device) (o : Option (List ℕ)) (k : D) (f : F) → HoldsOf (over (is_waiting (state_of d.calls c)) o h) c (lost x l).calls
+        → Along disk_moves moves (seen_by see (answering (λ (y : Device). (y, step)) (lose x l))) k f k' f' (d', s) → HoldsOf (over (is_waiting (state_of d.calls c)) o h) c d'.calls
+    loss_step l step see x o k f held along =
+        Leads-Along disk_moves moves (seen_by see (answering (λ (y : Device). (y, step)) (lose x l))) k f k' f' (d', s) (λ (a : Device × Seen) _ _. HoldsOf (over (is_waiting (state_of d.calls c)) o h) c a.0.calls)
+        (Leads-answering disk_moves moves _ (answering (λ (y : Device). (y, step)) (lose x l)) k f _
+        (Leads-answering disk_moves moves _ (lose x l) k f _
+        (Leads-implies disk_moves moves (lose x l) k f _ _ (λ y _ _ r. linked (over (is_waiting (state_of d.calls c)) o h) c (lost x l) y r.1.1.linked held)
+        (Goes-leads (Move anything) disk_moves moves (λ _ _ _. Unit {0}) (λ s asked t k k' f f' m went h. tt) _ k f (lose_passes anything x l) tt)))) along
+
+    follow_step : (l : Lender) (q : Parcel) (x : Heard) (o : Option (List ℕ)) (k : D) (f : F) → Hears d l q x → HoldsOf (over (is_waiting (state_of d.calls c)) o h) c x.device.calls
+        → Along disk_moves moves (seen_by see_take (understood d l q.msg (Some x))) k f k' f' (d', s) → HoldsOf (over (is_waiting (state_of d.calls c)) o h) c d'.calls
+    follow_step l q x o k f hears_x held along =
+        Leads-Along disk_moves moves (seen_by see_take (understood d l q.msg (Some x))) k f k' f' (d', s) (λ (a : Device × Seen) _ _. HoldsOf (over (is_waiting (state_of d.calls c)) o h) c a.0.calls)
+        (Leads-answering disk_moves moves _ (understood d l q.msg (Some x)) k f _
+        (Leads-answering disk_moves moves _ (follow x l) k f _
+        (Leads-implies disk_moves moves (follow x l) k f _ _ (λ y _ _ r. linked (over (is_waiting (state_of d.calls c)) o h) c x.device y r.1.1.linked held)
+        (Goes-leads (Move anything) disk_moves moves (λ _ _ _. Unit {0}) (λ s asked t k k' f f' m went h. tt) _ k f
+        (follow_passes anything x l (λ w says. heard_word d x l q w hears_x says) (λ t m at. heard_choice d x l q t m hears_x at)) tt)))) along
+
     take_step : (l : Lender) (b : Bool) (k : D) (f : F) (along : Along disk_moves moves (seen_by see_take (cond b (AskFabric (Take l) (took_from d l)) (Ret (d, link.Nothing)))) k f k' f' (d', s))
         → HoldsOf (over (is_waiting (state_of d.calls c)) (handed_in c d (asked_along disk_moves moves (seen_by see_take (cond b (AskFabric (Take l) (took_from d l)) (Ret (d, link.Nothing)))) k f k' f' (d', s) along)) h) c d'.calls
     take_step l false k f along = to d (ap (λ (x : Device × Seen). x.0) along.2) None (nothing_over (is_waiting (state_of d.calls c)) h (call_of d.calls c) was)
     take_step l true k f along = by_handed along.0 along.1 along.3
       where
-        by_heard : (q : Parcel) (x : Option Device) → heard d l q (oldest (ring_of d.remote.links l)) ≡ x → (mid : F) (rest : Along disk_moves moves (seen_by see_take (understood d l q.msg x)) k mid k' f' (d', s))
-            → HoldsOf (over (is_waiting (state_of d.calls c)) (first_of (handed_in c d (asked_along disk_moves moves (seen_by see_take (understood d l q.msg x)) k mid k' f' (d', s) rest)) (from_link c d l (Brought q))) h) c d'.calls
-        by_heard q None is mid rest = to (lost d l) (ap (λ (x : Device × Seen). x.0) rest.3.2) (from_link c d l (Brought q)) (lied_holds h c d l (from_link c d l (Brought q)) was)
-        by_heard q (Some e) is mid rest = to e (ap (λ (x : Device × Seen). x.0) rest.2) (from_link c d l (Brought q)) (brought_holds h c d e l q (oldest (ring_of d.remote.links l)) (heard_calls d e l q (oldest (ring_of d.remote.links l)) is) was)
+        -- nothing that follows takes
+        only_first : (r : Handed) (mid : F) (rest : Along disk_moves moves (seen_by see_take (took_from d l r)) k mid k' f' (d', s)) → TakesNone (seen_by see_take (took_from d l r)) → HoldsOf (over (is_waiting (state_of d.calls c)) (from_link c d l r) h) c d'.calls
+            → HoldsOf (over (is_waiting (state_of d.calls c)) (first_of (handed_in c d (asked_along disk_moves moves (seen_by see_take (took_from d l r)) k mid k' f' (d', s) rest)) (from_link c d l r)) h) c d'.calls
+        only_first r mid rest none held =
+            let same : first_of (handed_in c d (asked_along disk_moves moves (seen_by see_take (took_from d l r)) k mid k' f' (d', s) rest)) (from_link c d l r) ≡ from_link c d l r =
+            ap (λ o. first_of o (from_link c d l r)) (none_handed c d (seen_by see_take (took_from d l r)) k mid k' f' (d', s) rest none) in
+            subst (λ o. HoldsOf (over (is_waiting (state_of d.calls c)) o h) c d'.calls) (sym same) held
+
+        by_heard : (q : Parcel) (x : Option Heard) → heard d l q (oldest (ring_of d.remote.links l)) ≡ x → (mid : F) → Along disk_moves moves (seen_by see_take (understood d l q.msg x)) k mid k' f' (d', s)
+            → TakesNone (seen_by see_take (understood d l q.msg x)) × HoldsOf (over (is_waiting (state_of d.calls c)) (from_link c d l (Brought q)) h) c d'.calls
+        by_heard q None is mid rest = (
+          none-answering _ (understood d l q.msg None) (tt, λ r. none-answering _ (lose d l) (lose_none d l)),
+          loss_step l link.Lied see_take d (from_link c d l (Brought q)) k rest.1 (lied_holds h c d l (from_link c d l (Brought q)) was) rest.3,
+        )
+        by_heard q (Some x) is mid rest =
+            let hears_x : Hears d l q x = heard_is d x l q is in
+            (
+              none-answering _ (understood d l q.msg (Some x)) (none-answering _ (follow x l) (follow_none x l)),
+              follow_step l q x (from_link c d l (Brought q)) k mid hears_x (brought_holds h c d x.device l q (oldest (ring_of d.remote.links l)) (heard_calls d x l q hears_x) was) rest,
+            )
 
         by_handed : (r : Handed) (mid : F) (rest : Along disk_moves moves (seen_by see_take (took_from d l r)) k mid k' f' (d', s))
             → HoldsOf (over (is_waiting (state_of d.calls c)) (first_of (handed_in c d (asked_along disk_moves moves (seen_by see_take (took_from d l r)) k mid k' f' (d', s) rest)) (from_link c d l r)) h) c d'.calls
-        by_handed (Brought q) mid rest = by_heard q (heard d l q (oldest (ring_of d.remote.links l))) refl mid rest
+        by_handed (Brought q) mid rest = let r = by_heard q (heard d l q (oldest (ring_of d.remote.links l))) refl mid rest in only_first (Brought q) mid rest r.0 r.1
         by_handed NothingCame mid rest = to d (ap (λ (x : Device × Seen). x.0) rest.2) None (nothing_over (is_waiting (state_of d.calls c)) h (call_of d.calls c) was)
-        by_handed LinkLost mid rest = to (lost d l) (ap (λ (x : Device × Seen). x.0) rest.2) None (lied_holds h c d l None was)
+        by_handed LinkLost mid rest =
+            only_first LinkLost mid rest (none-answering _ (answering (device.with_step link.Lost) (lose d l)) (none-answering _ (lose d l) (lose_none d l))) (loss_step l link.Lost see_take d None k mid (lied_holds h c d l None was) rest)
 
     other_step : (k : D) (f : F) (page : List ℕ) (e : Event) → ((w : DiskWhich) (ok : Bool) → e ≡ event.Disk w ok → ⊥) → ((l : Lender) → e ≡ event.Take l → ⊥) → (along : Along disk_moves moves (happens d page e) k f k' f' (d', s))
         → HoldsOf (cond (is_start_of c e s) None (over (is_waiting (state_of d.calls c)) (handed_in c d (asked_along disk_moves moves (happens d page e) k f k' f' (d', s) along)) h)) c d'.calls
     other_step k f page e no_disk no_take along = by (is_start_of c e s) refl
       where
-        comes : Comes d page e d' s
+        comes : ComesTo d page e d' s
         comes = Leads-Along disk_moves moves (happens d page e) k f k' f' (d', s) _ (happens_comes disk_moves moves d k f page e) along
 
         by : (b : Bool) → is_start_of c e s ≡ b → HoldsOf (cond b None (over (is_waiting (state_of d.calls c)) (handed_in c d (asked_along disk_moves moves (happens d page e) k f k' f' (d', s) along)) h)) c d'.calls
-        by true starts = λ is. absurd (start_is_fresh IsCame (λ x. x) (λ p since x. x) (λ p n v since x. x) d d' page e s c comes starts is)
+        by true starts = λ is. absurd (start_is_fresh IsCame (λ x. x) (λ p since x. x) (λ p n v since x. x) (record d { rates = comes.0 }) d' page e s c comes.2 starts is)
         by false starts =
             let none = none_handed c d (happens d page e) k f k' f' (d', s) along (event_none d page e no_disk no_take) in
-            let now : HoldsOf h c d'.calls = event_holds h c d d' page e s no_disk no_take was comes in
+            let now : HoldsOf h c d'.calls = event_holds h c (record d { rates = comes.0 }) d' page e s no_disk no_take was comes.2 in
             subst (λ o. HoldsOf (over (is_waiting (state_of d.calls c)) o h) c d'.calls) (sym none) (nothing_over (is_waiting (state_of d.calls c)) h (call_of d'.calls c) now)
 
   -- any event

@@ -23,15 +23,15 @@ use Rattle.swap_calls.specs.declared.Arrived.{Arrived}
 use Rattle.swap_calls.specs.declared.CallState.{CallState}
 use Rattle.swap_calls.specs.declared.CallState.TheVariants.{Idle, Room, Reading}
 use Rattle.swap_rings.specs.Rings.{is_up}
-use Rattle.swap_table.specs.Device.{Device, lost, wrote, took, took_back}
+use Rattle.swap_table.specs.Device.{Device, Heard, lost, wrote, took, took_back}
 use Rattle.swap_table.proofs.Lists.{chosen, All-set, All-get_or, All-map, All-replicate}
 use Rattle.swap_world.specs.World.{World, next, IsStep, start, new_harbor, reach, made_by}
 use Rattle.swap_table.specs.Happens.{happens}
 use Rattle.swap_world.specs.Runs.{IsPaged, IsInput}
 use Rattle.swap_table.specs.Goes.{Asked, OfFabric, PortsGo, stay, EachKeeps, by_disk, by_fabric}
-use Rattle.swap_table.specs.Moves.{Within, of_sizes, Speaker, quiet, Outs, new_out, late_out, Sends, write, read, borrow, Hears, lent, refused, written, brought, IsWord, greeting, IsFar, far_give, far_cut, far_crash, far_host, Move, enters, gives, faults, waits_for_room, starts, waits_for_disk, takes, lets_finish, sends, finds_down, raises, speaks, speaks_to_nobody, hears, hears_nothing, loses, misunderstands, breaks_off, far}
+use Rattle.swap_table.specs.Moves.{Within, of_sizes, Speaker, quiet, Outs, new_out, late_out, Sends, write, read, borrow, query, query_too, Hears, roomy, lent, refused, written, brought, asked_rate, told_to_go, IsWord, greeting, rating, giving_back, IsFar, far_give, far_cut, far_crash, far_host, Move, enters, gives, faults, waits_for_room, rates_change, lets_go, gives_up, starts, waits_for_disk, takes, lets_finish, sends, finds_down, raises, speaks, speaks_to_nobody, hears, hears_nothing, loses, misunderstands, breaks_off, far}
 use Rattle.swap_table.proofs.Going.{Goes-leads, Does, DoesOf, Leads-runs, Goes-went}
-use Rattle.swap_table.proofs.Walks.{happens_fares, Fares}
+use Rattle.swap_table.proofs.Walks.{happens_fares, FaresTo}
 use Rattle.swap_table.proofs.Comings.{Hands, names_there}
 use Rattle.swap_base.specs.declared.geometry.LenderSpec.{LenderSpec}
 use Rattle.swap_wire.specs.declared.Seen.{Seen}
@@ -198,6 +198,8 @@ module _ (s : Sizes) (n : ℕ) where
       fits q e base (write {c = c} {p = p} {bytes = bytes} outs is) = λ _. outs_whole d c p bytes sound.rooms outs
       fits q e base (read ins within is none at) = λ e. cc
       fits q e base (borrow within may) = λ e. cc
+      fits q e base (query within may) = λ e. cc
+      fits q e base (query_too within state other may) = λ e. cc
 
   far_fits : (c : FabricCall) → IsFar There c → Fitting c
   far_fits c (far_give within) = record { page = tt; lender = within }
@@ -207,12 +209,14 @@ module _ (s : Sizes) (n : ℕ) where
 
   word_fits : (d : Device) (l : Lender) (q : Parcel) → IsWord d q → l.0 < n → Fitting (FabricCall.Send l q)
   word_fits d l q greeting within = record { page = λ e. cc; lender = within }
+  word_fits d l q (rating k value) within = record { page = λ e. cc; lender = within }
+  word_fits d l q (giving_back k) within = record { page = λ e. cc; lender = within }
 
   -- each move asks what fits
   asks_fit : (x y : Speaker) (k : Drive) (h : Harbor) (c : FabricCall) (r : FabricAnswer c) → Move There x (OfFabric c r) y → SoundAt x k h → Fitting c
   asks_fit x y k h c r (sends {d = d} {e = e} {base = base} {l = l} {q = q} one) sound = send_fits d k h l q e base sound one
   asks_fit x y k h c r (finds_down {d = d} {e = e} {base = base} {l = l} {q = q} one) sound = send_fits d k h l q e base sound one
-  asks_fit x y k h c r (raises within) sound = record { page = tt; lender = within }
+  asks_fit x y k h c r (raises within off) sound = record { page = tt; lender = within }
   asks_fit x y k h c r (speaks {d = d} {l = l} {q = q} word) sound = word_fits d l q word (subst (λ (x : FabricOf). l.0 < x.lenders) sound.agrees.0.is sound.agrees.1)
   asks_fit x y k h c r (speaks_to_nobody {d = d} {l = l} {q = q} word) sound = word_fits d l q word (subst (λ (x : FabricOf). l.0 < x.lenders) sound.agrees.0.is sound.agrees.1)
   asks_fit x y k h c r (hears {d = d} {l = l} up one) sound = record { page = tt; lender = below d k h l sound.agrees up }
@@ -227,8 +231,13 @@ module _ (s : Sizes) (n : ℕ) where
   sent_rooms d l q e base rooms (write {c = c} {p = p} outs is) = let entered = rooms_ended s.page_bytes (calls.paged_out d.calls p) c (rooms_paged_out s.page_bytes d.calls p rooms) in (entered, entered)
   sent_rooms d l q e base rooms (read {c = c} {p = p} {n = m} ins within is none at) = (rooms_reads s.page_bytes d.calls c p m (via.Lender l) d.failed_reads rooms, rooms)
   sent_rooms d l q e base rooms (borrow within may) = (rooms, rooms)
+  sent_rooms d l q e base rooms (query within may) = (rooms, rooms)
+  sent_rooms d l q e base rooms (query_too within state other may) = (rooms, rooms)
 
-  heard_rooms : (d : Device) (l : Lender) (q : Parcel) (e : Device) → RoomsFit d → Hears d l q e → RoomsFit e
+  heard_rooms : (d : Device) (l : Lender) (q : Parcel) (x : Heard) → RoomsFit d → Hears d l q x → RoomsFit x.device
+  heard_rooms d l q e rooms (roomy ring says same) = rooms
+  heard_rooms d l q e rooms (asked_rate says at) = rooms
+  heard_rooms d l q e rooms (told_to_go says at) = rooms
   heard_rooms d l q e rooms (lent ring says same none) = rooms
   heard_rooms d l q e rooms (refused ring says same) = rooms
   heard_rooms d l q e rooms (written ring says named) = rooms
@@ -239,16 +248,19 @@ module _ (s : Sizes) (n : ℕ) where
   rooms_kept x y asked (gives {d = d} {c = c} given) rooms = rooms_ended s.page_bytes d.calls c rooms
   rooms_kept x y asked (faults {d = d} {c = c} why) rooms = rooms_ended s.page_bytes d.calls c rooms
   rooms_kept x y asked (waits_for_room {d = d} c p bytes e within hands) rooms = rooms_wait s.page_bytes d.calls c p d.failed_writes bytes hands rooms
+  rooms_kept x y asked (rates_change rates) rooms = rooms
+  rooms_kept x y asked (lets_go {d = d} l within up) rooms = rooms_lost s.page_bytes d.calls l rooms
+  rooms_kept x y asked (gives_up l t off asks) rooms = rooms
   rooms_kept x y asked (starts el ec) rooms = rooms
   rooms_kept x y asked (waits_for_disk {d = d} {c = c} {p = p} {n = m} ins within is none) rooms = rooms_reads s.page_bytes d.calls c p m via.Disk d.failed_reads rooms
   rooms_kept x y asked (takes {d = d} {taken = taken}) rooms = took_back_rooms s d taken rooms
   rooms_kept x y asked lets_finish rooms = rooms
   rooms_kept x y asked (sends {d = d} {e = e} {base = base} {l = l} {q = q} one) rooms = (sent_rooms d l q e base rooms one).0
   rooms_kept x y asked (finds_down {d = d} {e = e} {base = base} {l = l} {q = q} one) rooms = rooms_lost s.page_bytes base.calls l (sent_rooms d l q e base rooms one).1
-  rooms_kept x y asked (raises {d = d} {l = l} within) rooms = chosen (λ (x : Device). RoomsFit x) (is_up d.remote.links l) (lost d l) d (λ _. rooms_lost s.page_bytes d.calls l rooms) (λ _. rooms)
+  rooms_kept x y asked (raises within off) rooms = rooms
   rooms_kept x y asked (speaks word) rooms = rooms
   rooms_kept x y asked (speaks_to_nobody {d = d} {l = l} word) rooms = rooms_lost s.page_bytes d.calls l rooms
-  rooms_kept x y asked (hears {d = d} {e = e} {l = l} {q = q} up one) rooms = heard_rooms d l q e rooms one
+  rooms_kept x y asked (hears {d = d} {h = heard} {l = l} {q = q} up one) rooms = heard_rooms d l q heard rooms one
   rooms_kept x y asked (hears_nothing up) rooms = rooms
   rooms_kept x y asked (loses {d = d} {l = l} up) rooms = rooms_lost s.page_bytes d.calls l rooms
   rooms_kept x y asked (misunderstands up) rooms = rooms
@@ -307,7 +319,7 @@ module _ (s : Sizes) (n : ℕ) where
   hands_whole page e paged range = tt
 
   -- what an event names and hands in, for its moves
-  goes_here : (w : World) (i : Input) → IsInput s n i → Fares There w.device i.page i.event (λ x. x) w.device (happens w.device i.page i.event)
+  goes_here : (w : World) (i : Input) → IsInput s n i → FaresTo There w.device i.page i.event (λ x. x) (happens w.device i.page i.event)
   goes_here w i input = happens_fares There w.device i.page i.event (names_there s n Below Whole w.device i.page i.event input.0 (hands_whole i.page i.event input.1 input.0))
 
   abbrev pub IsSound : World → Type 0

@@ -286,7 +286,7 @@ module _ (c : Caller) (d : Device) (is : List Input) (within : c.0 < length d.ca
   comes_once page e d' s starts_write = h
   comes_once page e d' s (takes_back taken) = took_back_open c d taken is within h
   comes_once page e d' s (links new of_link linked) = link_lists c d is within h e page s d' new (used c d is within h d d' is linked h)
-  comes_once page e d' s (brings {d' = x} a bytes linked) = arrived_open c a x.history x.calls arrived.Came bytes is (used_within c d is within h x linked) (used c d is within h d x is linked h)
+  comes_once page e d' s (brings a bytes r linked) = used c d is within h (record d { remote = r; calls = calls.came d.calls a bytes }) d' is linked (arrived_open c a d.history d.calls arrived.Came bytes is within h)
 
 pub answers_all : (state : CallState) (own : List ℕ) (is : List Input) (rows : List Row) → Open state own is rows → AnswersAll (is_idle state) is rows
 answers_all Idle own is rows h = h

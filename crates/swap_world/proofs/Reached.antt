@@ -30,9 +30,10 @@ use Rattle.swap_world.specs.Laws.{Began}
 use Rattle.swap_world.proofs.Steps.{Known, step_comes, step_known, run_known, run_keeps}
 use Rattle.swap_world.proofs.Told.{IsTold, new_told, each_told}
 use Rattle.swap_world.proofs.Counted.{few_failed, took_history}
+use Rattle.swap_table.specs.Comes.{ComesTo}
 use Rattle.swap_world.proofs.Callers.{comes_idle}
 use Rattle.swap_world.proofs.Busy.{took_back_idle}
-use Rattle.swap_world.proofs.Effects.{comes_stays}
+use Rattle.swap_world.proofs.Effects.{comes_to_stays}
 use Rattle.swap_wire.specs.declared.Seen.TheVariants as seen
 use Rattle.swap_queue.specs.Queue as queue
 
@@ -115,7 +116,7 @@ module _ {D F : Type 0} (disk : DiskMeaning D) (follows : FollowsItsMoves disk) 
     logged = ap (λ l. l ++ (i.event, s) ∷ []) r.logged;
   }
   reached_by i s d' k' f' spare false e range step =
-      let stays : d' ≡ core.device = comes_stays core.device d' i.page i.event s (step_comes disk.moves fabric.moves core.device d' core.disk k' core.fabric f' i s step) e in
+      let stays : d' ≡ core.device = comes_to_stays core.device d' i.page i.event s (step_comes disk.moves fabric.moves core.device d' core.disk k' core.fabric f' i s step) e in
       record {
         sizes = r.sizes;
         lenders = r.lenders;
@@ -155,7 +156,8 @@ module _ {D F : Type 0} (disk : DiskMeaning D) (follows : FollowsItsMoves disk) 
 
   pub reached_idle : (i : Input) (s : Seen) (d' : Device) (k' : D) (f' : F) → IsStep disk.moves fabric.moves core.device core.disk core.fabric i s d' k' f' → StaysIdle core.device i.event d'
   reached_idle i s d' k' f' step c within idle other =
-      comes_idle core.device d' i.page i.event s c (subst (λ n. c.0 < n) (sym reached_known.agree.0.disk.agrees.calls_len) within) idle other (step_comes disk.moves fabric.moves core.device d' core.disk k' core.fabric f' i s step)
+      let comes : ComesTo core.device i.page i.event d' s = step_comes disk.moves fabric.moves core.device d' core.disk k' core.fabric f' i s step in
+      comes_idle (record core.device { rates = comes.0 }) d' i.page i.event s c (subst (λ n. c.0 < n) (sym reached_known.agree.0.disk.agrees.calls_len) within) idle other comes.2
 
   -- a poll
   pub reached_polled : (step : DiskStep) (d' : Device) (k' : D) (f' : F) (spare : ℕ) → Along disk.moves fabric.moves (disk_take core.device) core.disk core.fabric k' f' (d', step) → IsReached disk fabric (record { device = d'; disk = k'; fabric = f'; spare = spare }) (logged_polled step log)

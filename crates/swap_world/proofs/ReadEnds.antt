@@ -33,6 +33,7 @@ use Rattle.swap_world.specs.Failures.{is_of, is_start, is_start_of, since_start,
 use Rattle.swap_world.specs.Runs.{entry_seen, with_polled}
 use Rattle.swap_table.specs.Happens.{happens, taken_if, see_disk}
 use Rattle.swap_world.proofs.Once.{idle_at}
+use Rattle.swap_table.specs.Comes.{ComesTo}
 use Rattle.swap_table.proofs.Comings.{happens_comes}
 use Rattle.swap_world.proofs.Callers.{comes_carries, Carries, set_own, set_other}
 use Rattle.swap_disk.specs.declared.port.DiskPort.{Ghosts as DiskMeaning}
@@ -334,8 +335,8 @@ module _ {D F : Type 0} (disk : DiskMeaning D) (follows : FollowsItsMoves disk) 
   module _ (T : Bool) (A : List ℕ → List ℕ → Type 0) (c : Caller) (d d' : Device) (k k' : D) (f f' : F) (s : Seen) (ends : List (Event × Seen)) (H : List Row) (fits : FitsDisk T A d (disk.means k)) (within : c.0 < length d.calls) (was : Reads c ends H (state_of d.calls c)) where
     comes_reads : (page : List ℕ) (e : Event) → ((w : DiskWhich) (ok : Bool) → e ≡ event.Disk w ok → ⊥) → Along disk.moves moves (happens d page e) k f k' f' (d', s) → Reads c (cond (is_start_of c e s) [] ends) (cond (is_start_of c e s) d.history H) (state_of d'.calls c)
     comes_reads page e other along =
-        comes_carries (λ b state. Reads c (cond b [] ends) (cond b d.history H) state) d c (carries c d ends H) within was page e d' s (λ w ok taken is. absurd (other w ok is))
-        (Leads-Along disk.moves moves (happens d page e) k f k' f' (d', s) _ (happens_comes disk.moves moves d k f page e) along)
+        let comes : ComesTo d page e d' s = Leads-Along disk.moves moves (happens d page e) k f k' f' (d', s) _ (happens_comes disk.moves moves d k f page e) along in
+        comes_carries (λ b state. Reads c (cond b [] ends) (cond b d.history H) state) (record d { rates = comes.0 }) c (carries c (record d { rates = comes.0 }) ends H) within was page e d' s (λ w ok taken is. absurd (other w ok is)) comes.2
 
     pub step_reads : (page : List ℕ) (e : Event) → Along disk.moves moves (happens d page e) k f k' f' (d', s) → ReadsAfter c ends H d.history e s (state_of d'.calls c)
     step_reads page (event.Disk w ok) along =

@@ -31,7 +31,7 @@ use Rattle.swap_calls.specs.declared.CallState.TheVariants.{Idle, Room, Reading}
 use Rattle.swap_table.specs.Device.{Device, new, enter, wrote, took, took_back}
 use Rattle.swap_table.specs.Ports.{Along}
 use Rattle.swap_table.specs.Happens.{happens}
-use Rattle.swap_table.specs.Comes.{Linked, begins_in, goes_on_in, Comes, refuses, rests, accepts, gives_page, fails, keeps_page, reads, starts_write, takes_back, links, brings}
+use Rattle.swap_table.specs.Comes.{Linked, begins_in, goes_on_in, Comes, ComesTo, refuses, rests, accepts, gives_page, fails, keeps_page, reads, starts_write, takes_back, links, brings}
 use Rattle.swap_table.proofs.Comings.{linked_keep, happens_comes}
 use Rattle.swap_table.proofs.Programs.{Leads-Along}
 use Rattle.swap_world.specs.Since.{is_read_op, last_handed, AcceptedSince, EndedSince, GivesWhatWasHanded, HasAgainCause, AgainHasCause}
@@ -78,7 +78,7 @@ other_rows d d' page e s no_in no_finish (reads {d' = x} v step newest used) = i
 other_rows d d' page e s no_in no_finish starts_write = inl refl
 other_rows d d' page e s no_in no_finish (takes_back taken) = inl (took_rows d taken)
 other_rows d d' page e s no_in no_finish (links new_ of_link used) = inl (linked_rows d d' used)
-other_rows d d' page e s no_in no_finish (brings {d' = x} a bytes used) = inl (linked_rows d x used)
+other_rows d d' page e s no_in no_finish (brings a bytes r used) = inl (linked_rows _ d' used)
 
 -- the entry that was added
 no_longer : (H : History) (row : Row) → H ≡ row ∷ H → ⊥
@@ -120,7 +120,8 @@ module _ {D F : Type 0} (disk_moves : D → (c : DiskCall) → DiskAnswer c → 
           kept c (Leads-Along disk_moves moves (happens d i.page (event.Finish c)) k f k' f' (d', seen_) (λ (a : Device × Seen) e g. AddsKept d c a.0.history) (finish_rows disk_moves moves d k f i.page c) there)
       by e same =
           let there = subst (λ x. Along disk_moves moves (happens d i.page x) k f k' f' (d', seen_)) same step in
-          absurd (no_read d d'.history row (other_rows d d' i.page e seen_ (λ c p e. cc) (λ c e. cc) (Leads-Along disk_moves moves (happens d i.page e) k f k' f' (d', seen_) (λ (a : Device × Seen) _ _. Comes d i.page e a.0 a.1) (happens_comes disk_moves moves d k f i.page e) there)) is read)
+          let comes : ComesTo d i.page e d' seen_ = Leads-Along disk_moves moves (happens d i.page e) k f k' f' (d', seen_) (λ (a : Device × Seen) _ _. ComesTo d i.page e a.0 a.1) (happens_comes disk_moves moves d k f i.page e) there in
+          absurd (no_read d d'.history row (other_rows (record d { rates = comes.0 }) d' i.page e seen_ (λ c p e. cc) (λ c e. cc) comes.2) is read)
 
 module _ {D F : Type 0} (disk : DiskMeaning D) (fabric : FabricMeaning F) where
   pub again_has_cause : AgainHasCause disk fabric

@@ -13,7 +13,7 @@ use Rattle.swap_table.specs.declared.DiskStep.{DiskStep}
 use Rattle.swap_table.specs.Ports.{Along}
 use Rattle.swap_table.specs.Device.{Device, of_device, new, disk_take, took_back}
 use Rattle.swap_table.specs.Happens.{happens}
-use Rattle.swap_table.specs.Comes.{Comes}
+use Rattle.swap_table.specs.Comes.{ComesTo}
 use Rattle.swap_table.specs.Promises.{FollowsItsMoves, Promises}
 use Rattle.swap_table.specs.Laws.{AgreeWith}
 use Rattle.swap_table.proofs.Programs.{Leads-Along}
@@ -24,7 +24,7 @@ use Rattle.swap_world.specs.Runs.{IsRun, begin, effect, without, polled, with_po
 use Rattle.swap_world.specs.Laws.{Began}
 
 module _ {D F : Type 0} (disk_moves : D → (c : DiskCall) → DiskAnswer c → D → Type 0) (moves : F → (c : FabricCall) → FabricAnswer c → F → Type 0) where
-  pub step_comes : (d d' : Device) (k k' : D) (f f' : F) (i : Input) (s : Seen) → IsStep disk_moves moves d k f i s d' k' f' → Comes d i.page i.event d' s
+  pub step_comes : (d d' : Device) (k k' : D) (f f' : F) (i : Input) (s : Seen) → IsStep disk_moves moves d k f i s d' k' f' → ComesTo d i.page i.event d' s
   step_comes d d' k k' f f' i s step = Leads-Along disk_moves moves (happens d i.page i.event) k f k' f' (d', s) _ (happens_comes disk_moves moves d k f i.page i.event) step
 
 -- what is known of a device over its ports before and after each event

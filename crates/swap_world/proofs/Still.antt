@@ -5,6 +5,7 @@ use Rattle.std.proofs.lemmas.List.{take_all}
 use Rattle.swap_base.specs.declared.Page.{Page}
 use Rattle.swap_base.specs.declared.Caller.{Caller}
 use Rattle.swap_base.specs.declared.Lender.{Lender}
+use Rattle.swap_base.specs.declared.Link.{Link}
 use Rattle.swap_base.specs.declared.Slab.{Slab}
 use Rattle.swap_base.specs.declared.DiskWhich.{DiskWhich}
 use Rattle.swap_base.specs.declared.CallKind.TheVariants as kind
@@ -20,7 +21,7 @@ use Rattle.swap_wire.specs.declared.fabric.Gave.{Gave}
 use Rattle.swap_wire.specs.declared.fabric.Gave.TheVariants as gave
 use Rattle.swap_wire.specs.declared.fabric.Sent.{Sent}
 use Rattle.swap_wire.specs.declared.fabric.Sent.TheVariants as sent
-use Rattle.swap_wire.specs.Fabric.{Parcel, parcel_of, Handed, Brought, NothingCame, LinkLost, Send, Take}
+use Rattle.swap_wire.specs.Fabric.{Parcel, parcel_of, Handed, Brought, NothingCame, LinkLost, Send, Take, FabricCall, End}
 use Rattle.swap_queue.specs.Queue as queue
 use Rattle.swap_queue.specs.Queue.{Copy}
 use Rattle.swap_disk.specs.Disk.{Flight, Write, Read, Finished, which_of, page_of, in_flight, finish_flight}
@@ -36,6 +37,8 @@ use Rattle.swap_calls.specs.declared.Arrived.TheVariants as arrived
 use Rattle.swap_calls.specs.declared.CallState.{CallState}
 use Rattle.swap_calls.specs.declared.CallState.TheVariants.{Idle, Room, Reading}
 use Rattle.swap_rings.specs.Rings.{is_up, oldest, ring_of}
+use Rattle.swap_table.specs.declared.Placed.{Placed}
+use Rattle.swap_table.specs.declared.LinkStep.{LinkStep}
 use Rattle.swap_table.specs.declared.OutStep.{OutStep}
 use Rattle.swap_table.specs.declared.OutStep.TheVariants as outs
 use Rattle.swap_table.specs.declared.InStep.{InStep}
@@ -45,10 +48,10 @@ use Rattle.swap_table.specs.declared.Step.TheVariants as steps
 use Rattle.swap_table.specs.declared.DiskStep.TheVariants as ends
 use Rattle.swap_table.specs.declared.LinkStep.TheVariants as link
 use Rattle.swap_table.specs.declared.TheConstants.{MOST_LINKS}
-use Rattle.swap_table.specs.Ports.{Prog, Ret, AskDisk, AskFabric, answering, run}
+use Rattle.swap_table.specs.Ports.{Prog, Ret, AskDisk, AskFabric, answering, and_then, run}
 use Rattle.swap_table.specs.Device as device
-use Rattle.swap_table.specs.Device.{Device, accept, accepted_late, finish_by, route, routed_again, fault, start_front, start_copy, wrote, took, may_map, after_borrow, connect_on, without_link, took_from, understood, heard}
-use Rattle.swap_table.specs.Happens.{happens, seen_by, taken_if, see_out, see_in, see_step, see_start, see_disk, see_map, see_link, see_gave, see_cut, see_take}
+use Rattle.swap_table.specs.Device.{Device, accept, accepted_late, finish_by, route, routed_again, fault, start_front, start_copy, wrote, took, Heard, may_map, after_borrow, with_answer, lose, say, raised, next_link, hello, with_link, connect_on, without_link, took_from, understood, follow, with_step, heard}
+use Rattle.swap_table.specs.Happens.{happens, seen_by, taken_if, see_out, see_in, see_step, see_start, see_disk, see_tick, see_map, see_link, see_gave, see_cut, see_take}
 use Rattle.swap_table.specs.Fits.{IsExpected, IsCopyOf}
 use Rattle.swap_table.proofs.Agree.{found}
 use Rattle.swap_world.specs.Runs.{has_effect}
@@ -189,23 +192,40 @@ disk_still d k h page w ok expected = by_parts k.disk.finished (in_flight k.disk
 map_still : (d : Device) (k : Drive) (h : Harbor) (page : List ℕ) (t : Slab) (l : Lender) → Stills (event.Map t l) d k h (runs (happens d page (event.Map t l)) k h)
 map_still d k h page t l = go (may_map d t l)
   where
-    asked : (r : Sent) → has_effect (event.Map t l) (see_map (after_borrow d t l r).1) ≡ true
-    asked sent.Sent = refl
-    asked sent.Down = refl
-
-    both : {b : Bool} → b ≡ true → b ≡ false → ⊥
-    both a b = cc
-
-    go : (b : Bool) → Stills (event.Map t l) d k h (runs (seen_by see_map (cond b (AskFabric (Send l (parcel_of (msg.Borrow t) [])) (λ r. Ret (after_borrow d t l r))) (Ret (d, false)))) k h)
-    go true = λ none. absurd (both (asked (harbor.ask h (Send l (parcel_of (msg.Borrow t) []))).0) none)
+    go : (b : Bool) → Stills (event.Map t l) d k h (runs (seen_by see_map (answering (with_answer b) (cond b (AskFabric (Send l (parcel_of (msg.Borrow t) [])) (after_borrow lose d t l)) (Ret d)))) k h)
+    go true = effect_through (event.Map t l) (λ (x : Device × Bool). (x.0, see_map x.1)) (with_answer true) (AskFabric (Send l (parcel_of (msg.Borrow t) [])) (after_borrow lose d t l)) d k k h h (λ x. refl)
     go false = λ none. (refl, refl, refl)
 
 connect_still : (d : Device) (k : Drive) (h : Harbor) (page : List ℕ) (l : Lender) → Stills (event.Connect l) d k h (runs (happens d page (event.Connect l)) k h)
 connect_still d k h page l = go (nat_lt d.links_made MOST_LINKS)
   where
-    go : (b : Bool) → Stills (event.Connect l) d k h (runs (seen_by see_link (cond b (connect_on (without_link d l) l) (Ret (d, None)))) k h)
-    go true = λ none. absurd (let no : true ≡ false = none in cc)
+    both : {b : Bool} → b ≡ true → b ≡ false → ⊥
+    both a b = cc
+
+    -- a link that was made is seen, whatever was lost before
+    made : (p : Prog Device) (e : Device → Prog (Device × Option Link)) (k : Drive) (h : Harbor) → ((x : Device) (k : Drive) (h : Harbor) → has_effect (event.Connect l) (see_link (runs (e x) k h).0.1) ≡ true) → has_effect (event.Connect l) (see_link (runs (and_then p e) k h).0.1) ≡ true
+    made (Ret x) e k h each = each x k h
+    made (AskDisk c next) e k h each = made (next (drive.ask k c).0) e (drive.ask k c).1 h each
+    made (AskFabric c next) e k h each = made (next (harbor.ask h c).0) e k (harbor.ask h c).1 each
+
+    linked : (x : Device) (k : Drive) (h : Harbor) → has_effect (event.Connect l) (see_link (runs (connect_on x l) k h).0.1) ≡ true
+    linked x k h =
+        let h' : Harbor = (harbor.ask h (FabricCall.Connect l (next_link x))).1 in
+        let p : Prog Device = say (raised x l) l (Some (hello x.sizes)) in ap (λ (a : Device × Option Link). has_effect (event.Connect l) (see_link a.1)) (run_answering (with_link (next_link x)) p k h')
+
+    go : (b : Bool) → Stills (event.Connect l) d k h (runs (seen_by see_link (cond b (and_then (without_link d l) (λ x. connect_on x l)) (Ret (d, None)))) k h)
+    go true = λ none.
+        let p : Prog (Device × Option Link) = and_then (without_link d l) (λ x. connect_on x l) in
+        absurd (both (ap (λ (a : Device × Seen). has_effect (event.Connect l) a.1) (run_answering (λ (x : Device × Option Link). (x.0, see_link x.1)) p k h) ∙ made (without_link d l) (λ x. connect_on x l) k h linked) none)
     go false = λ none. (refl, refl, refl)
+
+-- a period's end is seen
+tick_still : (d : Device) (k : Drive) (h : Harbor) (page : List ℕ) (word : ℕ) → Stills (event.Tick word) d k h (runs (happens d page (event.Tick word)) k h)
+tick_still d k h page word = effect (event.Tick word) (λ (x : Device × Option Placed). (x.0, see_tick x.1)) (device.tick d word) d k k h h each
+  where
+    each : (x : Device × Option Placed) → has_effect (event.Tick word) (see_tick x.1) ≡ true
+    each (e, None) = refl
+    each (e, Some placed) = refl
 
 -- a channel that answers nothing stays what it is, and so does its harbor
 set_same : {X : Type 0} (xs : List X) (i : ℕ) (d : X) → set xs i (get_or xs i d) ≡ xs
@@ -301,14 +321,14 @@ taken_nothing ch = by_gone ch.device_gone
 take_still : (d : Device) (k : Drive) (h : Harbor) (page : List ℕ) (l : Lender) → Stills (event.Take l) d k h (runs (happens d page (event.Take l)) k h)
 take_still d k h page l = go (is_up d.remote.links l)
   where
-    by_heard : (q : Parcel) (o : Option Device) (h' : Harbor) → Stills (event.Take l) d k h (runs (seen_by see_take (understood d l q.msg o)) k h')
-    by_heard q None h' = λ none. absurd (let no : true ≡ false = none in cc)
-    by_heard q (Some e) h' = λ none. absurd (let no : true ≡ false = none in cc)
+    by_heard : (q : Parcel) (o : Option Heard) (h' : Harbor) → Stills (event.Take l) d k h (runs (seen_by see_take (understood d l q.msg o)) k h')
+    by_heard q None h' = effect_through (event.Take l) (λ (x : Device × LinkStep). (x.0, see_take x.1)) (with_step link.Lied) (lose d l) d k k (harbor.ask h' (End l)).1 h (λ x. refl)
+    by_heard q (Some e) h' = effect_through (event.Take l) (λ (x : Device × LinkStep). (x.0, see_take x.1)) (with_step (link.Got q.msg)) (follow e l) d k k h' h (λ x. refl)
 
     by_handed : (x : Handed) (h' : Harbor) → (x ≡ NothingCame → h' ≡ h) → Stills (event.Take l) d k h (runs (seen_by see_take (took_from d l x)) k h')
     by_handed (Brought q) h' same = by_heard q (heard d l q (oldest (ring_of d.remote.links l))) h'
     by_handed NothingCame h' same = λ none. (refl, refl, same refl)
-    by_handed LinkLost h' same = λ none. absurd (let no : true ≡ false = none in cc)
+    by_handed LinkLost h' same = effect_through (event.Take l) (λ (x : Device × LinkStep). (x.0, see_take x.1)) (with_step link.Lost) (lose d l) d k k h' h (λ x. refl)
 
     go : (b : Bool) → Stills (event.Take l) d k h (runs (seen_by see_take (cond b (AskFabric (Take l) (took_from d l)) (Ret (d, link.Nothing)))) k h)
     go true = by_handed (taken (channel_of h l)).0 (with_channel h l (taken (channel_of h l)).1) (λ is. harbor_same h l (taken (channel_of h l)).1 (taken_nothing (channel_of h l) is))
@@ -321,6 +341,7 @@ still d k h page (event.PageIn c p) expected = in_still d k h page c p
 still d k h page (event.Finish c) expected = finish_still d k h page c
 still d k h page event.Start expected = start_still d k h page
 still d k h page (event.Disk w ok) expected = disk_still d k h page w ok (expected w)
+still d k h page (event.Tick word) expected = tick_still d k h page word
 still d k h page (event.Map t l) expected = map_still d k h page t l
 still d k h page (event.Connect l) expected = connect_still d k h page l
 still d k h page (event.Give l) expected = give_still d k h page l

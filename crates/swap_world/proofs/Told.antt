@@ -23,8 +23,9 @@ use Rattle.swap_world.specs.Failures.{before_start, since_start, read_ends, entr
 use Rattle.swap_world.specs.Runs.{entry_seen, with_polled}
 use Rattle.swap_world.proofs.ReadEnds.{Reads, none_since, ReadsIn, AddsOne, reads_next, polled_reads, reads_new, step_reads}
 use Rattle.swap_table.specs.Moves.{full, unread}
-use Rattle.swap_table.specs.Comes.{Comes, refuses, rests, accepts, gives_page, fails, keeps_page, reads, starts_write, takes_back, links, brings}
-use Rattle.swap_world.proofs.Counted.{linked_same, rest_says, link_says, wait_says, AreCounted, counted_after, polled_counts, comes_counts, took_counts}
+use Rattle.swap_activity.specs.Rates.{Activity}
+use Rattle.swap_table.specs.Comes.{Comes, ComesTo, refuses, rests, accepts, gives_page, fails, keeps_page, reads, starts_write, takes_back, links, brings}
+use Rattle.swap_world.proofs.Counted.{linked_same, rest_says, link_says, wait_says, AreCounted, counted_after, polled_counts, comes_to_counts, took_counts}
 use Rattle.swap_base.specs.declared.Caller.{Caller}
 use Rattle.swap_base.specs.Sizes.{Sizes}
 use Rattle.swap_calls.specs.Calls.{Call, state_of, idle}
@@ -56,6 +57,10 @@ none_seen made d d' s e n = record { adds = inl (n, e) }
 
 one_seen : (made : List (Input × Seen)) (d d' : Device) (row : Row) (s : Seen) → d'.history ≡ row ∷ d.history → entry_seen s ≡ Some (next_name d.history) → HasItsCause row.entry.caller row.entry.page made d.history row.entry.op → AddsSeen made d (d', s)
 one_seen made d d' row s e n own = record { adds = inr (n, row, e, own) }
+
+-- and so where only rates changed before
+rated_adds : (made : List (Input × Seen)) (d : Device) (rates : List Activity) (d' : Device) (s : Seen) → AddsSeen made (record d { rates = rates }) (d', s) → AddsSeen made d (d', s)
+rated_adds made d rates d' s a = record { adds = a.adds }
 
 wrote_seen : (made : List (Input × Seen)) (d : Device) (p : Page) (copy : Option Copy) (ok : Bool) → let a : Device × DiskStep = wrote d p copy ok in AddsSeen made d (a.0, see_disk a.1)
 wrote_seen made d p None ok = none_seen made d d seen.Nothing refl refl
@@ -94,7 +99,7 @@ module _ (made : List (Input × Seen)) (n : ℕ) (d : Device) (counted : AreCoun
   comes_seen page e d' s range starts_write = none_seen made d _ s refl refl
   comes_seen page e d' s range (takes_back taken) = took_back_seen made d taken
   comes_seen page e d' s range (links new of_link linked) = none_seen made d d' s (linked_same d d' linked).history (link_says s of_link).entry
-  comes_seen page e d' s range (brings {d' = x} c bytes linked) = none_seen made d _ s (linked_same d x linked).history refl
+  comes_seen page e d' s range (brings c bytes r linked) = none_seen made d d' s (linked_same _ d' linked).history refl
 
 -- a step's entry stands in front of those before it
 holds_entry : (made : List (Input × Seen)) (d d' : Device) (s : Seen) → AddsSeen made d (d', s) → HoldsEntriesSeen made d.history → HoldsEntry (HoldsEntriesSeen made) made d'.history (entry_seen s)
@@ -166,16 +171,17 @@ module _ {D F : Type 0} (disk : DiskMeaning D) (follows : FollowsItsMoves disk) 
 
   event_adds : (made : List (Input × Seen)) (d d' : Device) (k k' : D) (f f' : F) (i : Input) (s : Seen) → IsKnown d k f → IsInRange o.sizes o.lenders i.event → IsStep disk.moves fabric.moves d k f i s d' k' f' → IsTold o.sizes made d → AddsSeen made d (d', s)
   event_adds made d d' k k' f f' i s h range step told =
-      comes_seen made o.lenders d told.counted (keeps_each made d k f h told) i.page i.event d' s (subst (λ (x : FabricOf). IsInRange x.sizes o.lenders i.event) (sym h.is) range) (step_comes disk.moves fabric.moves d d' k k' f f' i s step)
+      let comes : ComesTo d i.page i.event d' s = step_comes disk.moves fabric.moves d d' k k' f f' i s step in
+      rated_adds made d comes.0 d' s (comes_seen made o.lenders (record d { rates = comes.0 }) (record { writes = told.counted.writes; reads = told.counted.reads }) (keeps_each made d k f h told) i.page i.event d' s (subst (λ (x : FabricOf). IsInRange x.sizes o.lenders i.event) (sym h.is) range) comes.2)
 
   event_told : (made : List (Input × Seen)) (d d' : Device) (k k' : D) (f f' : F) (i : Input) (s : Seen) → IsKnown d k f → IsInRange o.sizes o.lenders i.event → IsStep disk.moves fabric.moves d k f i s d' k' f' → IsTold o.sizes made d → IsTold o.sizes ((i, s) ∷ made) d'
   event_told made d d' k k' f f' i s h range step told =
-      let comes : Comes d i.page i.event d' s = step_comes disk.moves fabric.moves d d' k k' f f' i s step in
+      let comes : ComesTo d i.page i.event d' s = step_comes disk.moves fabric.moves d d' k k' f f' i s step in
       let adds : AddsSeen made d (d', s) = event_adds made d d' k k' f f' i s h range step told in
       record {
-        counted = counted_after made d d' i s told.counted (comes_counts d d' i.page i.event s comes);
-        once = λ c within. comes_once c d (calls_of c made) (within_calls d k f c h within) (told.once c within) i.page i.event d' s comes;
-        since = λ c within. comes_since c made d d' i s told.counted.writes told.counted.reads (within_calls d k f c h within) (told.since c within) comes;
+        counted = counted_after made d d' i s told.counted (comes_to_counts d d' i.page i.event s comes);
+        once = λ c within. comes_once c (record d { rates = comes.0 }) (calls_of c made) (within_calls d k f c h within) (told.once c within) i.page i.event d' s comes.2;
+        since = λ c within. comes_since c made (record d { rates = comes.0 }) d' i s told.counted.writes told.counted.reads (within_calls d k f c h within) (told.since c within) comes.2;
         reads = λ c within.
             reads_next c i s made d d' (adds_one made d d' s adds)
             (step_reads disk follows fabric.moves T fabric.answers c d d' k k' f f' s (read_ends c (since_start c made)) (drop (entries_in (since_start c made)) d.history) h.agree.0.disk (within_calls d k f c h within) (told.reads c within) i.page i.event step);

@@ -160,13 +160,17 @@ second = record { 0 = 1 }
 
 abbrev cut_away : List Input
 cut_away =
-    by (event.Cut second 1 0) ∷ by (event.Crash second) ∷ by (event.Connect lender) ∷ by (event.Connect second) ∷ by (event.Map slab second)
-    ∷ by (event.Cut second 1 0) ∷ by (event.Cut second 1 0) ∷ by (event.Give second) ∷ by (event.Give second) ∷ by (event.Take second) ∷ []
+    map by (
+    event.Cut second 1 0 ∷ event.Crash second ∷ event.Connect lender ∷ event.Connect second ∷ event.Map slab second
+    ∷ event.Cut second 1 0 ∷ event.Cut second 1 0 ∷ event.Give second ∷ event.Give second ∷ event.Take second ∷ []
+    )
 
 abbrev made_anew : List Input
 made_anew =
-    by (event.Connect lender) ∷ by (event.Map slab lender) ∷ by gives ∷ by gives ∷ by (event.Host lender 15 0) ∷ by (event.Crash lender)
-    ∷ by (event.Connect lender) ∷ by (event.Map slab lender) ∷ []
+    map by (
+    event.Connect lender ∷ event.Map slab lender ∷ gives ∷ gives ∷ event.Host lender 15 0 ∷ event.Crash lender
+    ∷ event.Connect lender ∷ event.Map slab lender ∷ []
+    )
 
 abbrev pub LinksAreCutAndMadeAnew : Type 0
 LinksAreCutAndMadeAnew =
@@ -186,6 +190,66 @@ seen_after_written more = seen_of (seens (reach (start (sizes 4) (lender_spec �
 abbrev pub LossOfTheReplySendsTheReadToTheDisk : Type 0
 LossOfTheReplySendsTheReadToTheDisk =
     seen_after_written (
-    by (event.PageIn (caller 0) (page 3)) ∷ by gives ∷ by (event.Cut lender 0 0) ∷ by takes ∷ by (event.Finish (caller 0)) ∷ disk_read 0 true ∷ by (event.Finish (caller 0)) ∷ []
+    by (event.PageIn (caller 0) (page 3)) ∷ by gives ∷ by (event.Cut lender 0 0) ∷ by takes
+    ∷ by (event.Finish (caller 0)) ∷ disk_read 0 true ∷ by (event.Finish (caller 0)) ∷ []
     )
-    ≡ seen.Wait (via.Lender lender) ∷ seen.Gave (msg.Read lease 3) (Some (msg.PageIs lease 3)) 0 ∷ seen.Cut ∷ seen.Lost ∷ seen.Again via.Disk ∷ seen.ReadCame (page 3) ∷ seen.Done (entry 1) None ∷ []
+    ≡ seen.Wait (via.Lender lender) ∷ seen.Gave (msg.Read lease 3) (Some (msg.PageIs lease 3)) 0 ∷ seen.Cut ∷ seen.Lost
+    ∷ seen.Again via.Disk ∷ seen.ReadCame (page 3) ∷ seen.Done (entry 1) None ∷ []
+
+-- five page-ins of a page make its slab hot; two lenders are asked, and the one with more room lends
+abbrev hot_sizes : Sizes
+hot_sizes = record (sizes 4) { hot = 1 }
+
+abbrev roomier : LenderSpec
+roomier = record { slots = 6; headroom = 1; extra = 1 }
+
+abbrev reads_zero : Input
+reads_zero = by (event.PageIn (caller 0) (page 0))
+
+abbrev asks_two : List Input
+asks_two = map by (event.Connect lender ∷ event.Connect second ∷ []) ++ replicate 5 reads_zero ++ by (event.Tick 0) ∷ []
+
+abbrev second_gives : Event
+second_gives = event.Give second
+
+abbrev second_takes : Event
+second_takes = event.Take second
+
+abbrev queried : ℕ → Seen
+queried free = seen.Gave (msg.Query slab) (Some (msg.Room slab free)) 0
+
+abbrev pub TwoLendersAreAskedAndTheFreerLends : Type 0
+TwoLendersAreAskedAndTheFreerLends =
+    seen_of (
+    seens (reach (start hot_sizes (lender_spec ∷ roomier ∷ [])) (asks_two)) (
+    map by (gives ∷ gives ∷ second_gives ∷ second_gives ∷ takes ∷ second_takes ∷ second_gives ∷ second_takes ∷ [])
+    ++ out 0 0 170 ∷ []
+    )
+    )
+    ≡ hello_given ∷ queried 3 ∷ hello_given ∷ queried 5 ∷ seen.Took (msg.Room slab 3) ∷ seen.Took (msg.Room slab 5)
+    ∷ lent_given ∷ seen.Took (msg.Lent slab lease) ∷ seen.Done (entry 5) (Some second) ∷ []
+
+abbrev pub TwoLendersAreAsked : Type 0
+TwoLendersAreAsked =
+    seen_of (seens (reach (start hot_sizes (lender_spec ∷ roomier ∷ [])) (map by (event.Connect lender ∷ event.Connect second ∷ []) ++ replicate 5 reads_zero)) (by (event.Tick 0) ∷ by (event.Tick 0) ∷ []))
+    ≡ seen.Asked slab lender (Some second) ∷ seen.Ticked ∷ []
+
+-- a lender takes its slot back while a write and a read of it are under way: both are answered before it's given back
+abbrev small : LenderSpec
+small = record { slots = 3; headroom = 1; extra = 0 }
+
+abbrev written_at_lender : List Input
+written_at_lender = mapping_events ++ (out 0 3 170 ∷ by gives ∷ by takes ∷ by event.Start ∷ disk_write 3 true ∷ [])
+
+abbrev taken_back : List Input
+taken_back =
+    map by (event.Host lender 10 0 ∷ takes ∷ gives ∷ event.PageIn (caller 0) (page 3) ∷ [])
+    ++ (out 1 2 187 ∷ map by (takes ∷ gives ∷ gives ∷ gives ∷ takes ∷ gives ∷ takes ∷ gives ∷ event.Finish (caller 0) ∷ event.PageIn (caller 0) (page 3) ∷ []))
+
+abbrev pub RevocationWithReadAndWriteInFlight : Type 0
+RevocationWithReadAndWriteInFlight =
+    seen_of (seens (reach (start (sizes 4) (small ∷ [])) written_at_lender) taken_back)
+    ≡ seen.Hosted 2 1 ∷ seen.Took (msg.AskRates lease) ∷ seen.Gave (msg.Rates lease 0) None 1 ∷ seen.Wait (via.Lender lender)
+    ∷ seen.Done (entry 1) (Some lender) ∷ seen.Took (msg.Evict lease) ∷ seen.Gave (msg.Read lease 3) (Some (msg.PageIs lease 3)) 0
+    ∷ seen.Gave (msg.Write lease 2) (Some (msg.Wrote lease 2)) 0 ∷ seen.Nothing ∷ seen.Took (msg.PageIs lease 3) ∷ seen.Nothing
+    ∷ seen.Took (msg.Wrote lease 2) ∷ seen.Gave (msg.Done lease) None 0 ∷ seen.Done (entry 2) None ∷ seen.Wait via.Disk ∷ []

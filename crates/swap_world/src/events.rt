@@ -8,7 +8,7 @@ ghost use Rattle.swap_world.specs.Runs.{HasSpare, GivesPage, Steps};
 
 use crate::world::{
     see_crash, see_cut, see_disk, see_gave, see_host, see_in, see_link, see_map, see_out,
-    see_start, see_step, see_take,
+    see_start, see_step, see_take, see_tick,
 };
 use swap_base::{Caller, DiskWhich, Lender, Page};
 use swap_calls::CallState;
@@ -173,6 +173,7 @@ pub fn happen<D: DiskPort, F: Fabric>(
         } => cut_event(device, lender, to_lender, to_device),
         Event::Crash { lender } => crash_event(device, lender),
         Event::Host { lender, used, word } => host_event(device, lender, used, word),
-        Event::Tick { .. } | Event::Round { .. } => Seen::Nothing,
+        Event::Tick { word } => see_tick(device.tick(word)),
+        Event::Round { .. } => Seen::Nothing,
     }
 }

@@ -3,7 +3,7 @@
 
 ghost use Rattle.swap_world.specs.Laws.{AgreesAfterEach, AlwaysAgrees, AlwaysLegal, EachCallOnce, EntriesAreSeen, HistoriesGoOn, HoldsAfterEach, NothingChanges, StepsAreNext};
 ghost use Rattle.swap_world.specs.Since.{AgainHasCause, GivesWhatWasHanded};
-ghost use Rattle.swap_world.specs.Rows.{PageOutWithoutRoomFailsWhereAWriteFailed, ReadOvertakenByAPageOutAlreadyOnTheDisk, FailedDiskReadFailsThePageIn, FailedDiskReadWithANewerPageOut, AnotherCallersReadFails, PageInFromALender, LinksAreCutAndMadeAnew, LossOfTheReplySendsTheReadToTheDisk};
+ghost use Rattle.swap_world.specs.Rows.{PageOutWithoutRoomFailsWhereAWriteFailed, ReadOvertakenByAPageOutAlreadyOnTheDisk, FailedDiskReadFailsThePageIn, FailedDiskReadWithANewerPageOut, AnotherCallersReadFails, PageInFromALender, LinksAreCutAndMadeAnew, LossOfTheReplySendsTheReadToTheDisk, TwoLendersAreAsked, TwoLendersAreAskedAndTheFreerLends, RevocationWithReadAndWriteInFlight};
 
 mod events;
 mod world;
@@ -94,4 +94,7 @@ pub fn rows()
     ensures from_lender { PageInFromALender }
     ensures anew { LinksAreCutAndMadeAnew }
     ensures reply_lost { LossOfTheReplySendsTheReadToTheDisk }
+    ensures asked { TwoLendersAreAsked }
+    ensures freer { TwoLendersAreAskedAndTheFreerLends }
+    ensures revoked { RevocationWithReadAndWriteInFlight }
 {}

@@ -3,7 +3,7 @@ ghost use Rattle.swap_base.specs.declared.Caller.{Caller};
 ghost use Rattle.swap_wire.specs.Input.{IsInRange};
 ghost use Rattle.swap_calls.specs.Calls.{state_of, is_idle};
 ghost use Rattle.swap_table.specs.Device.{of_device, new};
-ghost use Rattle.swap_table.specs.Happens.{see_out, see_in, see_step, see_start, see_disk, see_map, see_link, see_gave, see_cut, see_crash, see_host, see_take};
+ghost use Rattle.swap_table.specs.Happens.{see_out, see_in, see_step, see_start, see_disk, see_tick, see_map, see_link, see_gave, see_cut, see_crash, see_host, see_take};
 ghost use Rattle.swap_table.specs.Fits.{IsBlank};
 ghost use Rattle.swap_device.specs.State.{KeepsRoom};
 ghost use Rattle.swap_slabs.specs.declared.TheConstants.{MOST_LENDERS};
@@ -17,7 +17,7 @@ use swap_device::DeviceCore;
 use swap_disk::DiskPort;
 use swap_record::ReserveRefused;
 use swap_slabs::MOST_LENDERS;
-use swap_table::{DiskStep, InStep, LinkStep, OutStep, Step, ports_promise};
+use swap_table::{DiskStep, InStep, LinkStep, OutStep, Placed, Step, ports_promise};
 use swap_wire::{Event, Fabric, Gave, Hosted, Seen};
 
 /// The machine: a device over its disk and its lenders' links, with the log of its events.
@@ -271,6 +271,24 @@ pub(crate) fn see_disk(step: DiskStep) -> Seen
         DiskStep::Dropped { entry, .. } => Seen::WriteDropped { entry },
         DiskStep::Came { page, .. } => Seen::ReadCame { page },
         DiskStep::Failed { page, .. } => Seen::ReadFailed { page },
+    }
+}
+
+// What is seen of a period's end: the slab that was asked for, where one was.
+pub(crate) fn see_tick(placed: Option<Placed>) -> Seen
+    ensures { result ≡ see_tick placed }
+{
+    match placed {
+        None => Seen::Ticked,
+        Some(Placed {
+            slab,
+            first,
+            second,
+        }) => Seen::Asked {
+            slab,
+            first,
+            second,
+        },
     }
 }
 

@@ -15,6 +15,10 @@ pub returns-clause-lender : goal.returns-clause-lender
 unfolding digits
 returns-clause-lender c = (refl, refl, refl)
 
+pub returns-clause-links : goal.returns-clause-links
+unfolding digits
+returns-clause-links c = (refl, refl, refl, refl)
+
 pub returns-clause-refused : goal.returns-clause-refused
 unfolding digits
 returns-clause-refused c = (refl, refl, refl, refl, refl, refl)

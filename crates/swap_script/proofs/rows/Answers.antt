@@ -12,13 +12,17 @@ pub returns-clause-lenders : goal.returns-clause-lenders
 unfolding digits
 returns-clause-lenders c = (refl, refl)
 
+pub returns-clause-link_events : goal.returns-clause-link_events
+unfolding digits
+returns-clause-link_events c = refl
+
 pub returns-clause-faults : goal.returns-clause-faults
 unfolding digits
 returns-clause-faults c = (refl, refl, refl, refl, refl, refl, refl, refl, refl, refl)
 
 pub returns-clause-lender_faults : goal.returns-clause-lender_faults
 unfolding digits
-returns-clause-lender_faults c = (refl, refl, refl, refl, refl, refl, refl, refl, refl, refl, refl, refl, refl)
+returns-clause-lender_faults c = (refl, refl, refl, refl, refl, refl, refl, refl, refl, refl, refl, refl, refl, refl, refl, refl, refl)
 
 pub returns-clause-forms : goal.returns-clause-forms
 unfolding digits

@@ -12,7 +12,7 @@ use Rattle.swap_table.specs.Happens.{happens}
 use Rattle.swap_world.specs.World.{World, next, reach, history}
 use Rattle.swap_world.specs.Runs.{GoesOn}
 use Rattle.swap_world.proofs.Steps.{step_comes}
-use Rattle.swap_world.proofs.Counted.{comes_adds, adds_go_on}
+use Rattle.swap_world.proofs.Counted.{comes_to_adds, adds_go_on}
 use Rattle.swap_world.proofs.histories_go_on.Goals as goal
 
 -- what a program computes goes along it
@@ -29,7 +29,7 @@ computed (AskFabric c more) d h = ((harbor.ask h c).0, (harbor.ask h c).1, refl,
 
 next_goes_on : (w : World) (i : Input) → GoesOn (history w) (history (next w i).world)
 next_goes_on w i =
-    adds_go_on w.device i (next w i).seen (history (next w i).world) (comes_adds w.device (next w i).world.device i.page i.event (next w i).seen
+    adds_go_on w.device i (next w i).seen (history (next w i).world) (comes_to_adds w.device (next w i).world.device i.page i.event (next w i).seen
     (step_comes DiskAsks FabricAsks w.device (next w i).world.device w.drive (next w i).world.drive w.harbor (next w i).world.harbor i (next w i).seen (computed (happens w.device i.page i.event) w.drive w.harbor)))
 
 goes_on : (w : World) (is : List Input) → GoesOn (history w) (history (reach w is))

@@ -4,7 +4,7 @@ use Rattle.swap_script.proofs.script.front_of.Given as goal
 
 abbrev pub invariant-lenders : goal.invariant-lenders
 invariant-lenders l = record {
-  same : front_from l.grammar l.geometry [] l.fn.place ≡ front_from l.grammar l.geometry l.lenders l.place;
+  same : front_from l.geometry [] l.fn.place ≡ front_from l.geometry l.lenders l.place;
   ahead : l.ahead ≡ l.place;
   may : MayLend l.geometry l.lenders;
 }
