@@ -397,7 +397,6 @@ module _ {D F : Type 0} (disk : DiskMeaning D) (follows : FollowsItsMoves disk) 
         is = h.is;
         of_f = laws.keep_of f _ _ g moved ∙ h.of_f;
       }
-
   sent_kept d k f g l q e base h (query {t = t} within may) moved =
       let parts = both (slabs.is_local (slabs.state_of d.remote.slabs t)) (may_send d.sizes.window (link_of d.remote.links l)) may in
       record {
@@ -496,7 +495,6 @@ module _ {D F : Type 0} (disk : DiskMeaning D) (follows : FollowsItsMoves disk) 
       let awaited : AllByRecursion (IsAwaited d.sizes d.history d.calls d.remote.slabs l) (request.Write p n ∷ rest) = subst (λ ys. AllByRecursion (IsAwaited d.sizes d.history d.calls d.remote.slabs l) ys) ring (h.fits.serves.link l).awaited in
       ap (λ states. slabs.by_lease states l lease) (with_page_slabs (is_newest (last d.history p) n && slabs.is_mapped (remote.state_for d.sizes d.remote.slabs p)) (remote.settled_for d.sizes d.remote l p) p)
       ∙ settled_free d.remote.slabs (remote.slab_for d.sizes p) l lease h.fits.serves.single awaited.0.1 gives)
-
   heard_kept d k f g l q x h up (brought {c = c} {p = p} {at = at} {rest = rest} ring says named) moved =
       let r = promised.page_is q.msg at says in
       let owed = owes_first (fabric.owes f) d.history d.calls l c p rest (subst (λ ys. OwesReads (fabric.owes f) d.history d.calls l ys) ring ((h.fits.serves.link l).owed up)) in

@@ -62,7 +62,6 @@ lost_ins W d l c p h = go h
     go (new_in idle within) = new_in (ap is_idle is ∙ idle_state (state_of d.calls c) idle) within
     go (late_in {n = n} {v = v} {how = how} {newer = newer} {since = since} state may) = late_in (is ∙ ap (calls.lost_if_through l) state ∙ same_state n v how newer since may) may
 
-
 -- what a link was used for after another use
 pub linked_trans : (d e f : Device) → Linked d e → Linked e f → Linked d f
 linked_trans d e f one as_was = one
