@@ -1,9 +1,10 @@
 use Rattle.std.proofs.Common.{arith, ap, ◌≡◌, ◌-◌, length, vec_capacity}
 use Rattle.swap_wire.specs.Input.{Input}
+use Rattle.swap_table.specs.Comes.{ComesTo}
 use Rattle.swap_world.proofs.Steps.{step_comes}
-use Rattle.swap_world.proofs.Counted.{comes_adds}
+use Rattle.swap_world.proofs.Counted.{comes_to_adds}
 use Rattle.swap_world.proofs.Busy.{comes_grows}
-use Rattle.swap_world.proofs.Effects.{comes_stays}
+use Rattle.swap_world.proofs.Effects.{comes_to_stays}
 use Rattle.swap_world.proofs.Reached.{reached_counts, reached_step, reached_of, reached_idle}
 use Rattle.swap_world.proofs.world.World.step.Goals as goal
 
@@ -27,20 +28,20 @@ invariant_of-self g c =
 pub returns-clause-adds : goal.returns-clause-adds
 returns-clause-adds g c =
     let i : Input = record { event = c.args.event.now; page = c.args.page.now } in
-    let comes = step_comes g.D.DiskPort.moves g.F.Fabric.moves c.self.inside.device.device c.happen-seen.new.device.device c.self.inside.device.disk c.happen-seen.new.device.disk c.self.inside.device.fabric c.happen-seen.new.device.fabric i c.happen-seen.result c.happen-seen.ensures.step in
-    rw (← c.self.view_is) (comes_adds c.self.inside.device.device c.happen-seen.new.device.device i.page i.event c.happen-seen.result comes)
+    let comes : ComesTo c.self.inside.device.device i.page i.event c.happen-seen.new.device.device c.happen-seen.result = step_comes g.D.DiskPort.moves g.F.Fabric.moves c.self.inside.device.device c.happen-seen.new.device.device c.self.inside.device.disk c.happen-seen.new.device.disk c.self.inside.device.fabric c.happen-seen.new.device.fabric i c.happen-seen.result c.happen-seen.ensures.step in
+    rw (← c.self.view_is) (comes_to_adds c.self.inside.device.device c.happen-seen.new.device.device i.page i.event c.happen-seen.result comes)
 
 pub returns-clause-grows : goal.returns-clause-grows
 returns-clause-grows g c =
     let i : Input = record { event = c.args.event.now; page = c.args.page.now } in
-    let comes = step_comes g.D.DiskPort.moves g.F.Fabric.moves c.self.inside.device.device c.happen-seen.new.device.device c.self.inside.device.disk c.happen-seen.new.device.disk c.self.inside.device.fabric c.happen-seen.new.device.fabric i c.happen-seen.result c.happen-seen.ensures.step in
-    rw (← c.self.view_is) (comes_grows c.self.inside.device.device c.happen-seen.new.device.device i.page i.event c.happen-seen.result comes)
+    let comes : ComesTo c.self.inside.device.device i.page i.event c.happen-seen.new.device.device c.happen-seen.result = step_comes g.D.DiskPort.moves g.F.Fabric.moves c.self.inside.device.device c.happen-seen.new.device.device c.self.inside.device.disk c.happen-seen.new.device.disk c.self.inside.device.fabric c.happen-seen.new.device.fabric i c.happen-seen.result c.happen-seen.ensures.step in
+    rw (← c.self.view_is) (comes_grows (record c.self.inside.device.device { rates = comes.0 }) c.happen-seen.new.device.device i.page i.event c.happen-seen.result comes.2)
 
 pub returns-clause-unchanged : goal.returns-clause-unchanged
 returns-clause-unchanged g c =
     let i : Input = record { event = c.args.event.now; page = c.args.page.now } in
-    let comes = step_comes g.D.DiskPort.moves g.F.Fabric.moves c.self.inside.device.device c.happen-seen.new.device.device c.self.inside.device.disk c.happen-seen.new.device.disk c.self.inside.device.fabric c.happen-seen.new.device.fabric i c.happen-seen.result c.happen-seen.ensures.step in
-    λ none. rw (← c.self.view_is) (comes_stays c.self.inside.device.device c.happen-seen.new.device.device i.page i.event c.happen-seen.result comes none)
+    let comes : ComesTo c.self.inside.device.device i.page i.event c.happen-seen.new.device.device c.happen-seen.result = step_comes g.D.DiskPort.moves g.F.Fabric.moves c.self.inside.device.device c.happen-seen.new.device.device c.self.inside.device.disk c.happen-seen.new.device.disk c.self.inside.device.fabric c.happen-seen.new.device.fabric i c.happen-seen.result c.happen-seen.ensures.step in
+    λ none. rw (← c.self.view_is) (comes_to_stays c.self.inside.device.device c.happen-seen.new.device.device i.page i.event c.happen-seen.result comes none)
 
 pub returns-clause-idle : goal.returns-clause-idle
 returns-clause-idle g c =
