@@ -15,7 +15,7 @@ use Rattle.swap_script.specs.declared.Why.TheVariants as why
 use Rattle.swap_script.specs.declared.ScriptRefused.{ScriptRefused}
 use Rattle.swap_script.specs.Lines.{words_of}
 use Rattle.swap_script.specs.Forms.{Line, line_of}
-use Rattle.swap_script.specs.Reading.{Above, may_run, are_addressed, is_within_reach, has_caller, has_page, has_slab, has_lender, has_pattern, tests, fault_of, fault_or, counted, first_fault, input_of, inputs_of, calls_of, calls_in, Reads, AllRead}
+use Rattle.swap_script.specs.Reading.{Above, are_addressed, is_within_reach, has_caller, has_page, has_slab, has_lender, has_pattern, tests, fault_of, fault_or, counted, first_fault, input_of, inputs_of, calls_of, calls_in, Reads, AllRead}
 
 -- where the first line is an event's and owes nothing
 pub first_fault-on : (g : Grammar) (end : ℕ) (s : Sizes) (lenders : ℕ) (above : Above) (n : ℕ) (text : List ℕ) (rest : List (ℕ × List ℕ)) (line : Line)
@@ -62,15 +62,14 @@ pub owes_nothing : (g : Grammar) (s : Sizes) (lenders : ℕ) (above : Above) (li
     → Reads s lenders (Some line) × (above.events < 4_194_304) × (is_within_reach g line.event ≡ true)
 owes_nothing g s lenders above line e =
     let owed = tests g s lenders above line in
-    let form = passes why.Form (may_run g line.event) (drop 1 owed) e in
-    let addressed = passes why.Lenders (are_addressed g lenders) (drop 2 owed) form.1 in
-    let caller = passes why.Caller (has_caller s line.event) (drop 3 owed) addressed.1 in
-    let page = passes why.Page (has_page s line.event) (drop 4 owed) caller.1 in
-    let slab = passes why.Slab (has_slab s line.event) (drop 5 owed) page.1 in
-    let lender = passes why.Lender (has_lender lenders line.event) (drop 6 owed) slab.1 in
-    let pattern = passes why.Pattern (has_pattern s line) (drop 7 owed) lender.1 in
-    let calls = passes why.Calls (nat_le ((above.calls + calls_in line.event) * s.page_bytes) 1_073_741_824) (drop 8 owed) pattern.1 in
-    let events = passes why.Events (nat_lt above.events 4_194_304) (drop 9 owed) calls.1 in
+    let addressed = passes why.Lenders (are_addressed g lenders) (drop 1 owed) e in
+    let caller = passes why.Caller (has_caller s line.event) (drop 2 owed) addressed.1 in
+    let page = passes why.Page (has_page s line.event) (drop 3 owed) caller.1 in
+    let slab = passes why.Slab (has_slab s line.event) (drop 4 owed) page.1 in
+    let lender = passes why.Lender (has_lender lenders line.event) (drop 5 owed) slab.1 in
+    let pattern = passes why.Pattern (has_pattern s line) (drop 6 owed) lender.1 in
+    let calls = passes why.Calls (nat_le ((above.calls + calls_in line.event) * s.page_bytes) 1_073_741_824) (drop 7 owed) pattern.1 in
+    let events = passes why.Events (nat_lt above.events 4_194_304) (drop 8 owed) calls.1 in
     let near = passes why.Tcp (is_within_reach g line.event) [] events.1 in
     ((in_range s lenders line.event caller.0 page.0 slab.0 lender.0, pattern.0), below above.events 4_194_304 events.0, near.0)
 

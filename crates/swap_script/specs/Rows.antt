@@ -121,7 +121,7 @@ two_specs = one_spec ∷ record { slots = 64; headroom = 0; extra = 64 } ∷ []
 abbrev two_lenders_script : List (List ℕ)
 two_lenders_script =
     G ∷ L ∷ codes "lender 64 0 64" ∷ codes "connect 1" ∷ codes "connect 0" ∷ codes "connect 1"
-    ∷ codes "cut 1 2 4294967295" ∷ codes "crash 0" ∷ codes "connect 0" ∷ []
+    ∷ codes "cut 1 2 4294967295" ∷ codes "crash 0" ∷ codes "round 7" ∷ codes "connect 0" ∷ []
 
 abbrev connects : ℕ → Event
 connects l = event.Connect (record { 0 = l })
@@ -129,7 +129,7 @@ connects l = event.Connect (record { 0 = l })
 abbrev link_events : List Event
 link_events =
     connects 1 ∷ connects 0 ∷ connects 1 ∷ event.Cut (record { 0 = 1 }) 2 4_294_967_295
-    ∷ event.Crash (record { 0 = 0 }) ∷ connects 0 ∷ []
+    ∷ event.Crash (record { 0 = 0 }) ∷ event.Round 7 ∷ connects 0 ∷ []
 
 abbrev pub LinkEventRows : Type 0
 LinkEventRows =
@@ -168,7 +168,7 @@ LenderFaultRows =
     × Refuses (text (G ∷ L ∷ L ∷ codes "cut 1 0 0" ∷ codes "cut 2 0 0" ∷ [])) 5 why.Lender
     × Refuses (text (G ∷ L ∷ codes "crash 1" ∷ [])) 3 why.Lender
     × Refuses (text (G ∷ L ∷ codes "host 1 1 2" ∷ [])) 3 why.Lender
-    × Refuses (text (G ∷ L ∷ codes "round 0" ∷ [])) 3 why.Form
+    × Refuses (text (G ∷ L ∷ codes "round 0" ∷ codes "round 00" ∷ [])) 4 why.Form
 
 -- forms of an operator's events, and those of a number that is too wide
 abbrev IsForm : List ℕ → Event → Type 0

@@ -3,11 +3,10 @@ ghost use Rattle.std.specs.Prelude.{◌≡◌, ℕ, ◌+◌, ◌<◌, ◌≤◌,
 ghost use Rattle.std.specs.List.{list_any};
 ghost use Rattle.swap_base.specs.Sizes.{first_beyond};
 ghost use Rattle.swap_io.specs.Words.{pattern, piece_of, lengths};
-ghost use Rattle.swap_script.specs.Reading.{caller_of, page_of, mapped_slab, lender_of, is_out, is_far, calls_in, may_run, are_addressed, is_within_reach, has_caller, has_page, has_slab, has_lender, tests};
+ghost use Rattle.swap_script.specs.Reading.{caller_of, page_of, mapped_slab, lender_of, is_out, is_far, calls_in, are_addressed, is_within_reach, has_caller, has_page, has_slab, has_lender, tests};
 ghost use Rattle.swap_script.specs.Spelled.{spelled, above_of};
 
 use super::forms::Line;
-use super::today::runs_today;
 use super::{Grammar, Why};
 use swap_base::{Caller, DiskWhich, Geometry, Lender, Page, Slab};
 use swap_wire::Event;
@@ -89,15 +88,6 @@ fn is_far(event: Event) -> bool
         event,
         Event::Cut { .. } | Event::Crash { .. } | Event::Host { .. }
     )
-}
-
-fn may_run(grammar: Grammar, event: Event) -> bool
-    ensures { result ≡ may_run grammar event }
-{
-    match grammar {
-        Grammar::Script => runs_today(event),
-        Grammar::Trace { .. } => true,
-    }
 }
 
 /// Whether so many lenders are as many as the addresses, where there are some.
@@ -198,9 +188,6 @@ pub fn fault_of(
     requires hex { is_out line.event ≡ true → is_some (piece_of line.hex.now) ≡ true }
     ensures { result ≡ first_beyond (tests grammar geometry.now lenders (above_of above) (spelled line.entry)) }
 {
-    if !may_run(grammar, line.event) {
-        return Some(Why::Form);
-    }
     if !are_addressed(grammar, lenders) {
         return Some(Why::Lenders);
     }

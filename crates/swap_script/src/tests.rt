@@ -106,9 +106,9 @@ fn the_first_fault_is_named_with_its_line(rt: HostRuntime) {
             Why::Lender,
         ),
         (
-            "geometry 8 4 2 4 2 4 20\nlender 4 1 1\ntick 5\nhost 0 1 2\nround 1",
-            5,
-            Why::Form,
+            "geometry 8 4 2 4 2 4 20\nlender 4 1 1\ntick 5\nhost 0 1 2\nround 1\nhost 1 1 2",
+            6,
+            Why::Lender,
         ),
         ("geometry 8 4 2 4 2 4 20\nout 2 8 aabbcc", 2, Why::Caller),
         ("geometry 8 4 2 4 2 4 20\nin 0 7\nin 0 8", 3, Why::Page),
