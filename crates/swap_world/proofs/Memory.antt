@@ -1,6 +1,6 @@
 -- Over the disk and the lenders in memory each move asks only what may be asked, and keeps all that a sound world has: so
 -- what each event keeps holds of every list of events.
-use Rattle.std.proofs.Common.{◌≡◌, ℕ, ◌<◌, Bool, true, false, List, [], length, refl, sym, ap, ◌∙◌, subst, Option, None, Some, suc, ◌≤◌, ◌∷◌, map, lit<}
+use Rattle.std.proofs.Common.{◌≡◌, ℕ, ◌<◌, Bool, true, false, List, [], length, refl, sym, ap, ◌∙◌, subst, Option, None, Some, suc, ◌≤◌, ◌∷◌, ◌++◌, map, lit<}
 use Rattle.std.specs.List.{AllByRecursion}
 use Rattle.swap_base.specs.declared.Page.{Page}
 use Rattle.swap_base.specs.declared.Caller.{Caller}
@@ -25,7 +25,13 @@ use Rattle.swap_calls.specs.declared.CallState.TheVariants.{Idle, Room, Reading}
 use Rattle.swap_rings.specs.Rings.{is_up}
 use Rattle.swap_table.specs.Device.{Device, Heard, lost, wrote, took, took_back}
 use Rattle.swap_table.proofs.Lists.{chosen, All-set, All-get_or, All-map, All-replicate}
-use Rattle.swap_world.specs.World.{World, next, IsStep, start, new_harbor, reach, made_by}
+use Rattle.swap_world.specs.World.{World, Next, Planned, alone, next, next_by, next_plan, round_from, IsStep, IsEvent, start, new_harbor, reach, made_by}
+use Rattle.swap_world.specs.Rounds.{Plan, Stop, Make, round_plan, is_part, AlongPlan, StepOf}
+use Rattle.swap_world.proofs.Parts.{bare, AreParts, round_parts, part_says}
+use Rattle.swap_world.proofs.Told.{Gathers, AllTellNothing, part_tells}
+use Rattle.swap_world.proofs.Counted.{SaysLittle}
+use Rattle.swap_table.specs.Comes.{ComesTo}
+use Rattle.swap_slabs.specs.Slabs.{mapped}
 use Rattle.swap_table.specs.Happens.{happens}
 use Rattle.swap_world.specs.Runs.{IsPaged, IsInput}
 use Rattle.swap_table.specs.Goes.{Asked, OfFabric, PortsGo, stay, EachKeeps, by_disk, by_fabric}
@@ -42,7 +48,7 @@ use Rattle.swap_link.specs.HarborLaws.{moves_keep_of}
 use Rattle.swap_disk.specs.declared.port.DiskPort.{Ghosts as DiskMeaning}
 use Rattle.swap_wire.specs.declared.fabric.Fabric.{Ghosts as FabricMeaning}
 use Rattle.swap_table.specs.Promises.{Promises}
-use Rattle.swap_world.proofs.Steps.{Known, EachEventKeeps}
+use Rattle.swap_world.proofs.Steps.{Known, EachEventKeeps, step_comes}
 use Rattle.swap_base.specs.declared.Via.TheVariants as via
 use Rattle.swap_base.specs.declared.DiskWhich.TheVariants as which
 use Rattle.swap_queue.specs.Queue as queue
@@ -325,15 +331,53 @@ module _ (s : Sizes) (n : ℕ) where
   abbrev pub IsSound : World → Type 0
   IsSound w = SoundAt (quiet w.device) w.drive w.harbor
 
-  pub next_sound : (w : World) (i : Input) → IsInput s n i → IsSound w → IsSound (next w i).world
-  next_sound w i input sound =
+  -- an event alone
+  alone_sound : (w : World) (i : Input) → IsInput s n i → IsSound w → IsSound (alone w i.page i.event).world
+  alone_sound w i input sound =
       let r = Leads-runs drive.ask harbor.ask (happens w.device i.page i.event) w.drive w.harbor _ (Goes-leads (Move There) (Does drive.ask harbor.ask) (DoesOf drive.ask harbor.ask) SoundAt sound_kept _ w.drive w.harbor (goes_here w i input) sound) in
-      subst (λ x. SoundAt x (next w i).world.drive (next w i).world.harbor) r.1.0 r.2
+      subst (λ x. SoundAt x (alone w i.page i.event).world.drive (alone w i.page i.event).world.harbor) r.1.0 r.2
+
+  alone_step : (w : World) (i : Input) → IsInput s n i → IsSound w → IsStep drive.Moves harbor.Moves w.device w.drive w.harbor i (alone w i.page i.event).seen (alone w i.page i.event).world.device (alone w i.page i.event).world.drive (alone w i.page i.event).world.harbor
+  alone_step w i input sound =
+      Goes-went (Move There) drive.ask harbor.ask drive.Moves harbor.Moves SoundAt sound_kept moves_told _ w.drive w.harbor (goes_here w i input) sound
+
+  part_input : (e : Event) → is_part e ≡ true → IsInRange s n e → IsInput s n (bare e)
+  part_input (event.Tick word) part range = (range, tt)
+  part_input (event.Give l) part range = (range, tt)
+  part_input (event.Take l) part range = (range, tt)
+  part_input e part range = cc
+
+  -- a plan
+  plan_sound : (plan : Plan) (w : World) → AreParts s n plan → IsSound w → IsSound (next_plan plan w).world
+  plan_sound Stop w parts sound = sound
+  plan_sound (Make e more) w parts sound = plan_sound (more (alone w [] e).seen) (alone w [] e).world (parts.2 (alone w [] e).seen) (alone_sound w (bare e) (part_input e parts.0 parts.1) sound)
+
+  plan_step : (plan : Plan) (w : World) → AreParts s n plan → IsSound w → let p : Planned = next_plan plan w in AlongPlan drive.Moves harbor.Moves plan w.device w.drive w.harbor p.world.device p.world.drive p.world.harbor p.effects
+  plan_step Stop w parts sound = (refl, refl, refl, refl)
+  plan_step (Make e more) w parts sound =
+      let a : Next = alone w [] e in
+      let input = part_input e parts.0 parts.1 in
+      let rest : Planned = next_plan (more a.seen) a.world in
+      (a.seen, a.world.device, a.world.drive, a.world.harbor, rest.effects, alone_step w (bare e) input sound, plan_step (more a.seen) a.world (parts.2 a.seen) (alone_sound w (bare e) input sound), refl)
+
+  these_parts : (w : World) (word : ℕ) → IsSound w → AreParts s n (round_plan w.device.sizes w.device.lenders word)
+  these_parts w word sound = let P : FabricOf → Type 0 = λ x. AreParts x.sizes x.lenders (round_plan w.device.sizes w.device.lenders word) in subst P sound.agrees.is (round_parts w.device.sizes w.device.lenders word)
+
+  -- and an event of every kind
+  pub next_sound : (w : World) (i : Input) → IsInput s n i → IsSound w → IsSound (next w i).world
+  next_sound w i input sound = go i.event input
+    where
+      go : (e : Event) → IsInput s n (record { event = e; page = i.page }) → IsSound (next_by w i.page e).world
+      go (event.Round word) given = plan_sound (round_plan w.device.sizes w.device.lenders word) w (these_parts w word sound) sound
+      go e given = alone_sound w (record { event = e; page = i.page }) given sound
 
   -- the next world is a step from the one before, as the ports tell of their moves
-  pub next_step : (w : World) (i : Input) → IsInput s n i → IsSound w → IsStep drive.Moves harbor.Moves w.device w.drive w.harbor i (next w i).seen (next w i).world.device (next w i).world.drive (next w i).world.harbor
-  next_step w i input sound =
-      Goes-went (Move There) drive.ask harbor.ask drive.Moves harbor.Moves SoundAt sound_kept moves_told _ w.drive w.harbor (goes_here w i input) sound
+  pub next_step : (w : World) (i : Input) → IsInput s n i → IsSound w → IsEvent drive.Moves harbor.Moves w.device w.drive w.harbor i (next w i).seen (next w i).world.device (next w i).world.drive (next w i).world.harbor
+  next_step w i input sound = go i.event input
+    where
+      go : (e : Event) → IsInput s n (record { event = e; page = i.page }) → let x : Next = next_by w i.page e in StepOf drive.Moves harbor.Moves i.page e w.device w.drive w.harbor x.seen x.world.device x.world.drive x.world.harbor
+      go (event.Round word) given = ((round_from w word).effects, plan_step (round_plan w.device.sizes w.device.lenders word) w (these_parts w word sound) sound, refl)
+      go e given = alone_step w (record { event = e; page = i.page }) given sound
 
   -- what device and ports agree on there
   pub sound_fits : (w : World) → IsSound w → Fits true (λ page given. page ≡ given) (harbor.KeepsAt w.harbor) (harbor.OwesAt w.harbor) w.device (port_of w.drive)
@@ -343,12 +387,38 @@ module _ (s : Sizes) (n : ℕ) where
   sound_known w sound = record { agree = (sound_fits w sound, sound.agrees.of_f ∙ sym sound.agrees.is); is = sound.agrees.is }
 
   -- so what each event keeps holds of every list of events
-  module _ (P : List (Input × Seen) → Device → Type 0) (each : EachEventKeeps drive_meaning drives.follows harbor_meaning harbor_promises true OfThese P) where
+  module _ (P : List (Input × Seen) → Device → Type 0) (each : EachEventKeeps drive_meaning drives.follows harbor_meaning harbor_promises true OfThese P) (gathers : Gathers P) where
+    record Kept (made : List (Input × Seen)) (d : Device) : Type 0 where
+      inner : List (Input × Seen)
+      tell : AllTellNothing inner
+      keeps : P (inner ++ made) d
+
+    alone_keeps : (w : World) (i : Input) (made : List (Input × Seen)) → IsInput s n i → IsSound w → P made w.device → P ((i, (alone w i.page i.event).seen) ∷ made) (alone w i.page i.event).world.device
+    alone_keeps w i made input sound h =
+        let a : Next = alone w i.page i.event in
+        each.event made w.device a.world.device w.drive a.world.drive w.harbor a.world.harbor i a.seen (sound_known w sound) input.0 (alone_step w i input sound) h
+
+    plan_keeps : (plan : Plan) (w : World) (made inner : List (Input × Seen)) → AreParts s n plan → IsSound w → AllTellNothing inner → P (inner ++ made) w.device → Kept made (next_plan plan w).world.device
+    plan_keeps Stop w made inner parts sound tell h = record { inner = inner; tell = tell; keeps = h }
+    plan_keeps (Make e more) w made inner parts sound tell h =
+        let a : Next = alone w [] e in
+        let input = part_input e parts.0 parts.1 in
+        let comes : ComesTo w.device [] e a.world.device a.seen = step_comes drive.Moves harbor.Moves w.device a.world.device w.drive a.world.drive w.harbor a.world.harbor (bare e) a.seen (alone_step w (bare e) input sound) in
+        let says : SaysLittle a.seen = part_says (record w.device { rates = comes.0 }) a.world.device [] e a.seen parts.0 comes.2 in
+        plan_keeps (more a.seen) a.world made ((bare e, a.seen) ∷ inner) (parts.2 a.seen) (alone_sound w (bare e) input sound) (part_tells (bare e) a.seen parts.0 says, tell) (alone_keeps w (bare e) (inner ++ made) input sound h)
+
+    next_keeps : (w : World) (i : Input) (made : List (Input × Seen)) → IsInput s n i → IsSound w → P made w.device → P ((i, (next w i).seen) ∷ made) (next w i).world.device
+    next_keeps w i made input sound h = go i.event input
+      where
+        go : (e : Event) → IsInput s n (record { event = e; page = i.page }) → P ((record { event = e; page = i.page }, (next_by w i.page e).seen) ∷ made) (next_by w i.page e).world.device
+        go (event.Round word) given =
+            let kept = plan_keeps (round_plan w.device.sizes w.device.lenders word) w made [] (these_parts w word sound) sound tt h in
+            gathers.round kept.inner made (round_from w word).world.device i.page word (round_from w word).effects (mapped (round_from w word).world.device.remote.slabs) kept.tell kept.keeps
+        go e given = alone_keeps w (record { event = e; page = i.page }) made given sound h
+
     pub reach_keeps : (w : World) (is : List Input) (made : List (Input × Seen)) → AllByRecursion (IsInput s n) is → IsSound w → P made w.device → P (made_by made w is) (reach w is).device
     reach_keeps w [] made inputs sound h = h
-    reach_keeps w (i ∷ is) made inputs sound h =
-        reach_keeps (next w i).world is ((i, (next w i).seen) ∷ made) inputs.1 (next_sound w i inputs.0 sound)
-        (each.event made w.device (next w i).world.device w.drive (next w i).world.drive w.harbor (next w i).world.harbor i (next w i).seen (sound_known w sound) inputs.0.0 (next_step w i inputs.0 sound) h)
+    reach_keeps w (i ∷ is) made inputs sound h = reach_keeps (next w i).world is ((i, (next w i).seen) ∷ made) inputs.1 (next_sound w i inputs.0 sound) (next_keeps w i made inputs.0 sound h)
 
   pub reach_sound : (w : World) (is : List Input) → AllByRecursion (IsInput s n) is → IsSound w → IsSound (reach w is)
   reach_sound w [] inputs sound = sound

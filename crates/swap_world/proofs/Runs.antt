@@ -12,7 +12,10 @@ use Rattle.swap_link.specs.Harbor.{Harbor}
 use Rattle.swap_table.specs.Ports.{Prog, Ret, AskDisk, AskFabric, Along, run}
 use Rattle.swap_table.specs.Device.{Device}
 use Rattle.swap_table.specs.Fits.{MayGive, GivesWhatItMay, IsFaithfulOver}
-use Rattle.swap_world.specs.World.{World, IsStep, next, next_of, start, reach, made_by, history}
+use Rattle.swap_world.specs.World.{World, Next, IsEvent, alone, next, next_by, next_plan, next_round, counted_on, next_of, start, reach, made_by, history}
+use Rattle.swap_world.specs.Rounds.{Plan, Stop, Make, round_plan, AlongPlan, StepOf}
+use Rattle.swap_wire.specs.declared.Event.{Event}
+use Rattle.swap_wire.specs.declared.Event.TheVariants as event
 use Rattle.swap_table.specs.Happens.{happens}
 use Rattle.swap_world.specs.Laws.{AreInputs, HoldsAfterEach, EntriesAreSeen, AgreesAfterEach, AlwaysLegal, AlwaysAgrees, EachCallOnce}
 use Rattle.swap_world.proofs.Once.{answered_once}
@@ -23,7 +26,7 @@ use Rattle.swap_disk.specs.declared.port.DiskPort.{Ghosts as DiskMeaning}
 use Rattle.swap_wire.specs.declared.fabric.Fabric.{Ghosts as FabricMeaning}
 use Rattle.swap_table.specs.Promises.{FollowsItsMoves, Promises}
 use Rattle.swap_world.proofs.Steps.{run_known, run_keeps}
-use Rattle.swap_world.proofs.Told.{IsTold, new_told, each_told}
+use Rattle.swap_world.proofs.Told.{IsTold, new_told, each_told, told_gathers}
 use Rattle.swap_world.proofs.Memory.{drive_meaning, harbor_meaning, harbor_promises, starts_sound, sound_fits, reach_sound, reach_keeps}
 use Rattle.swap_disk.specs.Drive as drive
 use Rattle.swap_disk.specs.Follows as drives
@@ -65,7 +68,7 @@ module _ {D F : Type 0} (disk : DiskMeaning D) (follows : FollowsItsMoves disk) 
 -- over the disk and the lenders in memory
 reach_told : (s : Sizes) (specs : List LenderSpec) (is : List Input) → length specs ≤ MOST_LENDERS → AreInputs s specs is → IsTold s (made_by [] (start s specs) is) (reach (start s specs) is).device
 reach_told s specs is few inputs =
-    reach_keeps s (length specs) (IsTold s) (each_told drive_meaning drives.follows harbor_meaning harbor_promises true (record { sizes = s; lenders = length specs })) (start s specs) is [] inputs (starts_sound s specs few) (new_told s (length specs))
+    reach_keeps s (length specs) (IsTold s) (each_told drive_meaning drives.follows harbor_meaning harbor_promises true (record { sizes = s; lenders = length specs })) (told_gathers s) (start s specs) is [] inputs (starts_sound s specs few) (new_told s (length specs))
 
 pub always_legal : AlwaysLegal
 always_legal s specs is few inputs =
@@ -89,6 +92,23 @@ run_along (Ret b) d e f g a along = rw (along.0, along.1, along.2) refl
 run_along (AskDisk c more) d e f g a along = rw along.2.1 (run_along (more along.0) along.1 e f g a along.3)
 run_along (AskFabric c more) d e f g a along = ap (λ (r : FabricAnswer c × Harbor). run drive.ask harbor.ask (more r.0) d r.1) along.2.1 ∙ run_along (more along.0) d e along.1 g a along.3
 
-pub steps_are_next : (d d' : Device) (k k' : Drive) (h h' : Harbor) (i : Input) (s : Seen) → IsStep drive.Moves harbor.Moves d k h i s d' k' h'
+alone_along : (d d' : Device) (k k' : Drive) (h h' : Harbor) (page : List ℕ) (e : Event) (s : Seen) → Along drive.Moves harbor.Moves (happens d page e) k h k' h' (d', s)
+    → alone (record { device = d; drive = k; harbor = h }) page e ≡ record { world = record { device = d'; drive = k'; harbor = h' }; seen = s }
+alone_along d d' k k' h h' page e s along = ap next_of (run_along (happens d page e) k k' h h' (d', s) along)
+
+plan_along : (plan : Plan) (d d' : Device) (k k' : Drive) (h h' : Harbor) (effects : ℕ) → AlongPlan drive.Moves harbor.Moves plan d k h d' k' h' effects
+    → next_plan plan (record { device = d; drive = k; harbor = h }) ≡ record { world = record { device = d'; drive = k'; harbor = h' }; effects = effects }
+plan_along Stop d d' k k' h h' effects along = rw (along.0, along.1, along.2, along.3) refl
+plan_along (Make e more) d d' k k' h h' effects (seen_, x, kx, hx, left, step, rest, count) =
+    ap (λ (a : Next). counted_on e a.seen (next_plan (more a.seen) a.world)) (alone_along d x k kx h hx [] e seen_ step)
+    ∙ ap (counted_on e seen_) (plan_along (more seen_) x d' kx k' hx h' left rest)
+    ∙ ap (λ m. record { world = record { device = d'; drive = k'; harbor = h' }; effects = m }) (sym count)
+
+pub steps_are_next : (d d' : Device) (k k' : Drive) (h h' : Harbor) (i : Input) (s : Seen) → IsEvent drive.Moves harbor.Moves d k h i s d' k' h'
     → next (record { device = d; drive = k; harbor = h }) i ≡ record { world = record { device = d'; drive = k'; harbor = h' }; seen = s }
-steps_are_next d d' k k' h h' i s step = ap next_of (run_along (happens d i.page i.event) k k' h h' (d', s) step)
+steps_are_next d d' k k' h h' i s step = go i.event s step
+  where
+    go : (e : Event) (s : Seen) → StepOf drive.Moves harbor.Moves i.page e d k h s d' k' h' → next_by (record { device = d; drive = k; harbor = h }) i.page e ≡ record { world = record { device = d'; drive = k'; harbor = h' }; seen = s }
+    go (event.Round word) s step =
+        ap next_round (plan_along (round_plan d.sizes d.lenders word) d d' k k' h h' step.0 step.1) ∙ ap (λ x. record { world = record { device = d'; drive = k'; harbor = h' }; seen = x }) (sym step.2)
+    go e s step = alone_along d d' k k' h h' i.page e s step

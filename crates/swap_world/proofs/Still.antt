@@ -55,7 +55,7 @@ use Rattle.swap_table.specs.Happens.{happens, seen_by, taken_if, see_out, see_in
 use Rattle.swap_table.specs.Fits.{IsExpected, IsCopyOf}
 use Rattle.swap_table.proofs.Agree.{found}
 use Rattle.swap_world.specs.Runs.{has_effect}
-use Rattle.swap_world.specs.World.{World, start, reach}
+use Rattle.swap_world.specs.World.{World, start, reach, next_by}
 use Rattle.swap_world.specs.Laws.{NothingChanges}
 use Rattle.swap_world.proofs.Memory.{starts_sound, reach_sound, sound_fits}
 
@@ -356,5 +356,9 @@ nothing_changes s specs is i few inputs none =
     let w : World = reach (start s specs) is in
     let sound = reach_sound s (length specs) (start s specs) is inputs (starts_sound s specs few) in
     let expected = (sound_fits s (length specs) w sound).disk.agrees.expected in
-    let same = still w.device w.drive w.harbor i.page i.event (λ which_ f is. found (IsExpected true (pages_of w.device.sizes) w.device.sizes.callers w.device.queue w.device.calls) which_ w.drive.disk.flights f is expected) none in
-    rw (same.0, same.1, same.2) refl
+    unmoved w i.page i.event (λ which_ f is. found (IsExpected true (pages_of w.device.sizes) w.device.sizes.callers w.device.queue w.device.calls) which_ w.drive.disk.flights f is expected) none
+  where
+    unmoved : (w : World) (page : List ℕ) (e : Event) → ((which_ : DiskWhich) (f : Flight) → in_flight w.drive.disk which_ ≡ Some f → IsExpected true (pages_of w.device.sizes) w.device.sizes.callers w.device.queue w.device.calls f)
+        → has_effect e (next_by w page e).seen ≡ false → (next_by w page e).world ≡ w
+    unmoved w page (event.Round word) expected none = absurd (let no : true ≡ false = none in cc)
+    unmoved w page e expected none = let same = still w.device w.drive w.harbor page e expected none in rw (same.0, same.1, same.2) refl

@@ -1,6 +1,6 @@
 -- The history holds exactly the entries that were seen, and each failure has its cause; each caller's calls are answered
 -- once. It holds of all that was made, event after event.
-use Rattle.std.proofs.Common.{◌≡◌, ℕ, ◌+◌, Bool, true, false, cond, List, ◌∷◌, refl, subst, drop, inl, inr, is_none, Option, None, Some, ◌<◌, [], length, sym, ◌⊎◌}
+use Rattle.std.proofs.Common.{◌≡◌, ℕ, ◌+◌, ◌++◌, ◌&&◌, if◌then◌else◌, ◌∙◌, ap, arith, count_by, not, is_some, Bool, true, false, cond, List, ◌∷◌, refl, subst, drop, inl, inr, is_none, Option, None, Some, ◌<◌, [], length, sym, ◌⊎◌}
 use Rattle.std.proofs.lemmas.Bool.{ltb-true}
 use Rattle.swap_base.specs.declared.Page.{Page}
 use Rattle.swap_base.specs.declared.EntryNo.{EntryNo}
@@ -19,20 +19,25 @@ use Rattle.swap_table.specs.declared.DiskStep.{DiskStep}
 use Rattle.swap_table.specs.Device.{Device, wrote, took, took_back, new}
 use Rattle.swap_table.specs.Fits.{KeepsNewest}
 use Rattle.swap_table.specs.Happens.{see_disk}
-use Rattle.swap_world.specs.Failures.{before_start, since_start, read_ends, entries_in, HasItsCause, HoldsEntry, HoldsEntriesSeen}
+use Rattle.swap_world.specs.Failures.{is_write_failed, is_read_failed, is_of, is_start, is_start_of, is_read_end, before_start, since_start, read_ends, entries_in, HasItsCause, HoldsEntry, HoldsEntriesSeen}
 use Rattle.swap_world.specs.Runs.{entry_seen, with_polled}
 use Rattle.swap_world.proofs.ReadEnds.{Reads, none_since, ReadsIn, AddsOne, reads_next, polled_reads, reads_new, step_reads}
 use Rattle.swap_table.specs.Moves.{full, unread}
 use Rattle.swap_activity.specs.Rates.{Activity}
 use Rattle.swap_table.specs.Comes.{Comes, ComesTo, refuses, rests, accepts, gives_page, fails, keeps_page, reads, starts_write, takes_back, links, brings}
-use Rattle.swap_world.proofs.Counted.{linked_same, rest_says, link_says, wait_says, AreCounted, counted_after, polled_counts, comes_to_counts, took_counts}
+use Rattle.swap_world.proofs.Counted.{SaysLittle, linked_same, rest_says, link_says, wait_says, AreCounted, counted_after, polled_counts, comes_to_counts, took_counts}
 use Rattle.swap_base.specs.declared.Caller.{Caller}
 use Rattle.swap_base.specs.Sizes.{Sizes}
 use Rattle.swap_calls.specs.Calls.{Call, state_of, idle}
 use Rattle.swap_table.proofs.Lists.{All-get_or}
 use Rattle.swap_world.specs.World.{IsStep}
 use Rattle.swap_world.proofs.Once.{OpenAt, starts_once, comes_once, took_back_open}
-use Rattle.swap_world.specs.Answered.{calls_of}
+use Rattle.swap_world.specs.Answered.{calls_of, is_call_of, is_busy}
+use Rattle.swap_world.specs.Rounds.{is_part}
+use Rattle.swap_world.proofs.Parts.{part_no_call}
+use Rattle.std.specs.List.{AllByRecursion}
+use Rattle.swap_table.proofs.Lists.{one_if, count_by-cons}
+use Rattle.swap_wire.specs.declared.Event.TheVariants as event
 use Rattle.swap_disk.specs.declared.port.DiskPort.{Ghosts as DiskMeaning}
 use Rattle.swap_wire.specs.declared.fabric.Fabric.{Ghosts as FabricMeaning}
 use Rattle.swap_table.specs.Promises.{FollowsItsMoves, Promises}
@@ -202,3 +207,96 @@ module _ {D F : Type 0} (disk : DiskMeaning D) (follows : FollowsItsMoves disk) 
 
   pub each_told : EachEventKeeps disk follows fabric laws T o (IsTold o.sizes)
   each_told = record { event = event_told; poll = poll_told }
+
+-- What is made of no call, start or end of a read, and tells no failure and no entry, tells nothing.
+pub record TellsNothing (m : Input × Seen) : Type 0 where
+  pub says : SaysLittle m.1
+  pub call : (c : Caller) → is_call_of c m.0.event ≡ false
+  pub of : (c : Caller) → is_of c m.0.event ≡ false
+  pub ends : (c : Caller) → is_read_end c m.0.event m.1 ≡ false
+
+none_counted : {X : Type 0} (p : X → Bool) (x : X) (xs : List X) → p x ≡ false → count_by p (x ∷ xs) ≡ count_by p xs
+none_counted p x xs none = let a = count_by-cons p x xs in let b : one_if (p x) ≡ 0 = ap one_if none in omega (arith, a, b)
+
+module _ (i : Input) (s : Seen) (made : List (Input × Seen)) (h : TellsNothing (i, s)) where
+  same_calls : (c : Caller) → calls_of c ((i, s) ∷ made) ≡ calls_of c made
+  same_calls c = ap (λ b. if b && not (is_busy s) then i ∷ calls_of c made else calls_of c made) (h.call c)
+
+  not_start : (c : Caller) → is_start_of c i.event s ≡ false
+  not_start c = ap (λ b. b && is_start i.event s) (h.of c)
+
+  same_before : (c : Caller) → before_start c ((i, s) ∷ made) ≡ before_start c made
+  same_before c = ap (λ b. if b then made else before_start c made) (not_start c)
+
+  same_since : (c : Caller) → since_start c ((i, s) ∷ made) ≡ (i, s) ∷ since_start c made
+  same_since c = ap (λ b. if b then [] else (i, s) ∷ since_start c made) (not_start c)
+
+  same_ends : (c : Caller) → read_ends c (since_start c ((i, s) ∷ made)) ≡ read_ends c (since_start c made)
+  same_ends c = ap (λ ms. read_ends c ms) (same_since c) ∙ ap (λ b. if b then (i.event, s) ∷ read_ends c (since_start c made) else read_ends c (since_start c made)) (h.ends c)
+
+  same_entries : (c : Caller) → entries_in (since_start c ((i, s) ∷ made)) ≡ entries_in (since_start c made)
+  same_entries c = ap (λ ms. entries_in ms) (same_since c) ∙ none_counted (λ (m : Input × Seen). is_some (entry_seen m.1)) (i, s) (since_start c made) (ap is_some h.says.entry)
+
+  holds_less : (H : List Row) → HoldsEntriesSeen ((i, s) ∷ made) H → HoldsEntriesSeen made H
+  holds_less H k = let P : Option EntryNo → Type 0 = λ o. HoldsEntry (HoldsEntriesSeen made) made H o in subst P h.says.entry k
+
+  holds_more : (H : List Row) → HoldsEntriesSeen made H → HoldsEntriesSeen ((i, s) ∷ made) H
+  holds_more H k = let P : Option EntryNo → Type 0 = λ o. HoldsEntry (HoldsEntriesSeen made) made H o in subst P (sym h.says.entry) k
+
+  -- so it may be left out, and put in
+  pub told_less : (z : Sizes) (d : Device) → IsTold z ((i, s) ∷ made) d → IsTold z made d
+  told_less z d told = record {
+    counted = record {
+      writes = told.counted.writes ∙ none_counted (λ (m : Input × Seen). is_write_failed m.1) (i, s) made h.says.write;
+      reads = told.counted.reads ∙ none_counted (λ (m : Input × Seen). is_read_failed m.1) (i, s) made h.says.read;
+    };
+    once = λ c within. subst (λ is. OpenAt c d is) (same_calls c) (told.once c within);
+    since = λ c within. subst (λ b. SinceIn c b d.calls) (same_before c) (told.since c within);
+    reads = λ c within. let P : List (Event × Seen) → ℕ → Type 0 = λ ends n. Reads c ends (drop n d.history) (state_of d.calls c) in subst (λ n. P (read_ends c (since_start c made)) n) (same_entries c) (subst (λ ends. P ends (entries_in (since_start c ((i, s) ∷ made)))) (same_ends c) (told.reads c within));
+    entries = holds_less d.history told.entries;
+  }
+
+  pub told_more : (z : Sizes) (d : Device) → IsTold z made d → IsTold z ((i, s) ∷ made) d
+  told_more z d told = record {
+    counted = record {
+      writes = told.counted.writes ∙ sym (none_counted (λ (m : Input × Seen). is_write_failed m.1) (i, s) made h.says.write);
+      reads = told.counted.reads ∙ sym (none_counted (λ (m : Input × Seen). is_read_failed m.1) (i, s) made h.says.read);
+    };
+    once = λ c within. subst (λ is. OpenAt c d is) (sym (same_calls c)) (told.once c within);
+    since = λ c within. subst (λ b. SinceIn c b d.calls) (sym (same_before c)) (told.since c within);
+    reads = λ c within. let P : List (Event × Seen) → ℕ → Type 0 = λ ends n. Reads c ends (drop n d.history) (state_of d.calls c) in subst (λ n. P (read_ends c (since_start c ((i, s) ∷ made))) n) (sym (same_entries c)) (subst (λ ends. P ends (entries_in (since_start c made))) (sym (same_ends c)) (told.reads c within));
+    entries = holds_more d.history told.entries;
+  }
+
+-- a part tells nothing, and neither does a Round
+part_not_of : (c : Caller) (e : Event) → is_part e ≡ true → is_of c e ≡ false
+part_not_of c (event.Tick word) part = refl
+part_not_of c (event.Give l) part = refl
+part_not_of c (event.Take l) part = refl
+part_not_of c e part = cc
+
+part_ends_none : (c : Caller) (e : Event) (s : Seen) → is_part e ≡ true → is_read_end c e s ≡ false
+part_ends_none c (event.Tick word) s part = refl
+part_ends_none c (event.Give l) s part = refl
+part_ends_none c (event.Take l) s part = refl
+part_ends_none c e s part = cc
+
+pub part_tells : (i : Input) (s : Seen) → is_part i.event ≡ true → SaysLittle s → TellsNothing (i, s)
+part_tells i s part says = record { says = says; call = λ c. part_no_call c i.event part; of = λ c. part_not_of c i.event part; ends = λ c. part_ends_none c i.event s part }
+
+round_tells : (page : List ℕ) (word effects mapped : ℕ) → TellsNothing (record { event = event.Round word; page = page }, seen.Rounded effects mapped)
+round_tells page word effects mapped = record { says = record { write = refl; read = refl; entry = refl }; call = λ c. refl; of = λ c. refl; ends = λ c. refl }
+
+abbrev pub AllTellNothing : List (Input × Seen) → Type 0
+AllTellNothing ms = AllByRecursion TellsNothing ms
+
+-- a Round stands in the place of its parts
+pub record Gathers (P : List (Input × Seen) → Device → Type 0) : Type 0 where
+  pub round : (inner made : List (Input × Seen)) (d : Device) (page : List ℕ) (word effects mapped : ℕ) → AllTellNothing inner → P (inner ++ made) d → P ((record { event = event.Round word; page = page }, seen.Rounded effects mapped) ∷ made) d
+
+told_without : (z : Sizes) (inner made : List (Input × Seen)) (d : Device) → AllTellNothing inner → IsTold z (inner ++ made) d → IsTold z made d
+told_without z [] made d all told = told
+told_without z (m ∷ inner) made d all told = told_without z inner made d all.1 (told_less m.0 m.1 (inner ++ made) all.0 z d told)
+
+pub told_gathers : (z : Sizes) → Gathers (IsTold z)
+told_gathers z = record { round = λ inner made d page word effects mapped all told. told_more (record { event = event.Round word; page = page }) (seen.Rounded effects mapped) made (round_tells page word effects mapped) z d (told_without z inner made d all told) }

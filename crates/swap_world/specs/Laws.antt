@@ -20,7 +20,7 @@ use Rattle.swap_table.specs.Laws.{AgreeWith}
 use Rattle.swap_world.specs.Answered.{AreAnsweredOnce}
 use Rattle.swap_world.specs.Failures.{HoldsEntriesSeen}
 use Rattle.swap_world.specs.Runs.{IsRun, IsInput, GoesOn, has_effect}
-use Rattle.swap_world.specs.World.{World, IsStep, start, next, reach, history, made_by}
+use Rattle.swap_world.specs.World.{World, IsEvent, start, next, reach, history, made_by}
 
 -- every event names what there is, and every page-out hands in a page
 abbrev pub AreInputs : Sizes → List LenderSpec → List Input → Type 0
@@ -69,7 +69,7 @@ AlwaysAgrees = (s : Sizes) (specs : List LenderSpec) (is : List Input) → lengt
 -- one event over the disk and the lenders in memory leads to the next world
 abbrev pub StepsAreNext : Type 0
 StepsAreNext =
-    (d d' : Device) (k k' : Drive) (h h' : Harbor) (i : Input) (s : Seen) → IsStep drive.Moves harbor.Moves d k h i s d' k' h'
+    (d d' : Device) (k k' : Drive) (h h' : Harbor) (i : Input) (s : Seen) → IsEvent drive.Moves harbor.Moves d k h i s d' k' h'
     → next (record { device = d; drive = k; harbor = h }) i ≡ record { world = record { device = d'; drive = k'; harbor = h' }; seen = s }
 
 -- over the disk and the lenders in memory an event without an effect leaves the whole world as it was, ports too

@@ -1,3 +1,4 @@
+pub mod Rounds
 pub mod World
 pub mod Laws
 pub mod Since

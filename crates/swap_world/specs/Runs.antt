@@ -1,5 +1,6 @@
 -- Runs of events over any disk.
 use Rattle.std.specs.Prelude.{◌≡◌, ◌+◌, ◌-◌, ◌<◌, ◌≤◌, ◌↔◌, Bool, true, false, not, ℕ, List, [], ◌∷◌, ◌++◌, length, count_by, MatchOption, Option, None, Some}
+use Rattle.std.specs.List.{AllByRecursion}
 use Rattle.swap_base.specs.declared.EntryNo.{EntryNo}
 use Rattle.swap_base.specs.Sizes.{Sizes}
 use Rattle.swap_wire.specs.Input.{Input, IsInRange}
@@ -27,16 +28,9 @@ use Rattle.swap_table.specs.Fits.{IsBlank}
 use Rattle.swap_device.specs.State.{GivesLast}
 use Rattle.swap_table.specs.Happens.{see_disk}
 use Rattle.swap_world.specs.Answered.{Answers, IsOutOrFault, IsInOrFault, is_call_of}
-use Rattle.swap_world.specs.World.{IsStep}
-
--- an event has an effect unless nothing is seen of it, or a caller is told to wait on
-abbrev pub has_effect : Event → Seen → Bool
-has_effect e seen.Nothing = false
-has_effect e seen.Busy = false
-has_effect e seen.Idle = false
-has_effect (event.Finish c) (seen.Wait via) = false
-has_effect (event.Finish c) seen.Room = false
-has_effect e s = true
+pub use Rattle.swap_world.specs.Rounds.{has_effect}
+use Rattle.swap_world.specs.Rounds.{is_part}
+use Rattle.swap_world.specs.World.{IsStep, IsEvent}
 
 -- the event of an operation that the disk ended by itself, by what became of it
 abbrev pub event_of : DiskStep → Option Event
@@ -65,7 +59,7 @@ abbrev pub IsInput : Sizes → ℕ → Input → Type 0
 IsInput s lenders i = IsInRange s lenders i.event × IsPaged s i.event i.page
 
 -- A run from a device, its disk and its fabric, with the events that had an effect and what was seen
--- of each, the newest first. Events without an effect leave the device as it was, and disk and fabric where they are in
+-- of each, the newest first; a Round stands in it by its parts. Events without an effect leave the device as it was, and disk and fabric where they are in
 -- memory. A disk that ends its operations by itself is polled; what it ended counts as an event.
 pub data IsRun {D F : Type 0} (disk_moves : D → (c : DiskCall) → DiskAnswer c → D → Type 0) (moves : F → (c : FabricCall) → FabricAnswer c → F → Type 0) (first : Device) (disk : D) (fabric : F) : List (Input × Seen) → Device → D → F → Type 0 where
   begin : IsRun disk_moves moves first disk fabric [] first disk fabric
@@ -83,23 +77,53 @@ pub record WorldOf (D F : Type 0) : Type 0 where
   pub log : List (Event × Seen)
   pub log_spare : ℕ
 
-abbrev pub logged_of : List (Input × Seen) → List (Event × Seen)
-logged_of [] = []
-logged_of ((i, s) ∷ made) = logged_of made ++ (i.event, s) ∷ []
+-- What stands in a log: an event with what was seen of it, or a Round with those of its parts that had an effect, the
+-- newest first, and the slabs that were mapped after it.
+pub data Written : Type 0 where
+  Alone : Input → Seen → Written
+  Together : (word mapped : ℕ) → List (Input × Seen) → Written
 
--- A world's device, disk and fabric were reached by the events of its log, from a device that nothing had happened to,
--- over a disk that was blank and a fabric as it is made.
+abbrev pub written_line : Written → Event × Seen
+written_line (Alone i s) = (i.event, s)
+written_line (Together word mapped parts) = (event.Round word, seen.Rounded (length parts) mapped)
+
+abbrev pub logged_of : List Written → List (Event × Seen)
+logged_of [] = []
+logged_of (w ∷ written) = logged_of written ++ written_line w ∷ []
+
+-- all that was made, each Round's parts in its place
+abbrev pub made_in : Written → List (Input × Seen)
+made_in (Alone i s) = (i, s) ∷ []
+made_in (Together word mapped parts) = parts
+
+abbrev pub made_of : List Written → List (Input × Seen)
+made_of [] = []
+made_of (w ∷ written) = made_in w ++ made_of written
+
+abbrev pub HasParts : Written → Type 0
+HasParts (Alone i s) = Unit {0}
+HasParts (Together word mapped parts) = AllByRecursion (λ (m : Input × Seen). is_part m.0.event ≡ true) parts
+
+-- A world's device, disk and fabric were reached by the events of its log, a Round by its parts, from a device that
+-- nothing had happened to, over a disk that was blank and a fabric as it is made.
 pub record IsReached {D F : Type 0} (disk : DiskMeaning D) (fabric : FabricMeaning F) (core : Core D F) (log : List (Event × Seen)) : Type 0 where
   pub sizes : Sizes
   pub lenders : ℕ
   pub few : lenders ≤ MOST_LENDERS
   pub first : D
   pub first_fabric : F
-  pub made : List (Input × Seen)
+  pub written : List Written
+  pub parts : AllByRecursion HasParts written
   pub blank : IsBlank sizes (disk.means first)
   pub fresh : fabric.fresh first_fabric (record { sizes = sizes; lenders = lenders })
-  pub run : IsRun disk.moves fabric.moves (new sizes lenders) first first_fabric made core.device core.disk core.fabric
-  pub logged : log ≡ logged_of made
+  pub run : IsRun disk.moves fabric.moves (new sizes lenders) first first_fabric (made_of written) core.device core.disk core.fabric
+  pub logged : log ≡ logged_of written
+
+-- so of a world, which keeps the number of its lenders
+pub record IsMachine {D F : Type 0} (disk : DiskMeaning D) (fabric : FabricMeaning F) (core : Core D F) (lenders : ℕ) (log : List (Event × Seen)) : Type 0 where
+  pub reached : IsReached disk fabric core log
+  pub has : lenders ≡ core.device.lenders
+  pub most : lenders ≤ MOST_LENDERS
 
 -- the log after a poll
 abbrev pub logged_with : Option Event → Seen → List (Event × Seen) → List (Event × Seen)
@@ -203,6 +227,11 @@ pub record IsLogged {D F : Type 0} (e : Event) (s : Seen) (before now : WorldOf 
   pub log : now.log ≡ logged_if (has_effect e s) before.log e s
   pub room : now.log_spare ≡ one_less_if (has_effect e s) before.log_spare
 
+-- what an event that the disk ended by itself is written as
+abbrev pub written_with : Option Event → Seen → List Written → List Written
+written_with None s written = written
+written_with (Some e) s written = Alone (record { event = e; page = [] }) s ∷ written
+
 -- one event of a world: its device, disk and fabric went from one to the other
 abbrev pub Steps : {D F : Type 0} → (D → (c : DiskCall) → DiskAnswer c → D → Type 0) → (F → (c : FabricCall) → FabricAnswer c → F → Type 0) → Input → Core D F → Core D F → Seen → Type 0
-Steps disk_moves moves i before now s = IsStep disk_moves moves before.device before.disk before.fabric i s now.device now.disk now.fabric
+Steps disk_moves moves i before now s = IsEvent disk_moves moves before.device before.disk before.fabric i s now.device now.disk now.fabric

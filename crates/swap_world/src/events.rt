@@ -1,11 +1,13 @@
-ghost use Rattle.std.specs.Prelude.{◌≡◌, ◌+◌, ◌<◌, ◌^◌, length, true, false, []};
+ghost use Rattle.std.specs.Prelude.{◌≡◌, ◌+◌, ◌<◌, ◌≤◌, ◌^◌, length, true, false, []};
 ghost use Rattle.swap_base.specs.Sizes.{pages_of};
 ghost use Rattle.swap_calls.specs.Calls.{is_idle, state_of};
 ghost use Rattle.swap_table.specs.Happens.{happens};
 ghost use Rattle.swap_device.specs.State.{KeepsRoom, Went};
 ghost use Rattle.swap_wire.specs.Input.{IsInRange};
-ghost use Rattle.swap_world.specs.Runs.{HasSpare, GivesPage, Steps};
+ghost use Rattle.swap_slabs.specs.declared.TheConstants.{MOST_LENDERS};
+ghost use Rattle.swap_world.specs.Runs.{has_effect, HasSpare, GivesPage, Steps};
 
+use crate::rounds::round;
 use crate::world::{
     see_crash, see_cut, see_disk, see_gave, see_host, see_in, see_link, see_map, see_out,
     see_start, see_step, see_take, see_tick,
@@ -99,12 +101,34 @@ fn disk_event<D: DiskPort, F: Fabric>(
     see_disk(device.disk_take())
 }
 
-fn give_event<D: DiskPort, F: Fabric>(device: &mut DeviceCore<D, F>, lender: Lender) -> Seen
+pub(crate) fn give_event<D: DiskPort, F: Fabric>(
+    device: &mut DeviceCore<D, F>,
+    lender: Lender,
+) -> Seen
     requires { lender.0 < device.old.device.lenders }
     ensures step { Went D.moves F.moves (λ d. happens d [] (Event.Give lender)) device.old device.new result }
     ensures room { KeepsRoom device.old device.new }
 {
     see_gave(device.give(lender))
+}
+
+pub(crate) fn take_event<D: DiskPort, F: Fabric>(
+    device: &mut DeviceCore<D, F>,
+    lender: Lender,
+) -> Seen
+    requires { lender.0 < device.old.device.lenders }
+    ensures step { Went D.moves F.moves (λ d. happens d [] (Event.Take lender)) device.old device.new result }
+    ensures room { KeepsRoom device.old device.new }
+{
+    see_take(device.link_take(lender))
+}
+
+pub(crate) fn tick_event<D: DiskPort, F: Fabric>(device: &mut DeviceCore<D, F>, word: u64) -> Seen
+    ensures step { Went D.moves F.moves (λ d. happens d [] (Event.Tick word)) device.old device.new result }
+    ensures room { KeepsRoom device.old device.new }
+    ensures acts { has_effect (Event.Tick word) result ≡ true }
+{
+    see_tick(device.tick(word))
 }
 
 fn cut_event<D: DiskPort, F: Fabric>(
@@ -144,9 +168,12 @@ fn host_event<D: DiskPort, F: Fabric>(
 /// What an event does to a device over its ports.
 pub fn happen<D: DiskPort, F: Fabric>(
     device: &mut DeviceCore<D, F>,
+    lenders: u32,
     event: &Event,
     page: &mut [u8],
 ) -> Seen
+    requires lenders { lenders ≡ device.old.device.lenders }
+    requires few { lenders ≤ MOST_LENDERS }
     requires range { IsInRange device.old.device.sizes device.old.device.lenders event.now }
     requires page { length page.old ≡ device.old.device.sizes.page_bytes }
     requires spare { HasSpare device.old.device event.now device.old.spare }
@@ -165,7 +192,7 @@ pub fn happen<D: DiskPort, F: Fabric>(
         Event::Map { slab, lender } => see_map(device.map(slab, lender)),
         Event::Connect { lender } => see_link(device.connect(lender)),
         Event::Give { lender } => give_event(device, lender),
-        Event::Take { lender } => see_take(device.link_take(lender)),
+        Event::Take { lender } => take_event(device, lender),
         Event::Cut {
             lender,
             to_lender,
@@ -173,7 +200,7 @@ pub fn happen<D: DiskPort, F: Fabric>(
         } => cut_event(device, lender, to_lender, to_device),
         Event::Crash { lender } => crash_event(device, lender),
         Event::Host { lender, used, word } => host_event(device, lender, used, word),
-        Event::Tick { word } => see_tick(device.tick(word)),
-        Event::Round { .. } => Seen::Nothing,
+        Event::Tick { word } => tick_event(device, word),
+        Event::Round { word } => round(device, lenders, word),
     }
 }

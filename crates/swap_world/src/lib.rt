@@ -6,6 +6,7 @@ ghost use Rattle.swap_world.specs.Since.{AgainHasCause, GivesWhatWasHanded};
 ghost use Rattle.swap_world.specs.Rows.{PageOutWithoutRoomFailsWhereAWriteFailed, ReadOvertakenByAPageOutAlreadyOnTheDisk, FailedDiskReadFailsThePageIn, FailedDiskReadWithANewerPageOut, AnotherCallersReadFails, PageInFromALender, LinksAreCutAndMadeAnew, LossOfTheReplySendsTheReadToTheDisk, TwoLendersAreAsked, TwoLendersAreAskedAndTheFreerLends, RevocationWithReadAndWriteInFlight};
 
 mod events;
+mod rounds;
 mod world;
 
 use swap_disk::DiskPort;

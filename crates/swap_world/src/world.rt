@@ -24,18 +24,19 @@ use swap_wire::{Event, Fabric, Gave, Hosted, Seen};
 #[derive(Drop)]
 pub struct World<D: DiskPort, F: Fabric> {
     device: DeviceCore<D, F>,
+    lenders: u32,
     log: Vec<(Event, Seen)>,
 }
 
 impl<D: DiskPort, F: Fabric> Model for World<D, F> {
     ghost use Rattle.std.specs.Prelude.{◌-◌, length, vec_capacity};
-    ghost use Rattle.swap_world.specs.Runs.{WorldOf, IsReached};
+    ghost use Rattle.swap_world.specs.Runs.{WorldOf, IsMachine};
 
     ghost Value = { WorldOf D F };
 
     ghost view = { λ w. record { core = w.device; log = w.log.items; log_spare = vec_capacity w.log - length w.log.items } };
 
-    ghost invariant = { λ w. IsReached D.DiskPort F.Fabric w.device w.log.items };
+    ghost invariant = { λ w. IsMachine D.DiskPort F.Fabric w.device w.lenders w.log.items };
 }
 
 impl<D: DiskPort, F: Fabric> World<D, F> {
@@ -79,7 +80,7 @@ impl<D: DiskPort, F: Fabric> World<D, F> {
         ports_promise::<D, F>();
         let _len = self.log.len();
         let _capacity = self.log.capacity();
-        let seen = happen(&mut self.device, event, page);
+        let seen = happen(&mut self.device, self.lenders, event, page);
         note(&mut self.log, event, seen);
         seen
     }
@@ -167,6 +168,7 @@ impl<D: DiskPort + Drop, F: Fabric + Drop> World<D, F> {
     {
         Ok(World {
             device: DeviceCore::make(alloc, geometry, lenders, disk, fabric)?,
+            lenders,
             log: Vec::new(alloc),
         })
     }
@@ -376,7 +378,7 @@ pub(crate) fn see_take(step: LinkStep) -> Seen
 }
 
 // Whether an event had an effect, by what was seen of it.
-fn has_effect(event: &Event, seen: &Seen) -> bool
+pub(crate) fn has_effect(event: &Event, seen: &Seen) -> bool
     ensures { result ≡ has_effect event.now seen.now }
 {
     match seen {

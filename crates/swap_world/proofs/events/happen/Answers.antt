@@ -1,5 +1,5 @@
 use Rattle.swap_table.specs.Device as device
-use Rattle.swap_table.specs.Happens.{see_take, see_map, see_link, see_tick}
+use Rattle.swap_table.specs.Happens.{see_map, see_link}
 use Rattle.swap_table.proofs.Programs.{Along-answering}
 use Rattle.swap_world.proofs.events.happen.Goals as goal
 
@@ -8,13 +8,6 @@ returns-in-PageOut-clause-step g c = rw c.in-PageOut.is c.page_out.ensures.step
 
 pub returns-in-Finish-clause-step : goal.returns-in-Finish-clause-step
 returns-in-Finish-clause-step g c = rw c.in-Finish.is c.finish.ensures.step
-
-pub returns-in-Take-clause-step : goal.returns-in-Take-clause-step
-returns-in-Take-clause-step g c =
-    let before = c.args.device.now in
-    let after = c.link_take.new.self in
-    rw (c.in-Take.is, c.see_take.ensures)
-    (Along-answering g.D.DiskPort.moves g.F.Fabric.moves (λ r. (r.0, see_take r.1)) (device.link_take before.device c.in-Take.lender) before.disk before.fabric after.disk after.fabric (after.device, c.link_take.result) c.link_take.ensures.moved)
 
 pub returns-in-Map-clause-step : goal.returns-in-Map-clause-step
 returns-in-Map-clause-step g c =
@@ -30,9 +23,5 @@ returns-in-Connect-clause-step g c =
     rw (c.in-Connect.is, c.see_link.ensures)
     (Along-answering g.D.DiskPort.moves g.F.Fabric.moves (λ r. (r.0, see_link r.1)) (device.connect before.device c.in-Connect.lender) before.disk before.fabric after.disk after.fabric (after.device, c.connect.result) c.connect.ensures.moved)
 
-pub returns-in-Tick-clause-step : goal.returns-in-Tick-clause-step
-returns-in-Tick-clause-step g c =
-    let before = c.args.device.now in
-    let after = c.tick.new.self in
-    rw (c.in-Tick.is, c.see_tick.ensures)
-    (Along-answering g.D.DiskPort.moves g.F.Fabric.moves (λ r. (r.0, see_tick r.1)) (device.tick before.device c.in-Tick.word) before.disk before.fabric after.disk after.fabric (after.device, c.tick.result) c.tick.ensures.moved)
+pub returns-in-Round-clause-step : goal.returns-in-Round-clause-step
+returns-in-Round-clause-step g c = rw c.in-Round.is c.round.ensures.step
