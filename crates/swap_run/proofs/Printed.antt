@@ -25,7 +25,7 @@ use Rattle.swap_table.specs.Device.{Device, of_device}
 use Rattle.swap_device.specs.State.{KeepsRoom}
 use Rattle.swap_world.specs.Laws.{StepsAreNext, HistoriesGoOn}
 use Rattle.swap_table.specs.Happens.{happens}
-use Rattle.swap_world.specs.World.{World, Next, IsStep, next, next_of, reach, seens, history}
+use Rattle.swap_world.specs.World.{World, Next, IsEvent, next, next_by, next_of, reach, seens, history}
 use Rattle.swap_world.specs.Runs.{WorldOf, IsLogged, Adds, nothing, one, GoesOn, StandsIn, GrowsByCalls, is_new_call, has_effect, one_less_if}
 use Rattle.swap_script.specs.Reading.{Script, calls_of, calls_in, page_after, first_event, later, is_out}
 use Rattle.swap_script.specs.Laws.{LinesStay}
@@ -70,12 +70,19 @@ happens-page d i is buf = go i.event refl
     go (event.Host l u w) e = refl
     go (event.Round w) e = refl
 
--- an event as the function makes it
+-- an event as the function makes it; only a page-out's page counts
+next-page : (w : World) (i : Input) (is : List Input) (buf : List ℕ) → next_by w (page_after (i ∷ is) buf) i.event ≡ next_by w i.page i.event
+next-page w i is buf = go i.event (happens-page w.device i is buf)
+  where
+    go : (e : Event) → happens w.device (page_after (i ∷ is) buf) e ≡ happens w.device i.page e → next_by w (page_after (i ∷ is) buf) e ≡ next_by w i.page e
+    go (event.Round word) same = refl
+    go e same = ap (λ p. next_of (run drive.ask harbor.ask p w.drive w.harbor)) same
+
 steps_to : StepsAreNext → (now after : WorldOf Drive Harbor) (i : Input) (is : List Input) (buf : List ℕ) (s : Seen)
-    → IsStep drive.Moves harbor.Moves now.core.device now.core.disk now.core.fabric (record { event = i.event; page = page_after (i ∷ is) buf }) s after.core.device after.core.disk after.core.fabric
+    → IsEvent drive.Moves harbor.Moves now.core.device now.core.disk now.core.fabric (record { event = i.event; page = page_after (i ∷ is) buf }) s after.core.device after.core.disk after.core.fabric
     → next (world_in now) i ≡ record { world = world_in after; seen = s }
 steps_to steps now after i is buf s step =
-    ap (λ p. next_of (run drive.ask harbor.ask p now.core.disk now.core.fabric)) (sym (happens-page now.core.device i is buf))
+    sym (next-page (world_in now) i is buf)
     ∙ steps now.core.device after.core.device now.core.disk after.core.disk now.core.fabric after.core.fabric (record { event = i.event; page = page_after (i ∷ is) buf }) s step
 
 -- an entry that stands in a history stands in each that goes on from it
@@ -201,7 +208,7 @@ room_left now after left left' i is s el el' es eb of keeps grows log h =
 -- one more line was taken
 pub print_more : StepsAreNext → LinesStay → (first : WorldOf Drive Harbor) (all : List Input) (now after : WorldOf Drive Harbor) (left left' : Script) (i : Input) (is : List Input) (buf : List ℕ) (s : Seen) (bytes : List ℕ) (tb tm tn : Option (List ℕ))
     → Printing first all now left tb tm → left.inputs ≡ i ∷ is → left'.inputs ≡ is → left'.sizes ≡ left.sizes → left'.lenders ≡ left.lenders
-    → IsStep drive.Moves harbor.Moves now.core.device now.core.disk now.core.fabric (record { event = i.event; page = page_after (i ∷ is) buf }) s after.core.device after.core.disk after.core.fabric
+    → IsEvent drive.Moves harbor.Moves now.core.device now.core.disk now.core.fabric (record { event = i.event; page = page_after (i ∷ is) buf }) s after.core.device after.core.disk after.core.fabric
     → of_device after.core.device ≡ of_device now.core.device → KeepsRoom now.core after.core → GrowsByCalls i.event now.core.device after.core.device → after.log_spare ≡ one_less_if (has_effect i.event s) now.log_spare
     → GoesOn now.core.device.history after.core.device.history → StandsIn after.core.device.history s
     → bytes ≡ line after.core.device.history (i.event, s) → Appends tm tn bytes → Printing first all after left' tb tn
@@ -228,7 +235,7 @@ print_more steps stay first all now after left left' i is buf s bytes tb tm tn k
 -- a line was broken off
 pub print_broke : StepsAreNext → LinesStay → HistoriesGoOn → (first : WorldOf Drive Harbor) (all : List Input) (now after : WorldOf Drive Harbor) (left : Script) (i : Input) (is : List Input) (buf : List ℕ) (s : Seen) (bytes : List ℕ) (tb tm tn : Option (List ℕ))
     → Printing first all now left tb tm → left.inputs ≡ i ∷ is
-    → IsStep drive.Moves harbor.Moves now.core.device now.core.disk now.core.fabric (record { event = i.event; page = page_after (i ∷ is) buf }) s after.core.device after.core.disk after.core.fabric
+    → IsEvent drive.Moves harbor.Moves now.core.device now.core.disk now.core.fabric (record { event = i.event; page = page_after (i ∷ is) buf }) s after.core.device after.core.disk after.core.fabric
     → GoesOn now.core.device.history after.core.device.history → StandsIn after.core.device.history s
     → bytes ≡ line after.core.device.history (i.event, s) → AppendsFront tm tn bytes → AppendsFront tb tn (lines_from (world_in first) all)
 print_broke steps stay on first all now after left i is buf s bytes tb tm tn k el step goes stands is_line took =
@@ -292,7 +299,7 @@ adds_stand d i s H (one row seen_one same answers) =
 
 -- an event was made, and its line is this
 pub record IsMade (now after : WorldOf Drive Harbor) (e : Event) (page : List ℕ) (s : Seen) (bytes : List ℕ) : Type 0 where
-  pub step : IsStep drive.Moves harbor.Moves now.core.device now.core.disk now.core.fabric (record { event = e; page = page }) s after.core.device after.core.disk after.core.fabric
+  pub step : IsEvent drive.Moves harbor.Moves now.core.device now.core.disk now.core.fabric (record { event = e; page = page }) s after.core.device after.core.disk after.core.fabric
   pub of : of_device after.core.device ≡ of_device now.core.device
   pub keeps : KeepsRoom now.core after.core
   pub grows : GrowsByCalls e now.core.device after.core.device
