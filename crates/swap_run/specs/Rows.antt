@@ -217,3 +217,9 @@ LinkRows =
 -- the rows of texts that are no scripts
 abbrev pub RefusedRows : Type 0
 RefusedRows = EmptyText × PageOutOfRange × PageBytesNotAPowerOfTwo × PatternOfThreeBytes × SpaceTooMany × CallerBeforePage
+
+abbrev pub HotSlabIsPlacedByARound : Type 0
+HotSlabIsPlacedByARound =
+    Gives
+    (codes "geometry 8 4 2 4 2 4 1" ∷ codes "lender 4 1 1" ∷ codes "lender 6 1 1" ∷ codes "connect 0" ∷ codes "connect 1" ∷ codes "in 0 0" ∷ codes "in 0 0" ∷ codes "in 0 0" ∷ codes "in 0 0" ∷ codes "in 0 0" ∷ codes "round 0" ∷ codes "out 0 0 aa" ∷ [])
+    (codes "geometry 8 4 2 4 2 4 1" ∷ codes "lender 4 1 1" ∷ codes "lender 6 1 1" ∷ codes "connect 0 = link 0" ∷ codes "connect 1 = link 1" ∷ codes "in 0 0 = entry 0 in 0 of none zero 00" ∷ codes "in 0 0 = entry 1 in 0 of none zero 00" ∷ codes "in 0 0 = entry 2 in 0 of none zero 00" ∷ codes "in 0 0 = entry 3 in 0 of none zero 00" ∷ codes "in 0 0 = entry 4 in 0 of none zero 00" ∷ codes "round 0 = 9 mapped 1" ∷ codes "out 0 0 = entry 5 out 0 aa to 1" ∷ codes "end 6" ∷ [])

@@ -3,7 +3,7 @@
 
 ghost use Rattle.swap_run.specs.Checks.{ChecksTranscripts, ChecksRefuse};
 ghost use Rattle.swap_run.specs.Clause.{Completes};
-ghost use Rattle.swap_run.specs.Rows.{QueueRows, DiskRows, LenderRows, LinkRows, RefusedRows};
+ghost use Rattle.swap_run.specs.Rows.{QueueRows, DiskRows, LenderRows, LinkRows, HotSlabIsPlacedByARound, RefusedRows};
 ghost use Rattle.swap_run.specs.Run.{FailsWithTheDisk, ScriptsKeepTheHeadline};
 
 mod check;
@@ -84,6 +84,7 @@ pub fn rows()
     ensures disk { DiskRows }
     ensures lender { LenderRows }
     ensures links { LinkRows }
+    ensures round { HotSlabIsPlacedByARound }
     ensures refused { RefusedRows }
 {}
 

@@ -294,7 +294,7 @@ const LENDER: [(&str, &str, &str, u8); 3] = [
 ];
 
 /// Scripts with links that are cut, ended by a crash and made anew, and with two lenders.
-const LINKS: [(&str, &str, &str, u8); 5] = [
+const LINKS: [(&str, &str, &str, u8); 9] = [
     (
         "loss_after_the_reply_was_sent",
         "geometry 8 4 2 4 2 4 20\n\
@@ -496,6 +496,184 @@ const LINKS: [(&str, &str, &str, u8); 5] = [
          out 3 16383 = entry 0 out 16383 0102\n\
          in 0 16383 = entry 1 in 16383 of 0 queue 0102\n\
          end 2\n",
+        0,
+    ),
+    (
+        "two_lenders_are_asked_and_the_freer_lends",
+        "geometry 8 4 2 4 2 4 1\n\
+         lender 4 1 1\n\
+         lender 6 1 1\n\
+         connect 0\n\
+         connect 1\n\
+         in 0 0\n\
+         in 0 0\n\
+         in 0 0\n\
+         in 0 0\n\
+         in 0 0\n\
+         tick 0\n\
+         give 0\n\
+         give 0\n\
+         give 1\n\
+         give 1\n\
+         take 0\n\
+         take 1\n\
+         give 1\n\
+         take 1\n\
+         out 0 0 aa\n",
+        "geometry 8 4 2 4 2 4 1\n\
+         lender 4 1 1\n\
+         lender 6 1 1\n\
+         connect 0 = link 0\n\
+         connect 1 = link 1\n\
+         in 0 0 = entry 0 in 0 of none zero 00\n\
+         in 0 0 = entry 1 in 0 of none zero 00\n\
+         in 0 0 = entry 2 in 0 of none zero 00\n\
+         in 0 0 = entry 3 in 0 of none zero 00\n\
+         in 0 0 = entry 4 in 0 of none zero 00\n\
+         tick 0 = ask 0 0 1\n\
+         give 0 = hello 1\n\
+         give 0 = query 0 > room 0 3\n\
+         give 1 = hello 1\n\
+         give 1 = query 0 > room 0 5\n\
+         take 0 = room 0 3\n\
+         take 1 = room 0 5\n\
+         give 1 = borrow 0 > lent 0 0\n\
+         take 1 = lent 0 0\n\
+         out 0 0 = entry 5 out 0 aa to 1\n\
+         end 6\n",
+        0,
+    ),
+    (
+        "revocation_with_read_and_write_in_flight",
+        "geometry 8 4 2 4 2 4 20\n\
+         lender 3 1 0\n\
+         connect 0\n\
+         map 0 0\n\
+         give 0\n\
+         give 0\n\
+         take 0\n\
+         out 0 3 aa\n\
+         give 0\n\
+         take 0\n\
+         start\n\
+         disk write 3 ok\n\
+         host 0 10 0\n\
+         take 0\n\
+         give 0\n\
+         in 0 3\n\
+         out 1 2 bb\n\
+         take 0\n\
+         give 0\n\
+         give 0\n\
+         give 0\n\
+         take 0\n\
+         give 0\n\
+         take 0\n\
+         give 0\n\
+         finish 0\n\
+         in 0 3\n\
+         disk read 0 ok\n\
+         finish 0\n\
+         host 0 0 0\n\
+         host 0 0 0\n\
+         host 0 0 0\n\
+         host 0 0 0\n\
+         map 0 0\n\
+         give 0\n\
+         take 0\n",
+        "geometry 8 4 2 4 2 4 20\n\
+         lender 3 1 0\n\
+         connect 0 = link 0\n\
+         map 0 0 = borrow\n\
+         give 0 = hello 1\n\
+         give 0 = borrow 0 > lent 0 0\n\
+         take 0 = lent 0 0\n\
+         out 0 3 = entry 0 out 3 aa to 0\n\
+         give 0 = write 0 3 > wrote 0 3\n\
+         take 0 = wrote 0 3\n\
+         start = write 3 0\n\
+         disk write 3 ok = written 0\n\
+         host 0 10 0 = 2 ask 0\n\
+         take 0 = ask 0\n\
+         give 0 = rates 0 0 evict 0\n\
+         in 0 3 = wait lender 0\n\
+         out 1 2 = entry 1 out 2 bb to 0\n\
+         take 0 = evict 0\n\
+         give 0 = read 0 3 > page 0 3\n\
+         give 0 = write 0 2 > wrote 0 2\n\
+         give 0 = -\n\
+         take 0 = page 0 3\n\
+         give 0 = -\n\
+         take 0 = wrote 0 2\n\
+         give 0 = done 0\n\
+         finish 0 = entry 2 in 3 of 0 lender 0 aa\n\
+         in 0 3 = wait disk\n\
+         disk read 0 ok = came 3\n\
+         finish 0 = entry 3 in 3 of 0 disk aa\n\
+         host 0 0 0 = 2\n\
+         host 0 0 0 = 2\n\
+         host 0 0 0 = 2\n\
+         host 0 0 0 = 1\n\
+         map 0 0 = borrow\n\
+         give 0 = borrow 0 > lent 0 1\n\
+         take 0 = lent 0 1\n\
+         end 4\n",
+        0,
+    ),
+    (
+        "lender_lends_while_it_has_room",
+        "geometry 8 4 4 4 2 4 20\n\
+         lender 4 1 0\n\
+         connect 0\n\
+         host 0 1 0\n\
+         map 0 0\n\
+         map 1 0\n\
+         map 2 0\n\
+         give 0\n\
+         give 0\n\
+         give 0\n\
+         give 0\n",
+        "geometry 8 4 4 4 2 4 20\n\
+         lender 4 1 0\n\
+         connect 0 = link 0\n\
+         host 0 1 0 = 1\n\
+         map 0 0 = borrow\n\
+         map 1 0 = borrow\n\
+         map 2 0 = borrow\n\
+         give 0 = hello 1\n\
+         give 0 = borrow 0 > lent 0 0\n\
+         give 0 = borrow 1 > lent 1 1\n\
+         give 0 = borrow 2 > refused 2\n\
+         end 0\n",
+        0,
+    ),
+    (
+        "hot_slab_is_placed_by_a_round",
+        "geometry 8 4 2 4 2 4 1\n\
+         lender 4 1 1\n\
+         lender 6 1 1\n\
+         connect 0\n\
+         connect 1\n\
+         in 0 0\n\
+         in 0 0\n\
+         in 0 0\n\
+         in 0 0\n\
+         in 0 0\n\
+         round 0\n\
+         out 0 0 aa\n",
+        "geometry 8 4 2 4 2 4 1\n\
+         lender 4 1 1\n\
+         lender 6 1 1\n\
+         connect 0 = link 0\n\
+         connect 1 = link 1\n\
+         in 0 0 = entry 0 in 0 of none zero 00\n\
+         in 0 0 = entry 1 in 0 of none zero 00\n\
+         in 0 0 = entry 2 in 0 of none zero 00\n\
+         in 0 0 = entry 3 in 0 of none zero 00\n\
+         in 0 0 = entry 4 in 0 of none zero 00\n\
+         round 0 = 9 mapped 1\n\
+         out 0 0 = entry 5 out 0 aa to 1\n\
+         end 6\n",
         0,
     ),
 ];
