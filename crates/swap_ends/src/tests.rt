@@ -1,4 +1,4 @@
-use crate::End;
+use crate::{Bell, End};
 use std::test::Fail;
 
 #[test]
@@ -12,5 +12,17 @@ fn items_come_in_order_and_a_full_queue_refuses(rt: HostRuntime) -> Result<(), F
     assert_eq!(rt; giving.push(&rt, 10), Ok(()));
     assert_eq!(rt; taking.pop(&rt), Some(8));
     assert_eq!(rt; taking.pop(&rt), Some(10));
+    Ok(())
+}
+
+#[test]
+fn a_ring_before_the_wait_is_kept(rt: HostRuntime) -> Result<(), Fail> {
+    let (mine, theirs) = Bell::pair(rt.alloc())?;
+    theirs.ring();
+    mine.wait(&rt);
+    assert!(rt; !mine.has_stopped());
+    theirs.stop();
+    mine.wait(&rt);
+    assert!(rt; mine.has_stopped());
     Ok(())
 }
