@@ -4,4 +4,13 @@ pub mod Pairs
 pub mod Lanes
 pub mod Orders
 pub mod Turns
-pub mod LinkMoves
+pub mod Facts
+pub mod Serves
+pub mod Hears
+pub mod Sights
+pub mod Joins
+pub mod Sends
+pub mod Takes
+pub mod Harbors
+pub mod Moves
+pub mod Newest

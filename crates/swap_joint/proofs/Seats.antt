@@ -30,7 +30,7 @@ seat_within l n k t h = elim (cases_lt (slot_of l n k) (length l.slots)) [ inl w
     none_some e = cc
 
 -- and its lease was given
-seat_given : (l : Lender) (n : Link) (k : Lease) (t : Slab) → IsSound l → HasSeat l n k t → k.0 < l.next_lease
+pub seat_given : (l : Lender) (n : Link) (k : Lease) (t : Slab) → IsSound l → HasSeat l n k t → k.0 < l.next_lease
 seat_given l n k t s h = s.given (slot_of l n k) k.0 (found-lease l n k (seat_within l n k t h))
 
 seat_same : (l m : Lender) (n : Link) (k : Lease) (t : Slab) → slot_of m n k ≡ slot_of l n k → slot_in m.slots (slot_of l n k) ≡ slot_in l.slots (slot_of l n k) → HasSeat l n k t → HasSeat m n k t

@@ -2,4 +2,8 @@ pub mod Seats
 pub mod Lenders
 pub mod Pairs
 pub mod Order
-pub mod LinkMoves
+pub mod Brought
+pub mod Sight
+pub mod Stored
+pub mod Newest
+pub mod Owned

@@ -2,7 +2,6 @@
 #![tactic(auto)]
 
 ghost use Rattle.swap_joint.specs.Lenders.{LendersKeep, TurnsKeepSeats};
-ghost use Rattle.swap_joint.specs.LinkMoves.{LinkMovesKeepOrder};
 
 /// Whatever is called of lenders in memory, from the moment that they are made: each has as many slots as its spec
 /// says; no two of its held slots have one lease, or one link and slab; and a round that is open waits for slots that
@@ -11,11 +10,4 @@ ghost use Rattle.swap_joint.specs.LinkMoves.{LinkMovesKeepOrder};
 pub fn lenders_keep()
     ensures harbor { LendersKeep }
     ensures turns { TurnsKeepSeats }
-{}
-
-/// Where the messages under way on a link are in the order of the requests that its device waits for, they stay so
-/// whatever the far side does: the lender serves a message or ends the link, measures its host or crashes, or the link
-/// is cut. Where the device says something beside its requests they stay so too.
-pub fn link_moves_keep_order()
-    ensures { LinkMovesKeepOrder }
 {}

@@ -1,0 +1,21 @@
+-- A slab that is mapped, or drains, has its slot.
+use Rattle.std.specs.Prelude.{◌<◌, length}
+use Rattle.swap_base.specs.declared.Slab.{Slab}
+use Rattle.swap_slabs.specs.Slabs.{state_of}
+use Rattle.swap_slabs.specs.declared.SlabState.{SlabState}
+use Rattle.swap_slabs.specs.declared.SlabState.TheVariants.{Local, Asking, Borrowing, Mapped, Draining}
+use Rattle.swap_table.specs.Device.{Device}
+use Rattle.swap_link.specs.Keeping.{Unless}
+use Rattle.swap_link.specs.Harbor.{Harbor, channel_of}
+use Rattle.swap_joint.specs.Seats.{HasSeat}
+
+-- where the lender's end of its link stands, a slab that is mapped or drains has a slot by its lease, held for it
+abbrev pub HasItsSlot : Device → Harbor → Slab → SlabState → Type 0
+HasItsSlot d h t Local = Unit {0}
+HasItsSlot d h t (Asking pair) = Unit {0}
+HasItsSlot d h t (Borrowing l) = Unit {0}
+HasItsSlot d h t (Mapped l k flying) = Unless (channel_of h l).lender_gone (HasSeat (channel_of h l).lender (channel_of h l).number k t)
+HasItsSlot d h t (Draining l k flying) = Unless (channel_of h l).lender_gone (HasSeat (channel_of h l).lender (channel_of h l).number k t)
+
+abbrev pub HaveTheirSlots : Device → Harbor → Type 0
+HaveTheirSlots d h = (t : Slab) → t.0 < d.sizes.slabs → HasItsSlot d h t (state_of d.remote.slabs t)
