@@ -26,17 +26,17 @@ use Rattle.swap_table.specs.Device as device
 use Rattle.swap_table.specs.Device.{Device, of_device, enter, give, fault, lost, wait_for_room, wait_for_disk, raised, next_link, hello}
 use Rattle.swap_table.specs.Goes.{Asked, stay, by_disk, by_fabric, EachKeepsWhere}
 use Rattle.swap_table.specs.Moves.{Within, of_sizes, Speaker, Owed, Says, Ends, Sends, write, read, borrow, query, query_too, IsFar, far_give, far_cut, far_crash, far_host, Move, enters, gives, faults, waits_for_room, rates_change, lets_go, gives_up, starts, waits_for_disk, takes, lets_finish, sends, finds_down, raises, speaks, speaks_to_nobody, hears, hears_nothing, loses, misunderstands, breaks_off, far}
-use Rattle.swap_table.specs.Promises.{FollowsItsMoves}
+use Rattle.swap_table.specs.Promises.{FollowsItsMoves, Promises}
 use Rattle.swap_table.proofs.Keeps as keep
 use Rattle.swap_table.proofs.Keeps.{ins_wait}
 use Rattle.swap_link.specs.Channel.{Channel}
 use Rattle.swap_link.specs.Harbor as harbor
 use Rattle.swap_link.specs.Harbor.{Harbor, channel_of, KeepsAt, OwesAt}
 use Rattle.swap_joint.specs.Seats.{is_done}
-use Rattle.swap_joint.specs.Lenders.{AreWhole}
+use Rattle.swap_joint.specs.Lenders.{AreSound}
 use Rattle.swap_joint.specs.Sight.{SeesSame}
 use Rattle.swap_joint.specs.Stored.{Joined, AllJoined, AllJoinedBut, JoinedOwing}
-use Rattle.swap_joint.proofs.Harbors.{harbor_meaning, harbor_promises}
+use Rattle.swap_joint.proofs.Harbors.{harbor_meaning}
 use Rattle.swap_joint.proofs.Lenders.{lenders_keep}
 use Rattle.swap_joint.proofs.Facts.{still_all}
 use Rattle.swap_joint.proofs.Sights.{leases_answered, sees_enter, sees_give, sees_fault, sees_other, sees_parts, sees_itself, still_same, still_set, still_arrives, still_reads}
@@ -70,28 +70,28 @@ base_sees W d l m q e base (query within may) = sees_itself l d
 base_sees W d l m q e base (query_too within state other may) = sees_itself l d
 
 
-module _ {D : Type 0} (disk : DiskMeaning D) (follows : FollowsItsMoves disk) (T : Bool) (o : FabricOf) (far_may : Lender → Type 0) (bytes_may : List ℕ → Type 0) where
+module _ {D : Type 0} (disk : DiskMeaning D) (follows : FollowsItsMoves disk) (laws : Promises harbor_meaning) (T : Bool) (o : FabricOf) (far_may : Lender → Type 0) (bytes_may : List ℕ → Type 0) where
   abbrev pub There : Within
   There = of_sizes o.sizes o.lenders far_may bytes_may
 
-  -- device and ports agree, and each lender has the slots of its spec and is joined with its link
+  -- device and ports agree; and each lender is sound, and joined with its link
   abbrev pub Agrees : Speaker → D → Harbor → Type 0
-  Agrees = keep.Agrees disk follows harbor_meaning harbor_promises T o far_may bytes_may
+  Agrees = keep.Agrees disk follows harbor_meaning laws T o far_may bytes_may
 
   abbrev pub JoinedAt : Speaker → D → Harbor → Type 0
-  JoinedAt x k h = AreWhole h × JoinedOwing o.lenders x.device h x.owed
+  JoinedAt x k h = AreSound h × JoinedOwing o.lenders x.device h x.owed
 
   abbrev Agree : Device → D → Harbor → Type 0
-  Agree = keep.Agree disk follows harbor_meaning harbor_promises T o far_may bytes_may
+  Agree = keep.Agree disk follows harbor_meaning laws T o far_may bytes_may
 
   serves_at : (d : Device) (k : D) (h : Harbor) → Agree d k h → ServesAt o.lenders d h
   serves_at d k h agree = subst (λ (x : FabricOf). ServesAt x.lenders d h) agree.is agree.fits.serves
 
   -- the far side moves
-  far_joins : (d : Device) (k : D) (f g : Harbor) (c : FabricCall) (r : FabricAnswer c) → IsFar There c → Agree d k f → AreWhole f → AllJoined o.lenders d f → harbor.Moves f c r g → AllJoined o.lenders d g
+  far_joins : (d : Device) (k : D) (f g : Harbor) (c : FabricCall) (r : FabricAnswer c) → IsFar There c → Agree d k f → AreSound f → AllJoined o.lenders d f → harbor.Moves f c r g → AllJoined o.lenders d g
   far_joins d k f g c r (far_give {l = l} may) agree whole all moved =
       joins_through o.lenders d d f g (Give l) r moved (λ m other. sees_itself m d) (all_but l o.lenders d f all)
-      (λ within up. joined_given d.sizes d.history d.calls d.remote.slabs d.remote.bits (ring_of d.remote.links l) l (channel_of f l) (all l within up) moved.0.channel.sound (whole l moved.0.range) (clear_of (KeepsAt f) (OwesAt f) d.sizes o.lenders d.history d.calls d.remote l (serves_at d k f agree)))
+      (λ within up. joined_given d.sizes d.history d.calls d.remote.slabs d.remote.bits (ring_of d.remote.links l) l (channel_of f l) (all l within up) moved.0.channel.sound (whole.0 l moved.0.range) (clear_of (KeepsAt f) (OwesAt f) d.sizes o.lenders d.history d.calls d.remote l (serves_at d k f agree)))
   far_joins d k f g c r (far_cut {l = l} {a = a} {b = b} may) agree whole all moved =
       joins_through o.lenders d d f g (Cut l a b) r moved (λ m other. sees_itself m d) (all_but l o.lenders d f all) (λ within up. joined_cut d.sizes d.history d.calls d.remote.slabs d.remote.bits (ring_of d.remote.links l) l (channel_of f l) a b (all l within up))
   far_joins d k f g c r (far_crash {l = l} may) agree whole all moved =
@@ -99,11 +99,11 @@ module _ {D : Type 0} (disk : DiskMeaning D) (follows : FollowsItsMoves disk) (T
   far_joins d k f g c r (far_host {l = l} {used = used} {word = word} may) agree whole all moved =
       joins_through o.lenders d d f g (Host l used word) r moved (λ m other. sees_itself m d) (all_but l o.lenders d f all) (λ within up. joined_hosted d.sizes d.history d.calls d.remote.slabs d.remote.bits (ring_of d.remote.links l) l (channel_of f l) used word (all l within up))
 
-  alone : (d d' : Device) (f : Harbor) → ((l : Lender) → SeesSame l d d') → AreWhole f × AllJoined o.lenders d f → AreWhole f × AllJoined o.lenders d' f
+  alone : (d d' : Device) (f : Harbor) → ((l : Lender) → SeesSame l d d') → AreSound f × AllJoined o.lenders d f → AreSound f × AllJoined o.lenders d' f
   alone d d' f sees h = (h.0, joins_alone o.lenders d d' f sees h.1)
 
-  whole_on : (f g : Harbor) (c : FabricCall) (r : FabricAnswer c) → harbor.Moves f c r g → AreWhole f → AreWhole g
-  whole_on f g c r moved = lenders_keep.whole f c r g moved
+  whole_on : (f g : Harbor) (c : FabricCall) (r : FabricAnswer c) → harbor.Moves f c r g → AreSound f → AreSound g
+  whole_on f g c r moved sound = (lenders_keep.whole f c r g moved sound.0, lenders_keep.reached f c r g moved sound.1)
 
   pub each_joins : EachKeepsWhere disk.moves harbor.Moves (Move There) Agrees JoinedAt
   each_joins x asked y k k' f f' (enters {d = d} {c = c} {p = p} {bytes = bytes} outs) stay agree h = alone d (enter d c p bytes) f (λ l. sees_enter l d c p bytes) h

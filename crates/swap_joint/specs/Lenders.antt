@@ -34,6 +34,10 @@ pub record IsReached (l : Lender) : Type 0 where
 abbrev pub AreReached : Harbor → Type 0
 AreReached h = (l : LenderNo) → l.0 < length h.channels → IsReached (channel_of h l).lender
 
+-- the lenders by themselves: as many slots as their specs say, and what calls made of them
+abbrev pub AreSound : Harbor → Type 0
+AreSound h = AreWhole h × AreReached h
+
 -- no two held slots of a lender have one lease, or one link and slab, and an open round waits for slots that stay
 pub record AreOwned (l : Lender) : Type 0 where
   pub slots : IsOwned l.slots l.next_lease

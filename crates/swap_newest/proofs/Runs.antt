@@ -1,0 +1,117 @@
+-- What a device and its lenders in memory agree on holds after every run over any disk.
+use Rattle.std.proofs.Common.{◌≡◌, ℕ, ◌≤◌, Bool, true, List, [], ◌∷◌, length, is_some, refl, sym, ap, ◌∙◌, subst}
+use Rattle.swap_base.specs.declared.Lender.{Lender}
+use Rattle.swap_base.specs.Sizes.{Sizes}
+use Rattle.swap_wire.specs.declared.Seen.{Seen}
+use Rattle.swap_wire.specs.Input.{Input, IsInRange}
+use Rattle.swap_wire.specs.declared.Event.{Event}
+use Rattle.swap_wire.specs.Fabric.{FabricOf}
+use Rattle.swap_disk.specs.declared.port.DiskPort.{Ghosts as DiskMeaning}
+use Rattle.swap_slabs.specs.declared.TheConstants.{MOST_LENDERS}
+use Rattle.swap_link.specs.Harbor as harbor
+use Rattle.swap_link.specs.Harbor.{Harbor}
+use Rattle.swap_table.specs.Ports.{Prog, Along}
+use Rattle.swap_table.specs.Goes.{Goes, EachKeeps}
+use Rattle.swap_table.specs.Moves.{Speaker, quiet, Move}
+use Rattle.swap_table.specs.Device.{Device, of_device, new, disk_take}
+use Rattle.swap_table.specs.Happens.{happens}
+use Rattle.swap_table.specs.Fits.{IsBlank}
+use Rattle.swap_table.specs.Promises.{FollowsItsMoves, Promises}
+use Rattle.swap_table.specs.declared.DiskStep.{DiskStep}
+use Rattle.swap_table.proofs.Going.{Goes-along, Goes-implies, beside}
+use Rattle.swap_table.proofs.Walks as walk
+use Rattle.swap_table.proofs.Comings.{names_there}
+use Rattle.swap_table.proofs.Keeps as keep
+use Rattle.swap_table.proofs.EachCall.{there, anyone, any, hands_any}
+use Rattle.swap_base.specs.declared.DiskWhich.TheVariants as which
+use Rattle.swap_joint.specs.Lenders.{AreSound}
+use Rattle.swap_joint.specs.Owned.{IsLent}
+use Rattle.swap_joint.specs.Stored.{AllJoined}
+use Rattle.swap_joint.proofs.Harbors.{harbor_meaning}
+use Rattle.swap_joint.proofs.Lenders.{lenders_keep}
+use Rattle.swap_joint.proofs.Moves as joint
+use Rattle.swap_joint.proofs.Sends.{new_joins}
+use Rattle.swap_joint.proofs.Newest.{joined_is_newest, joined_have_slots}
+use Rattle.swap_world.specs.Runs.{IsRun, begin, effect, without, polled}
+use Rattle.swap_world.specs.Laws.{Began}
+use Rattle.swap_world.specs.World.{IsStep, IsEvent}
+use Rattle.swap_world.proofs.Memory.{harbor_promises}
+use Rattle.swap_world.specs.Rounds.{Plan, Stop, Make, round_plan, AlongPlan}
+use Rattle.swap_world.proofs.Parts.{bare, AreParts, round_parts, splits, Splits, by_program, by_plan}
+use Rattle.swap_world.proofs.Steps.{Known, known_range, step_known, run_known}
+use Rattle.swap_newest.specs.Laws.{LentAfterEach}
+
+-- the lenders are sound, and each link that is up is joined with its lender
+abbrev pub Joined : ℕ → Device → Harbor → Type 0
+Joined n d h = AreSound h × AllJoined n d h
+
+module _ {D : Type 0} (disk : DiskMeaning D) (follows : FollowsItsMoves disk) (T : Bool) (o : FabricOf) where
+  abbrev pub KnownAt : Device → D → Harbor → Type 0
+  KnownAt = Known disk follows harbor_meaning harbor_promises T o
+
+  -- along a program that goes by moves
+  goes_joined : {R : Type 0} (d d' : Device) (r : R) (p : Prog (Device × R)) (k k' : D) (h h' : Harbor) → Goes (Move (there d)) (λ (a : Device × R) s. s ≡ quiet a.0) (quiet d) p → KnownAt d k h → Joined o.lenders d h → Along disk.moves harbor.Moves p k h k' h' (d', r) → Joined o.lenders d' h'
+  goes_joined {R} d d' r p k k' h h' goes known joined along =
+      let P : Speaker → D → Harbor → Type 0 = keep.Agrees disk follows harbor_meaning harbor_promises T (of_device d) anyone any in
+      let Q : Speaker → D → Harbor → Type 0 = joint.JoinedAt disk follows harbor_promises T (of_device d) anyone any in
+      let each : EachKeeps disk.moves harbor.Moves (Move (there d)) (λ s k h. P s k h × Q s k h) =
+      beside (Move (there d)) disk.moves harbor.Moves P Q (keep.each_keeps disk follows harbor_meaning harbor_promises T (of_device d) anyone any) (joint.each_joins disk follows harbor_promises T (of_device d) anyone any)
+      in
+      let agree : P (quiet d) k h = record { fits = record { disk = known.agree.0.disk; serves = known.agree.0.serves }; is = refl; of_f = known.agree.1 } in
+      let first : Q (quiet d) k h = subst (λ (x : FabricOf). Joined x.lenders d h) (sym known.is) joined in
+      let last = Goes-along (Move (there d)) disk.moves harbor.Moves (λ s k h. P s k h × Q s k h) each (λ (a : Device × R) s. s ≡ quiet a.0) k k' h h' (d', r) (quiet d) p goes (agree, first) along in
+      let now : Q (quiet d') k' h' = subst (λ x. Q x k' h') last.1 last.2.1 in
+      subst (λ (x : FabricOf). Joined x.lenders d' h') known.is now
+
+  step_joined : (d d' : Device) (k k' : D) (h h' : Harbor) (i : Input) (s : Seen) → KnownAt d k h → Joined o.lenders d h → IsInRange o.sizes o.lenders i.event → IsStep disk.moves harbor.Moves d k h i s d' k' h' → Joined o.lenders d' h'
+  step_joined d d' k k' h h' i s known joined range step =
+      goes_joined d d' s (happens d i.page i.event) k k' h h'
+      (Goes-implies (Move (there d)) _ _ (λ a s q. q.0) (walk.happens_fares (there d) d i.page i.event (names_there d.sizes d.lenders anyone any d i.page i.event (known_range disk follows harbor_meaning harbor_promises T o d k h i known range) (hands_any i.page i.event)))) known joined step
+
+  poll_joined : (d d' : Device) (k k' : D) (h h' : Harbor) (step : DiskStep) → KnownAt d k h → Joined o.lenders d h → Along disk.moves harbor.Moves (disk_take d) k h k' h' (d', step) → Joined o.lenders d' h'
+  poll_joined d d' k k' h h' step known joined along =
+      goes_joined d d' step (disk_take d) k k' h h' (Goes-implies (Move (there d)) _ _ (λ a s q. q.0) (walk.disk_take_fares (there d) d [] (which.Write (record { 0 = 0 })) true)) known joined along
+
+  -- along a plan, and so along every event
+  plan_joined : (plan : Plan) (d d' : Device) (k k' : D) (h h' : Harbor) (effects : ℕ) → AreParts o.sizes o.lenders plan → KnownAt d k h → Joined o.lenders d h → AlongPlan disk.moves harbor.Moves plan d k h d' k' h' effects → Joined o.lenders d' h'
+  plan_joined Stop d d' k k' h h' effects parts known joined along = rw (along.0, along.2) joined
+  plan_joined (Make e more) d d' k k' h h' effects parts known joined (seen_, x, kx, hx, left, step, rest, count) =
+      plan_joined (more seen_) x d' kx k' hx h' left (parts.2 seen_) (step_known disk follows harbor_meaning harbor_promises T o d x k kx h hx (bare e) seen_ known parts.1 step) (step_joined d x k kx h hx (bare e) seen_ known joined parts.1 step) rest
+
+  these_parts : (d : Device) (word : ℕ) → of_device d ≡ o → AreParts o.sizes o.lenders (round_plan d.sizes d.lenders word)
+  these_parts d word is = let P : FabricOf → Type 0 = λ x. AreParts x.sizes x.lenders (round_plan d.sizes d.lenders word) in subst P is (round_parts d.sizes d.lenders word)
+
+  pub event_joined : (d d' : Device) (k k' : D) (h h' : Harbor) (i : Input) (s : Seen) → KnownAt d k h → Joined o.lenders d h → IsInRange o.sizes o.lenders i.event → IsEvent disk.moves harbor.Moves d k h i s d' k' h' → Joined o.lenders d' h'
+  event_joined d d' k k' h h' i s known joined range step = go (splits disk.moves harbor.Moves i.page i.event s d d' k k' h h' step) range
+    where
+      go : {e : Event} {s : Seen} → Splits disk.moves harbor.Moves i.page d k h d' k' h' e s → IsInRange o.sizes o.lenders e → Joined o.lenders d' h'
+      go {e} {s} (by_program along) there = step_joined d d' k k' h h' (record { event = e; page = i.page }) s known joined there along
+      go (by_plan {word = word} effects along is) there = plan_joined (round_plan d.sizes d.lenders word) d d' k k' h h' effects (these_parts d word known.is) known joined along
+
+-- what is joined is lent
+pub joined_lent : {D : Type 0} (disk : DiskMeaning D) (follows : FollowsItsMoves disk) (T : Bool) (o : FabricOf) (d : Device) (k : D) (h : Harbor) → KnownAt disk follows T o d k h → Joined o.lenders d h → IsLent d h
+joined_lent disk follows T o d k h known joined =
+    let here : Joined d.lenders d h = subst (λ (x : FabricOf). Joined x.lenders d h) (sym known.is) joined in
+    record { newest = joined_is_newest d.lenders d h here.1 known.agree.0.serves; owned = record { slots = lenders_keep.owned h here.0.1; slabs = joined_have_slots d.lenders d h here.1 known.agree.0.serves } }
+
+module _ {D : Type 0} (disk : DiskMeaning D) (follows : FollowsItsMoves disk) (s : Sizes) (n : ℕ) (first : D) (harbor_first : Harbor) (began : Began disk harbor_meaning s n first harbor_first) (fresh : harbor.IsFresh harbor_first (record { sizes = s; lenders = n })) where
+  abbrev Told : Bool
+  Told = is_some (disk.means first).blocks
+
+  abbrev Of : FabricOf
+  Of = record { sizes = s; lenders = n }
+
+  known : (made : List (Input × Seen)) (d : Device) (k : D) (h : Harbor) → IsRun disk.moves harbor.Moves (new s n) first harbor_first made d k h → KnownAt disk follows Told Of d k h
+  known made d k h run = run_known disk follows harbor_meaning harbor_promises s n first harbor_first began made d k h run
+
+  run_joined : (made : List (Input × Seen)) (d : Device) (k : D) (h : Harbor) → IsRun disk.moves harbor.Moves (new s n) first harbor_first made d k h → Joined n d h
+  run_joined made d k h begin = (lenders_keep.made harbor_first (record { sizes = s; lenders = n }) fresh, new_joins n n s harbor_first)
+  run_joined made d k h (effect {made = before} {d = d0} {k = k0} {f = h0} i seen_ d' k' h' run range step has) = step_joined disk follows Told Of d0 d' k0 k' h0 h' i seen_ (known before d0 k0 h0 run) (run_joined before d0 k0 h0 run) range step
+  run_joined made d k h (without {made = before} {d = d0} {k = k0} {f = h0} i seen_ k' h' run range step has) = step_joined disk follows Told Of d0 d0 k0 k' h0 h' i seen_ (known before d0 k0 h0 run) (run_joined before d0 k0 h0 run) range step
+  run_joined made d k h (polled {made = before} {d = d0} {k = k0} {f = h0} step d' k' h' run along) = poll_joined disk follows Told Of d0 d' k0 k' h0 h' step (known before d0 k0 h0 run) (run_joined before d0 k0 h0 run) along
+
+  run_lent : (made : List (Input × Seen)) (d : Device) (k : D) (h : Harbor) → IsRun disk.moves harbor.Moves (new s n) first harbor_first made d k h → IsLent d h
+  run_lent made d k h run = joined_lent disk follows Told Of d k h (known made d k h run) (run_joined made d k h run)
+
+pub lent_after_each : {D : Type 0} (disk : DiskMeaning D) → FollowsItsMoves disk → LentAfterEach disk
+lent_after_each disk follows s n first harbor_first made d k h blank fresh few run = run_lent disk follows s n first harbor_first (record { blank = blank; is_of = fresh.is; few = few }) fresh made d k h run

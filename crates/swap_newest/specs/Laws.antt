@@ -1,0 +1,26 @@
+-- A set bit means that the remote copy is the newest, and a lent slab has one owner, after every run.
+use Rattle.std.specs.Prelude.{ℕ, ◌≤◌, List, length}
+use Rattle.swap_base.specs.declared.geometry.LenderSpec.{LenderSpec}
+use Rattle.swap_base.specs.Sizes.{Sizes}
+use Rattle.swap_wire.specs.declared.Seen.{Seen}
+use Rattle.swap_wire.specs.Input.{Input}
+use Rattle.swap_disk.specs.declared.port.DiskPort.{Ghosts as DiskMeaning}
+use Rattle.swap_slabs.specs.declared.TheConstants.{MOST_LENDERS}
+use Rattle.swap_link.specs.Harbor as harbor
+use Rattle.swap_link.specs.Harbor.{Harbor}
+use Rattle.swap_table.specs.Device.{Device, new}
+use Rattle.swap_table.specs.Fits.{IsBlank}
+use Rattle.swap_joint.specs.Owned.{IsLent}
+use Rattle.swap_world.specs.Runs.{IsRun}
+use Rattle.swap_world.specs.Laws.{AreInputs}
+use Rattle.swap_world.specs.World.{World, start, reach}
+
+-- over the disk and the lenders in memory, after every list of events
+abbrev pub AlwaysLent : Type 0
+AlwaysLent = (s : Sizes) (specs : List LenderSpec) (is : List Input) → length specs ≤ MOST_LENDERS → AreInputs s specs is → let w : World = reach (start s specs) is in IsLent w.device w.harbor
+
+-- over any disk, after every run over lenders in memory as they are made
+abbrev pub LentAfterEach : {D : Type 0} → DiskMeaning D → Type 0
+LentAfterEach {D} disk =
+    (s : Sizes) (n : ℕ) (first : D) (harbor_first : Harbor) (made : List (Input × Seen)) (d : Device) (k : D) (h : Harbor) → IsBlank s (disk.means first) → harbor.IsFresh harbor_first (record { sizes = s; lenders = n }) → n ≤ MOST_LENDERS
+    → IsRun disk.moves harbor.Moves (new s n) first harbor_first made d k h → IsLent d h

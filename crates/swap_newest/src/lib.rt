@@ -1,0 +1,33 @@
+//! A set bit means that the remote copy is the newest, and a lent slab has one owner, at every moment.
+#![tactic(auto)]
+
+ghost use Rattle.swap_joint.specs.Owned.{IsLent};
+ghost use Rattle.swap_newest.specs.Laws.{AlwaysLent, LentAfterEach};
+
+use swap_disk::DiskPort;
+use swap_link::Harbor;
+use swap_table::ports_promise;
+use swap_world::World;
+
+/// Over the disk and the lenders in memory, after every list of events, Rounds included: a page whose bit is set is
+/// mapped over a link that is up, and where the lender's end of it stands, the lender's slot holds the page's newest
+/// content, no write of it is under way and nothing under way replaces it. No two held slots of a lender have one
+/// lease, or one link and slab, and each slab that is mapped or drains over a standing link has its slot.
+pub fn always_lent()
+    ensures { AlwaysLent }
+{}
+
+/// So they do over any disk that was blank and lenders in memory as they are made, after every run of events.
+pub fn lent_over_any_disk<D: DiskPort>()
+    ensures { LentAfterEach D.DiskPort }
+{
+    ports_promise::<D, Harbor>();
+}
+
+/// And in every world over any disk and lenders in memory.
+pub fn harbor_law<D: DiskPort>(world: &World<D, Harbor>)
+    ensures { IsLent world.now.core.device world.now.core.fabric }
+{
+    world.reached();
+    lent_over_any_disk::<D>();
+}
