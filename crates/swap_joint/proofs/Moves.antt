@@ -13,6 +13,7 @@ use Rattle.swap_queue.specs.Queue.{Copy}
 use Rattle.swap_disk.specs.Disk.{Taken}
 use Rattle.swap_disk.specs.declared.port.DiskPort.{Ghosts as DiskMeaning}
 use Rattle.swap_wire.specs.declared.Msg.{Msg}
+use Rattle.swap_wire.specs.declared.fabric.Sent.{Sent}
 use Rattle.swap_wire.specs.declared.fabric.Sent.TheVariants as sent_is
 use Rattle.swap_wire.specs.Fabric.{Parcel, Handed, Brought, NothingCame, LinkLost, FabricOf, FabricCall, Connect, Send, Take, End, Give, Cut, Crash, Host, FabricAnswer}
 use Rattle.swap_calls.specs.Calls as calls
@@ -24,7 +25,7 @@ use Rattle.swap_rings.specs.Rings.{is_up, ring_of}
 use Rattle.swap_remote.specs.Remote as remote
 use Rattle.swap_table.specs.Device as device
 use Rattle.swap_table.specs.Device.{Device, of_device, enter, give, fault, lost, wait_for_room, wait_for_disk, raised, next_link, hello}
-use Rattle.swap_table.specs.Goes.{Asked, stay, by_disk, by_fabric, EachKeepsWhere}
+use Rattle.swap_table.specs.Goes.{Asked, stay, by_disk, by_fabric, PortsGo, EachKeepsWhere}
 use Rattle.swap_table.specs.Moves.{Within, of_sizes, Speaker, Owed, Says, Ends, Sends, write, read, borrow, query, query_too, IsFar, far_give, far_cut, far_crash, far_host, Move, enters, gives, faults, waits_for_room, rates_change, lets_go, gives_up, starts, waits_for_disk, takes, lets_finish, sends, finds_down, raises, speaks, speaks_to_nobody, hears, hears_nothing, loses, misunderstands, breaks_off, far}
 use Rattle.swap_table.specs.Promises.{FollowsItsMoves, Promises}
 use Rattle.swap_table.proofs.Keeps as keep
@@ -42,8 +43,9 @@ use Rattle.swap_joint.proofs.Facts.{still_all}
 use Rattle.swap_joint.proofs.Sights.{leases_answered, sees_enter, sees_give, sees_fault, sees_other, sees_parts, sees_itself, still_same, still_set, still_arrives, still_reads}
 use Rattle.swap_joint.proofs.Serves.{joined_given, joined_hosted, joined_cut, joined_crashed}
 use Rattle.swap_joint.proofs.Hears.{clear_of}
-use Rattle.swap_joint.proofs.Joins.{ServesAt, all_but, joins_alone, others_through, joins_through, joins_lost, joins_down}
-use Rattle.swap_joint.proofs.Sends.{sent_joins, said_joins, raised_joins}
+use Rattle.swap_joint.specs.Sends.{IsTaken, FindsUp}
+use Rattle.swap_joint.proofs.Joins.{ServesAt, not_down, all_but, joins_alone, others_through, joins_through, joins_lost, joins_down}
+use Rattle.swap_joint.proofs.Sends.{sent_joins, said_joins, raised_joins, raised_up}
 use Rattle.swap_joint.proofs.Takes.{taken_nothing, heard_joins}
 
 -- what came back from the disk changes no entry that a call keeps
@@ -126,8 +128,8 @@ module _ {D : Type 0} (disk : DiskMeaning D) (follows : FollowsItsMoves disk) (l
   each_joins x asked y k k' f f' (finds_down {d = d} {e = e} {base = base} {l = l} {q = q} one) (by_fabric moved) agree h =
       (whole_on f f' (Send l q) sent_is.Down moved h.0, joins_down o.lenders base f f' (Send l q) sent_is.Down moved (all_but l o.lenders base f (joins_alone o.lenders d base f (λ m. base_sees There d m l q e base one) h.1)))
   each_joins x asked y k k' f f' (raises {d = d} {l = l} {r = r} within off) (by_fabric moved) agree h =
-      (whole_on f f' (Connect l (next_link d)) r moved h.0, (raised_joins o.lenders d f f' l r (serves_at d k f agree) h.1 within off moved, λ up j e. cc))
-  each_joins x asked y k k' f f' (speaks {d = d} {l = l} {q = q} word) (by_fabric moved) agree h = (whole_on f f' (Send l q) sent_is.Sent moved h.0, said_joins o.lenders d f f' l q word h.1.0 h.1.1 moved)
+      (whole_on f f' (Connect l (next_link d)) r moved h.0, (raised_joins o.lenders d f f' l r (serves_at d k f agree) h.1 within off moved, raised_up o.lenders d f l (serves_at d k f agree) within, λ j e. cc))
+  each_joins x asked y k k' f f' (speaks {d = d} {l = l} {q = q} word) (by_fabric moved) agree h = (whole_on f f' (Send l q) sent_is.Sent moved h.0, said_joins o.lenders d f f' l q word h.1.0 h.1.2 moved)
   each_joins x asked y k k' f f' (speaks_to_nobody {d = d} {l = l} {q = q} word) (by_fabric moved) agree h = (whole_on f f' (Send l q) sent_is.Down moved h.0, joins_down o.lenders d f f' (Send l q) sent_is.Down moved (all_but l o.lenders d f h.1.0))
   each_joins x asked y k k' f f' (hears {d = d} {h = heard} {l = l} {q = q} up one) (by_fabric moved) agree h =
       (whole_on f f' (Take l) (Brought q) moved h.0, heard_joins o.lenders d f f' l q h.1 (serves_at d k f agree) up moved heard one)
@@ -139,3 +141,38 @@ module _ {D : Type 0} (disk : DiskMeaning D) (follows : FollowsItsMoves disk) (l
       (whole_on f f' (Take l) (Brought q) moved h.0, others_through o.lenders d d f f' (Take l) (Brought q) moved (λ m other. sees_itself m d) (all_but l o.lenders d f h.1))
   each_joins x asked y k k' f f' (breaks_off {d = d} {l = l} {r = r}) (by_fabric moved) agree h = (whole_on f f' (End l) r moved h.0, joins_down o.lenders d f f' (End l) r moved h.1)
   each_joins x asked y k k' f f' (far {d = d} {c = c} {r = r} one) (by_fabric moved) agree h = (whole_on f f' c r moved h.0, far_joins d k f f' c r one agree h.0 h.1 moved)
+
+  -- no send finds a link down
+  present_at : (d : Device) (k : D) (f : Harbor) (l : Lender) → Agree d k f → AllJoined o.lenders d f → is_up d.remote.links l ≡ true → (channel_of f l).device_gone ≡ false
+  present_at d k f l agree all up = (all l (((serves_at d k f agree).link l).lender up) up).present
+
+  pub each_finds_up : (x : Speaker) (asked : Asked) (y : Speaker) (k k' : D) (f f' : Harbor) → Move There x asked y → PortsGo disk.moves harbor.Moves asked k f k' f' → Agrees x k f × JoinedAt x k f → FindsUp asked
+  each_finds_up x asked y k k' f f' (enters outs) stay h = tt
+  each_finds_up x asked y k k' f f' (gives given) stay h = tt
+  each_finds_up x asked y k k' f f' (faults fails) stay h = tt
+  each_finds_up x asked y k k' f f' (waits_for_room c p bytes e within hands) stay h = tt
+  each_finds_up x asked y k k' f f' (rates_change rates) stay h = tt
+  each_finds_up x asked y k k' f f' (lets_go l within up) stay h = tt
+  each_finds_up x asked y k k' f f' (gives_up l t off asks) stay h = tt
+  each_finds_up x asked y k k' f f' (starts el ec) (by_disk moved) h = tt
+  each_finds_up x asked y k k' f f' (waits_for_disk ins within is none) (by_disk moved) h = tt
+  each_finds_up x asked y k k' f f' takes (by_disk moved) h = tt
+  each_finds_up x asked y k k' f f' lets_finish (by_disk moved) h = tt
+  each_finds_up x asked y k k' f f' (sends one) (by_fabric moved) h = refl
+  each_finds_up x asked y k k' f f' (finds_down {d = d} {e = e} {base = base} {l = l} {q = q} one) (by_fabric moved) h =
+      absurd (not_down (channel_of f l) q (present_at d k f l h.0 h.1.1 (keep.sends_up There d l q e base one)) (ap (λ (x : Sent × Harbor). x.0) moved.1))
+  each_finds_up x asked y k k' f f' (raises within off) (by_fabric moved) h = tt
+  each_finds_up x asked y k k' f f' (speaks word) (by_fabric moved) h = refl
+  each_finds_up x asked y k k' f f' (speaks_to_nobody {d = d} {l = l} {q = q} word) (by_fabric moved) h = absurd (not_down (channel_of f l) q (present_at d k f l h.0.0 h.1.1.0 h.1.1.1) (ap (λ (x : Sent × Harbor). x.0) moved.1))
+  each_finds_up x asked y k k' f f' (hears up one) (by_fabric moved) h = tt
+  each_finds_up x asked y k k' f f' (hears_nothing up) (by_fabric moved) h = tt
+  each_finds_up x asked y k k' f f' (loses up) (by_fabric moved) h = tt
+  each_finds_up x asked y k k' f f' (misunderstands up) (by_fabric moved) h = tt
+  each_finds_up x asked y k k' f f' breaks_off (by_fabric moved) h = tt
+  each_finds_up x asked y k k' f f' (far {c = c} {r = r} one) (by_fabric moved) h = far_taken c r one
+    where
+      far_taken : (c : FabricCall) (r : FabricAnswer c) → IsFar There c → IsTaken c r
+      far_taken c r (far_give may) = tt
+      far_taken c r (far_cut may) = tt
+      far_taken c r (far_crash may) = tt
+      far_taken c r (far_host may) = tt

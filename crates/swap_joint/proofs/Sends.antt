@@ -128,12 +128,12 @@ word_plain d q greeting = refl
 word_plain d q (rating k value) = refl
 word_plain d q (giving_back k) = refl
 
-pub said_joins : (n : ℕ) (d : Device) (f g : Harbor) (l : Lender) (q : Parcel) → IsWord d q → AllJoined n d f → (is_up d.remote.links l ≡ true → MayGiveBack d l (channel_of f l) q.msg) → harbor.Moves f (Send l q) sent_is.Sent g → AllJoined n d g
+pub said_joins : (n : ℕ) (d : Device) (f g : Harbor) (l : Lender) (q : Parcel) → IsWord d q → AllJoined n d f → MayGiveBack d l (channel_of f l) q.msg → harbor.Moves f (Send l q) sent_is.Sent g → AllJoined n d g
 said_joins n d f g l q word all back moved =
     joins_through n d d f g (Send l q) sent_is.Sent moved (λ m other. sees_itself m d) (all_but l n d f all)
     (λ within up. let k : Joined d l (channel_of f l) = all l within up in
     subst (λ ch. Joined d l ch) (sym (sends (channel_of f l) q k.present))
-    (joined_said d.sizes d.history d.calls d.remote.slabs d.remote.bits (ring_of d.remote.links l) l (channel_of f l) q (word_plain d q word) (back up) k))
+    (joined_said d.sizes d.history d.calls d.remote.slabs d.remote.bits (ring_of d.remote.links l) l (channel_of f l) q (word_plain d q word) back k))
 
 -- a link that is down has no lease
 unleased_at : (n : ℕ) (d : Device) (h : Harbor) (l : Lender) → ServesAt n d h → is_up d.remote.links l ≡ false → (t : Slab) (k : Lease) → has_lease l k (state_of d.remote.slabs t) ≡ true → ⊥
@@ -162,6 +162,9 @@ raised_joins n d f g l r serves all within off moved =
     (λ m other. sees_parts m d d.remote.slabs (rings.raised d.remote.links l) d.calls (d.links_made + 1) (leases_stay m d.remote.slabs) (link-other d.remote.links l m rings.fresh other) (still_same m d)) (all_but l n d f all)
     (λ within up. subst (λ ys. JoinedOf d.sizes d.history d.calls d.remote.slabs d.remote.bits ys l (connected (channel_of f l) (next_link d))) (sym (ap (λ (k : LinkState). k.ring) made))
     (joined_new d.sizes d.history d.calls d.remote.slabs d.remote.bits l (channel_of f l) (next_link d) (unleased_at n d f l serves off)))
+
+pub raised_up : (n : ℕ) (d : Device) (f : Harbor) (l : Lender) → ServesAt n d f → l.0 < n → is_up (raised d l).remote.links l ≡ true
+raised_up n d f l serves within = let few = serves.few in ap (λ (k : LinkState). k.up) (link-same d.remote.links l rings.fresh (subst (λ m. l.0 < m) (sym serves.links_len) (omega (arith, within, few))))
 
 -- a device as it is made has no link
 all_down : (n i : ℕ) → get_or (rings.all_down n) i rings.down ≡ rings.down

@@ -41,7 +41,7 @@ use Rattle.swap_table.proofs.Leases.{unleased}
 use Rattle.swap_table.proofs.Entries.{last_bytes, none_later}
 use Rattle.swap_table.proofs.Shifts.{latest_out}
 use Rattle.swap_table.proofs.Sends.{slab_within, pages_some}
-use Rattle.swap_table.proofs.Replies.{answered-ring, answered-other}
+use Rattle.swap_table.proofs.Replies.{answered-ring, answered-other, answered-up}
 use Rattle.swap_table.proofs.Evictions.{MappedBy, mapped_by_is, settled_free, evicted_free}
 use Rattle.swap_link.specs.Channel.{Channel, taken, taken_from}
 use Rattle.swap_link.specs.Harbor as harbor
@@ -202,18 +202,15 @@ with_page_slabs : (b : Bool) (r : Remote) (p : Page) → (remote.with_page_if b 
 with_page_slabs true r p = refl
 with_page_slabs false r p = refl
 
--- a device that owes a word, where there is one
-owing_word : (n : ℕ) (d : Device) (h : Harbor) (l : Lender) (word : Option Parcel) → AllJoined n d h → ((q : Parcel) → word ≡ Some q → is_up d.remote.links l ≡ true → MayGiveBack d l (channel_of h l) q.msg) → JoinedOwing n d h (words l word)
-owing_word n d h l None all back = all
-owing_word n d h l (Some q) all back = (all, back q refl)
+with_page_links : (b : Bool) (r : Remote) (p : Page) → (remote.with_page_if b r p).links ≡ r.links
+with_page_links true r p = refl
+with_page_links false r p = refl
 
-some_same : (a b : Parcel) → Some a ≡ Some b → a ≡ b
-some_same a b e = cc
-
-owing_done : (n : ℕ) (d : Device) (h : Harbor) (l : Lender) (o : Option Lease) → AllJoined n d h → ((k : Lease) → o ≡ Some k → Unless (channel_of h l).lender_gone (IsGivenBack d.remote.slabs l (channel_of h l) k)) → JoinedOwing n d h (words l (done_word o))
-owing_done n d h l None all back = all
-owing_done n d h l (Some k) all back =
-    (all, λ _ j e. let same : k ≡ j = ap (λ (m : ℕ). record { 0 = m }) (eqb-true k.0 j.0 e) in subst (λ (i : Lease). Unless (channel_of h l).lender_gone (IsGivenBack d.remote.slabs l (channel_of h l) i)) same (back k refl))
+-- a device that gives a lease back, where there is one to give
+owing_done : (n : ℕ) (d : Device) (h : Harbor) (l : Lender) (o : Option Lease) → AllJoined n d h → is_up d.remote.links l ≡ true → ((k : Lease) → o ≡ Some k → Unless (channel_of h l).lender_gone (IsGivenBack d.remote.slabs l (channel_of h l) k)) → JoinedOwing n d h (words l (done_word o))
+owing_done n d h l None all up back = all
+owing_done n d h l (Some k) all up back =
+    (all, up, λ j e. let same : k ≡ j = ap (λ (m : ℕ). record { 0 = m }) (eqb-true k.0 j.0 e) in subst (λ (i : Lease). Unless (channel_of h l).lender_gone (IsGivenBack d.remote.slabs l (channel_of h l) i)) same (back k refl))
 
 -- a message that is heard
 module _ (n : ℕ) (d : Device) (h g : Harbor) (l : Lender) (q : Parcel) (all : AllJoined n d h) (serves : ServesAt n d h) (up : is_up d.remote.links l ≡ true) (moved : harbor.Moves h (Take l) (Brought q) g) where
@@ -466,6 +463,7 @@ module _ (n : ℕ) (d : Device) (h g : Harbor) (l : Lender) (q : Parcel) (all : 
       let r : Reply = reply_taken (write_is q.msg at says) in
       let waits = awaited r (request.Write p e) rest is in
       owing_done n (record d { remote = remote.written d.sizes d.remote l p (is_newest (last d.history p) e) }) g l (slabs.settled_lease (state_for d.sizes d.remote.slabs p)) (wrote_joins r p e rest is)
+      (ap (λ links. is_up links l) (with_page_links (is_newest (last d.history p) e && slabs.is_mapped (state_for d.sizes d.remote.slabs p)) (remote.settled_for d.sizes d.remote l p) p) ∙ answered-up d.remote.links l l link_in ∙ up)
       (λ k gives. subst (λ states. Unless (channel_of g l).lender_gone (IsGivenBack states l (channel_of g l) k)) (sym (with_page_slabs (is_newest (last d.history p) e && slabs.is_mapped (state_for d.sizes d.remote.slabs p)) (remote.settled_for d.sizes d.remote l p) p))
       (settled_back r p waits.0.0 waits.0.1 (ap (is_for_slab d.sizes (slab_for d.sizes p)) (one_is r (request.Write p e) rest is) ∙ own_slab d.sizes p) k gives))
   heard_joins x (brought {c = a} {p = p} {at = at} {rest = rest} is says named) =
@@ -474,8 +472,8 @@ module _ (n : ℕ) (d : Device) (h g : Harbor) (l : Lender) (q : Parcel) (all : 
       let for_it = ap (is_for_slab d.sizes (slab_for d.sizes p)) (one_is r (request.Read a p) rest is) ∙ own_slab d.sizes p in
       owing_done n (record d { remote = remote.settled_for d.sizes d.remote l p; calls = calls.came d.calls a q.page }) g l (slabs.settled_lease (state_for d.sizes d.remote.slabs p))
       (settled_joins r p waits.0.1 waits.0.2 for_it (calls.came d.calls a q.page) (λ xs. still_all d.calls (calls.came d.calls a q.page) xs (still_arrives arrived.Came q.page d.calls a)))
-      (settled_back r p waits.0.1 waits.0.2 for_it)
-  heard_joins x (asked_rate {t = t} {k = k} says at) = (rate_joins (rate_is q.msg k says), λ _ j e. cc)
+      (answered-up d.remote.links l l link_in ∙ up) (settled_back r p waits.0.1 waits.0.2 for_it)
+  heard_joins x (asked_rate {t = t} {k = k} says at) = (rate_joins (rate_is q.msg k says), up, λ j e. cc)
   heard_joins x (told_to_go {t = t} {k = k} says at) =
       let m : MappedBy d.remote.slabs l k t = mapped_by_is d.remote.slabs l k t at in
-      owing_done n (record d { remote = remote.evicted d.sizes d.remote t }) g l (slabs.evicted_lease (state_of d.remote.slabs t)) (evicted_joins t k m (back_is q.msg k says)) (evicted_back t k m)
+      owing_done n (record d { remote = remote.evicted d.sizes d.remote t }) g l (slabs.evicted_lease (state_of d.remote.slabs t)) (evicted_joins t k m (back_is q.msg k says)) up (evicted_back t k m)

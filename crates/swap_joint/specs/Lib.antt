@@ -7,3 +7,4 @@ pub mod Sight
 pub mod Stored
 pub mod Newest
 pub mod Owned
+pub mod Sends

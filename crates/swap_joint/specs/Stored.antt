@@ -91,5 +91,5 @@ MayGiveBack d l c m = (k : Lease) → is_done k m ≡ true → Unless c.lender_g
 -- with what the device is about to do
 abbrev pub JoinedOwing : ℕ → Device → Harbor → List Owed → Type 0
 JoinedOwing n d h [] = AllJoined n d h
-JoinedOwing n d h (Says l q ∷ owed) = AllJoined n d h × (is_up d.remote.links l ≡ true → MayGiveBack d l (channel_of h l) q.msg)
+JoinedOwing n d h (Says l q ∷ owed) = AllJoined n d h × (is_up d.remote.links l ≡ true) × MayGiveBack d l (channel_of h l) q.msg
 JoinedOwing n d h (Ends l ∷ owed) = AllJoinedBut l n d h

@@ -11,14 +11,14 @@ use Rattle.swap_slabs.specs.declared.TheConstants.{MOST_LENDERS}
 use Rattle.swap_link.specs.Harbor as harbor
 use Rattle.swap_link.specs.Harbor.{Harbor}
 use Rattle.swap_table.specs.Ports.{Prog, Along}
-use Rattle.swap_table.specs.Goes.{Goes, EachKeeps}
+use Rattle.swap_table.specs.Goes.{Goes, EachKeeps, AllAsked}
 use Rattle.swap_table.specs.Moves.{Speaker, quiet, Move}
 use Rattle.swap_table.specs.Device.{Device, of_device, new, disk_take}
 use Rattle.swap_table.specs.Happens.{happens}
 use Rattle.swap_table.specs.Fits.{IsBlank}
 use Rattle.swap_table.specs.Promises.{FollowsItsMoves, Promises}
 use Rattle.swap_table.specs.declared.DiskStep.{DiskStep}
-use Rattle.swap_table.proofs.Going.{Goes-along, Goes-implies, beside}
+use Rattle.swap_table.proofs.Going.{Goes-along, Goes-asks, Goes-implies, beside}
 use Rattle.swap_table.proofs.Walks as walk
 use Rattle.swap_table.proofs.Comings.{names_there}
 use Rattle.swap_table.proofs.Keeps as keep
@@ -26,6 +26,7 @@ use Rattle.swap_table.proofs.EachCall.{there, anyone, any, hands_any}
 use Rattle.swap_base.specs.declared.DiskWhich.TheVariants as which
 use Rattle.swap_joint.specs.Lenders.{AreSound}
 use Rattle.swap_joint.specs.Owned.{IsLent}
+use Rattle.swap_joint.specs.Sends.{FindsUp}
 use Rattle.swap_joint.specs.Stored.{AllJoined}
 use Rattle.swap_joint.proofs.Harbors.{harbor_meaning}
 use Rattle.swap_joint.proofs.Lenders.{lenders_keep}
@@ -39,7 +40,7 @@ use Rattle.swap_world.proofs.Memory.{harbor_promises}
 use Rattle.swap_world.specs.Rounds.{Plan, Stop, Make, round_plan, AlongPlan}
 use Rattle.swap_world.proofs.Parts.{bare, AreParts, round_parts, splits, Splits, by_program, by_plan}
 use Rattle.swap_world.proofs.Steps.{Known, known_range, step_known, run_known}
-use Rattle.swap_newest.specs.Laws.{LentAfterEach}
+use Rattle.swap_newest.specs.Laws.{Holds, HoldsAfterEach}
 
 -- the lenders are sound, and each link that is up is joined with its lender
 abbrev pub Joined : ℕ → Device → Harbor → Type 0
@@ -49,18 +50,23 @@ module _ {D : Type 0} (disk : DiskMeaning D) (follows : FollowsItsMoves disk) (T
   abbrev pub KnownAt : Device → D → Harbor → Type 0
   KnownAt = Known disk follows harbor_meaning harbor_promises T o
 
+  abbrev AgreesAt : Device → Speaker → D → Harbor → Type 0
+  AgreesAt d = keep.Agrees disk follows harbor_meaning harbor_promises T (of_device d) anyone any
+
+  abbrev JoinedFor : Device → Speaker → D → Harbor → Type 0
+  JoinedFor d = joint.JoinedAt disk follows harbor_promises T (of_device d) anyone any
+
+  each_both : (d : Device) → EachKeeps disk.moves harbor.Moves (Move (there d)) (λ s k h. AgreesAt d s k h × JoinedFor d s k h)
+  each_both d =
+      beside (Move (there d)) disk.moves harbor.Moves (AgreesAt d) (JoinedFor d) (keep.each_keeps disk follows harbor_meaning harbor_promises T (of_device d) anyone any) (joint.each_joins disk follows harbor_promises T (of_device d) anyone any)
+
   -- along a program that goes by moves
   goes_joined : {R : Type 0} (d d' : Device) (r : R) (p : Prog (Device × R)) (k k' : D) (h h' : Harbor) → Goes (Move (there d)) (λ (a : Device × R) s. s ≡ quiet a.0) (quiet d) p → KnownAt d k h → Joined o.lenders d h → Along disk.moves harbor.Moves p k h k' h' (d', r) → Joined o.lenders d' h'
   goes_joined {R} d d' r p k k' h h' goes known joined along =
-      let P : Speaker → D → Harbor → Type 0 = keep.Agrees disk follows harbor_meaning harbor_promises T (of_device d) anyone any in
-      let Q : Speaker → D → Harbor → Type 0 = joint.JoinedAt disk follows harbor_promises T (of_device d) anyone any in
-      let each : EachKeeps disk.moves harbor.Moves (Move (there d)) (λ s k h. P s k h × Q s k h) =
-      beside (Move (there d)) disk.moves harbor.Moves P Q (keep.each_keeps disk follows harbor_meaning harbor_promises T (of_device d) anyone any) (joint.each_joins disk follows harbor_promises T (of_device d) anyone any)
-      in
-      let agree : P (quiet d) k h = record { fits = record { disk = known.agree.0.disk; serves = known.agree.0.serves }; is = refl; of_f = known.agree.1 } in
-      let first : Q (quiet d) k h = subst (λ (x : FabricOf). Joined x.lenders d h) (sym known.is) joined in
-      let last = Goes-along (Move (there d)) disk.moves harbor.Moves (λ s k h. P s k h × Q s k h) each (λ (a : Device × R) s. s ≡ quiet a.0) k k' h h' (d', r) (quiet d) p goes (agree, first) along in
-      let now : Q (quiet d') k' h' = subst (λ x. Q x k' h') last.1 last.2.1 in
+      let agree : AgreesAt d (quiet d) k h = record { fits = record { disk = known.agree.0.disk; serves = known.agree.0.serves }; is = refl; of_f = known.agree.1 } in
+      let first : JoinedFor d (quiet d) k h = subst (λ (x : FabricOf). Joined x.lenders d h) (sym known.is) joined in
+      let last = Goes-along (Move (there d)) disk.moves harbor.Moves (λ s k h. AgreesAt d s k h × JoinedFor d s k h) (each_both d) (λ (a : Device × R) s. s ≡ quiet a.0) k k' h h' (d', r) (quiet d) p goes (agree, first) along in
+      let now : JoinedFor d (quiet d') k' h' = subst (λ x. JoinedFor d x k' h') last.1 last.2.1 in
       subst (λ (x : FabricOf). Joined x.lenders d' h') known.is now
 
   step_joined : (d d' : Device) (k k' : D) (h h' : Harbor) (i : Input) (s : Seen) → KnownAt d k h → Joined o.lenders d h → IsInRange o.sizes o.lenders i.event → IsStep disk.moves harbor.Moves d k h i s d' k' h' → Joined o.lenders d' h'
@@ -88,6 +94,14 @@ module _ {D : Type 0} (disk : DiskMeaning D) (follows : FollowsItsMoves disk) (T
       go {e} {s} (by_program along) there = step_joined d d' k k' h h' (record { event = e; page = i.page }) s known joined there along
       go (by_plan {word = word} effects along is) there = plan_joined (round_plan d.sizes d.lenders word) d d' k k' h h' effects (these_parts d word known.is) known joined along
 
+  -- each send of an event is taken
+  sends_taken : (d : Device) (k : D) (h : Harbor) (page : List ℕ) (e : Event) → KnownAt d k h → Joined o.lenders d h → IsInRange d.sizes d.lenders e → AllAsked disk.moves harbor.Moves FindsUp (happens d page e) k h
+  sends_taken d k h page e known joined range =
+      let P : Speaker → D → Harbor → Type 0 = λ s k h. AgreesAt d s k h × JoinedFor d s k h in
+      let agree : AgreesAt d (quiet d) k h = record { fits = record { disk = known.agree.0.disk; serves = known.agree.0.serves }; is = refl; of_f = known.agree.1 } in
+      let first : JoinedFor d (quiet d) k h = subst (λ (x : FabricOf). Joined x.lenders d h) (sym known.is) joined in
+      Goes-asks (Move (there d)) disk.moves harbor.Moves P (each_both d) FindsUp (joint.each_finds_up disk follows harbor_promises T (of_device d) anyone any) _ k h (walk.happens_fares (there d) d page e (names_there d.sizes d.lenders anyone any d page e range (hands_any page e))) (agree, first)
+
 -- what is joined is lent
 pub joined_lent : {D : Type 0} (disk : DiskMeaning D) (follows : FollowsItsMoves disk) (T : Bool) (o : FabricOf) (d : Device) (k : D) (h : Harbor) → KnownAt disk follows T o d k h → Joined o.lenders d h → IsLent d h
 joined_lent disk follows T o d k h known joined =
@@ -110,8 +124,11 @@ module _ {D : Type 0} (disk : DiskMeaning D) (follows : FollowsItsMoves disk) (s
   run_joined made d k h (without {made = before} {d = d0} {k = k0} {f = h0} i seen_ k' h' run range step has) = step_joined disk follows Told Of d0 d0 k0 k' h0 h' i seen_ (known before d0 k0 h0 run) (run_joined before d0 k0 h0 run) range step
   run_joined made d k h (polled {made = before} {d = d0} {k = k0} {f = h0} step d' k' h' run along) = poll_joined disk follows Told Of d0 d' k0 k' h0 h' step (known before d0 k0 h0 run) (run_joined before d0 k0 h0 run) along
 
-  run_lent : (made : List (Input × Seen)) (d : Device) (k : D) (h : Harbor) → IsRun disk.moves harbor.Moves (new s n) first harbor_first made d k h → IsLent d h
-  run_lent made d k h run = joined_lent disk follows Told Of d k h (known made d k h run) (run_joined made d k h run)
+  run_holds : (made : List (Input × Seen)) (d : Device) (k : D) (h : Harbor) → IsRun disk.moves harbor.Moves (new s n) first harbor_first made d k h → Holds disk d k h
+  run_holds made d k h run = record {
+    lent = joined_lent disk follows Told Of d k h (known made d k h run) (run_joined made d k h run);
+    taken = λ page e range. sends_taken disk follows Told Of d k h page e (known made d k h run) (run_joined made d k h run) range;
+  }
 
-pub lent_after_each : {D : Type 0} (disk : DiskMeaning D) → FollowsItsMoves disk → LentAfterEach disk
-lent_after_each disk follows s n first harbor_first made d k h blank fresh few run = run_lent disk follows s n first harbor_first (record { blank = blank; is_of = fresh.is; few = few }) fresh made d k h run
+pub holds_after_each : {D : Type 0} (disk : DiskMeaning D) → FollowsItsMoves disk → HoldsAfterEach disk
+holds_after_each disk follows s n first harbor_first made d k h blank fresh few run = run_holds disk follows s n first harbor_first (record { blank = blank; is_of = fresh.is; few = few }) fresh made d k h run

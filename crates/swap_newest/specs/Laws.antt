@@ -3,14 +3,18 @@ use Rattle.std.specs.Prelude.{ℕ, ◌≤◌, List, length}
 use Rattle.swap_base.specs.declared.geometry.LenderSpec.{LenderSpec}
 use Rattle.swap_base.specs.Sizes.{Sizes}
 use Rattle.swap_wire.specs.declared.Seen.{Seen}
-use Rattle.swap_wire.specs.Input.{Input}
+use Rattle.swap_wire.specs.Input.{Input, IsInRange}
+use Rattle.swap_wire.specs.declared.Event.{Event}
 use Rattle.swap_disk.specs.declared.port.DiskPort.{Ghosts as DiskMeaning}
 use Rattle.swap_slabs.specs.declared.TheConstants.{MOST_LENDERS}
 use Rattle.swap_link.specs.Harbor as harbor
 use Rattle.swap_link.specs.Harbor.{Harbor}
 use Rattle.swap_table.specs.Device.{Device, new}
 use Rattle.swap_table.specs.Fits.{IsBlank}
+use Rattle.swap_table.specs.Goes.{AllAsked}
+use Rattle.swap_table.specs.Happens.{happens}
 use Rattle.swap_joint.specs.Owned.{IsLent}
+use Rattle.swap_joint.specs.Sends.{FindsUp}
 use Rattle.swap_world.specs.Runs.{IsRun}
 use Rattle.swap_world.specs.Laws.{AreInputs}
 use Rattle.swap_world.specs.World.{World, start, reach}
@@ -19,8 +23,14 @@ use Rattle.swap_world.specs.World.{World, start, reach}
 abbrev pub AlwaysLent : Type 0
 AlwaysLent = (s : Sizes) (specs : List LenderSpec) (is : List Input) → length specs ≤ MOST_LENDERS → AreInputs s specs is → let w : World = reach (start s specs) is in IsLent w.device w.harbor
 
--- over any disk, after every run over lenders in memory as they are made
-abbrev pub LentAfterEach : {D : Type 0} → DiskMeaning D → Type 0
-LentAfterEach {D} disk =
+-- a device over any disk and lenders in memory: what its lenders hold, and that each send of whatever event comes next
+-- is taken, whatever the disk answers
+pub record Holds {D : Type 0} (disk : DiskMeaning D) (d : Device) (k : D) (h : Harbor) : Type 0 where
+  pub lent : IsLent d h
+  pub taken : (page : List ℕ) (e : Event) → IsInRange d.sizes d.lenders e → AllAsked disk.moves harbor.Moves FindsUp (happens d page e) k h
+
+-- it holds after every run over a disk that was blank and lenders as they are made
+abbrev pub HoldsAfterEach : {D : Type 0} → DiskMeaning D → Type 0
+HoldsAfterEach {D} disk =
     (s : Sizes) (n : ℕ) (first : D) (harbor_first : Harbor) (made : List (Input × Seen)) (d : Device) (k : D) (h : Harbor) → IsBlank s (disk.means first) → harbor.IsFresh harbor_first (record { sizes = s; lenders = n }) → n ≤ MOST_LENDERS
-    → IsRun disk.moves harbor.Moves (new s n) first harbor_first made d k h → IsLent d h
+    → IsRun disk.moves harbor.Moves (new s n) first harbor_first made d k h → Holds disk d k h

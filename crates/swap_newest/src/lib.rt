@@ -1,8 +1,7 @@
 //! A set bit means that the remote copy is the newest, and a lent slab has one owner, at every moment.
 #![tactic(auto)]
 
-ghost use Rattle.swap_joint.specs.Owned.{IsLent};
-ghost use Rattle.swap_newest.specs.Laws.{AlwaysLent, LentAfterEach};
+ghost use Rattle.swap_newest.specs.Laws.{AlwaysLent, Holds, HoldsAfterEach};
 
 use swap_disk::DiskPort;
 use swap_link::Harbor;
@@ -17,17 +16,18 @@ pub fn always_lent()
     ensures { AlwaysLent }
 {}
 
-/// So they do over any disk that was blank and lenders in memory as they are made, after every run of events.
-pub fn lent_over_any_disk<D: DiskPort>()
-    ensures { LentAfterEach D.DiskPort }
+/// So they do over any disk that was blank and lenders in memory as they are made, after every run of events; and
+/// whatever event comes next, each of its sends is taken: no link is found down that the device takes to be up.
+pub fn holds_over_any_disk<D: DiskPort>()
+    ensures { HoldsAfterEach D.DiskPort }
 {
     ports_promise::<D, Harbor>();
 }
 
 /// And in every world over any disk and lenders in memory.
 pub fn harbor_law<D: DiskPort>(world: &World<D, Harbor>)
-    ensures { IsLent world.now.core.device world.now.core.fabric }
+    ensures { Holds D.DiskPort world.now.core.device world.now.core.disk world.now.core.fabric }
 {
     world.reached();
-    lent_over_any_disk::<D>();
+    holds_over_any_disk::<D>();
 }
