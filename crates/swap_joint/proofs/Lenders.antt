@@ -1,7 +1,8 @@
 -- What each call leaves of the slots of the lenders in memory.
-use Rattle.std.proofs.Common.{◌≡◌, ℕ, ◌<◌, List, [], ◌∷◌, ◌++◌, length, map, refl, sym, ap, ◌∙◌, subst, length-set, Option, None, Some}
-use Rattle.std.specs.Prelude.{option_map, All}
-use Rattle.std.proofs.lemmas.Bool.{cond_both}
+use Rattle.std.proofs.Common.{◌≡◌, ℕ, ◌<◌, Bool, true, false, ◌&&◌, not, zero, suc, List, [], ◌∷◌, ◌++◌, length, map, get_or, set, replicate, eq-eqb, refl, sym, ap, ◌∙◌, subst, length-set, Option, None, Some}
+use Rattle.std.specs.Prelude.{◌==◌, option_map, All}
+use Rattle.std.specs.List.{fold}
+use Rattle.std.proofs.lemmas.Bool.{cond_both, both_ways}
 use Rattle.std.proofs.lemmas.List.{length-map, length-replicate}
 use Rattle.std.proofs.lemmas.List.Elements.{All-get_or}
 use Rattle.swap_base.specs.declared.Lender.{Lender as LenderNo}
@@ -11,20 +12,27 @@ use Rattle.swap_wire.specs.declared.Msg.TheVariants as msg
 use Rattle.swap_wire.specs.declared.fabric.Sent.{Sent}
 use Rattle.swap_wire.specs.declared.fabric.Gave.{Gave}
 use Rattle.swap_wire.specs.Fabric.{FabricOf, Parcel, Handed, FabricCall, Connect, Send, Take, End, Give, Cut, Crash, Host, FabricAnswer}
-use Rattle.swap_evict.specs.Rounds.{answer}
+use Rattle.swap_evict.specs.Rounds.{Round, opened, answer, leave}
 use Rattle.swap_lender.specs.declared.Lending.{Lending}
-use Rattle.swap_lender.specs.declared.SlotState.TheVariants.{Free}
-use Rattle.swap_lender.specs.Lender.{Lender, fresh, lends, slot_of, first_where, is_free}
-use Rattle.swap_lender.specs.Table.{Turn, settle_with, due, took, serve, may_send, host, measured, opens, gone, freed, left, without_peer, has_room, arrive, restart}
-use Rattle.swap_lender.specs.Calls.{Call, Arrive, Took, Host as Hosts, Gone, Restart, run, step, IsOwned, AsksStaying}
+use Rattle.swap_base.specs.declared.Slab.{Slab}
+use Rattle.swap_base.specs.declared.Lease.{Lease}
+use Rattle.swap_choice.specs.Slots.{has}
+use Rattle.swap_choice.proofs.Chosen.{has-zero}
+use Rattle.swap_lender.specs.declared.SlotState.{SlotState}
+use Rattle.swap_lender.specs.declared.SlotState.TheVariants.{Free, Held}
+use Rattle.swap_lender.specs.Lender.{Lender, fresh, lends, slot_in, slot_of, first_where, is_free, is_of, is_staying, is_evicting, numbers_where}
+use Rattle.swap_lender.specs.Table.{Turn, marked, settle_with, due, took, serve, may_send, host, measured, opens, open_round, asked, to_evict, gone, freed, left, without_peer, has_room, arrive, restart}
+use Rattle.swap_lender.specs.Calls.{Call, Arrive, Took, Host as Hosts, Gone, Restart, run, step, Tenant, tenant, AsksStaying}
+use Rattle.swap_lender.proofs.Owned.{IsPart, part_free, part_marked}
 use Rattle.swap_lender.proofs.Runs.{always_owned}
 use Rattle.swap_lender.proofs.Live.{live_rounds}
 use Rattle.swap_link.specs.Sound.{length-marked}
-use Rattle.swap_link.specs.Channel.{Channel, let_go, taken, taken_from, given, given_from, on_channel}
+use Rattle.swap_link.specs.Channel.{Channel, let_go, taken, taken_from, given, given_from, delivered, abandoned, crashed, on_channel}
 use Rattle.swap_link.specs.Harbor.{Harbor, Moves, channel_of, lender_of, new_channel, no_channel, lending_for, IsFresh}
 use Rattle.swap_link.specs.HarborLaws.{through, moves_keep_of}
 use Rattle.swap_joint.specs.Seats.{AreSlots}
-use Rattle.swap_joint.specs.Lenders.{TurnsKeepSeats, AreWhole, IsReached, AreReached, AreOwned, AllOwned, LendersKeep}
+use Rattle.swap_joint.specs.Turn.{AsksUntold, Lodges}
+use Rattle.swap_joint.specs.Lenders.{TurnsKeepSeats, AreWhole, IsReached, AreReached, AllLodge, AreSound, AreOwned, LendersKeep}
 use Rattle.swap_joint.proofs.Seats.{seat_lend, seat_served, seat_host}
 
 pub turns_keep_seats : TurnsKeepSeats
@@ -95,7 +103,7 @@ run-last : (l : Lender) (calls : List Call) (call : Call) → run l (calls ++ ca
 run-last l [] call = refl
 run-last l (first ∷ calls) call = run-last (step l first).lender calls call
 
-reached_more : (l : Lender) (call : Call) → IsReached l → IsReached (step l call).lender
+pub reached_more : (l : Lender) (call : Call) → IsReached l → IsReached (step l call).lender
 reached_more l call r = record {
   lending = r.lending;
   calls = r.calls ++ call ∷ [];
@@ -111,8 +119,190 @@ reached_each = record {
   restarts = λ l r. reached_more l Restart r;
 }
 
-are_owned : (l : Lender) → IsReached l → AreOwned l
+pub are_owned : (l : Lender) → IsReached l → AreOwned l
 are_owned l r = subst AreOwned (sym r.is) (record { slots = always_owned r.lending r.calls; round = live_rounds r.lending r.calls })
+
+-- rounds that ask no slot that was told to go
+
+untold_set : (slots : List SlotState) (j i : ℕ) (x : SlotState) → is_evicting x ≡ false → is_evicting (get_or slots i Free) ≡ false → is_evicting (get_or (set slots j x) i Free) ≡ false
+untold_set [] j i x new was = was
+untold_set (s ∷ ss) zero zero x new was = new
+untold_set (s ∷ ss) zero (suc i) x new was = was
+untold_set (s ∷ ss) (suc j) zero x new was = was
+untold_set (s ∷ ss) (suc j) (suc i) x new was = untold_set ss j i x new was
+
+untold_freed : (n : Link) (slots : List SlotState) (i : ℕ) → is_evicting (get_or slots i Free) ≡ false → is_evicting (get_or (map (freed n) slots) i Free) ≡ false
+untold_freed n [] i was = was
+untold_freed n (s ∷ ss) zero was = cond_both (is_of n s) _ _ (λ x. is_evicting x ≡ false) (λ _. refl) (λ _. was)
+untold_freed n (s ∷ ss) (suc i) was = untold_freed n ss i was
+
+left_asked : (xs : List ℕ) (r : Round) → (fold (λ r slot. leave slot r) r xs).asked ≡ r.asked
+left_asked [] r = refl
+left_asked (x ∷ xs) r = left_asked xs (leave x r)
+
+untold_by : (o : Option Round) (slots slots' : List SlotState) → ((i : ℕ) → is_evicting (slot_in slots i) ≡ false → is_evicting (slot_in slots' i) ≡ false) → AsksUntold o slots → AsksUntold o slots'
+untold_by None slots slots' each h = tt
+untold_by (Some r) slots slots' each h = λ i e. each i (h i e)
+
+untold_answer : (o : Option Round) (slot value : ℕ) (slots : List SlotState) → AsksUntold o slots → AsksUntold (option_map (answer slot value) o) slots
+untold_answer None slot value slots h = tt
+untold_answer (Some r) slot value slots h = h
+
+untold_left : (o : Option Round) (n : Link) (states slots : List SlotState) → AsksUntold o slots → AsksUntold (option_map (left n states) o) slots
+untold_left None n states slots h = tt
+untold_left (Some r) n states slots h = λ i e. h i (subst (λ s. has s i ≡ true) (left_asked (numbers_where (is_of n) 0 states) r) e)
+
+abbrev Untold : Lender → Type 0
+Untold l = AsksUntold l.round l.slots
+
+untold_settle : (l : Lender) (o : Option ℕ) → Untold l → Untold (settle_with l o).lender
+untold_settle l None h = h
+untold_settle l (Some set) h = tt
+
+untold_serve : (l : Lender) (n : Link) (m : Msg) (page : List ℕ) → Untold l → Untold (serve l n m page).lender
+untold_serve l n (msg.Borrow u) page h = cond_both (lends l) _ _ (λ (x : Turn). Untold x.lender) (λ _. untold_by l.round l.slots _ (λ i. untold_set l.slots (first_where is_free l.slots) i (Held n u (record { 0 = l.next_lease }) false) refl) h) (λ _. h)
+untold_serve l n (msg.Rates j value) page h =
+    untold_settle (record l { round = option_map (answer (slot_of l n j) value) l.round }) (due (option_map (answer (slot_of l n j) value) l.round)) (untold_answer l.round (slot_of l n j) value l.slots h)
+untold_serve l n (msg.Done j) page h = untold_by l.round l.slots _ (λ i. untold_set l.slots (slot_of l n j) i Free refl) h
+untold_serve l n _ page h = h
+
+-- a round that is opened waits for slots that stay
+untold_host : (l : Lender) (used word : ℕ) → IsReached l → Untold l → Untold (host l used word).lender
+untold_host l used word r h = cond_both (opens (measured l used)) _ _ (λ (x : Turn). (host l used word ≡ x) → Untold x.lender) (λ _ is. opened_ is) (λ _ is. h) refl
+  where
+    opened_ : host l used word ≡ open_round (measured l used) (asked (measured l used) word) → Untold (open_round (measured l used) (asked (measured l used) word)).lender
+    opened_ is i inside =
+        let P : Turn → Type 0 = λ t. AsksStaying t.lender.round t.lender.slots in
+        let alive : AsksStaying (Some (opened (asked (measured l used) word) (to_evict (measured l used)))) l.slots = subst P is (are_owned (host l used word).lender (reached_more l (Hosts used word) r)).round in
+        not_told (slot_in l.slots i) (alive.waits i (all_three (has (asked (measured l used) word) i) (has 0 i) (has 0 i) inside (has-zero i) (has-zero i)))
+      where
+        all_three : (a b c : Bool) → a ≡ true → b ≡ false → c ≡ false → (a && not b && not c) ≡ true
+        all_three a b c e f g = cc
+
+        not_told : (x : SlotState) → is_staying x ≡ true → is_evicting x ≡ false
+        not_told Free e = refl
+        not_told (Held n t k true) e = cc
+        not_told (Held n t k false) e = refl
+
+abbrev ReachedUntold : Lender → Type 0
+ReachedUntold l = IsReached l × Untold l
+
+untold_each : EachKeeps ReachedUntold
+untold_each = record {
+  arrives = λ l n h. (reached_each.arrives l n h.0, cond_both (has_room l) _ _ Untold (λ _. h.1) (λ _. h.1));
+  takes = λ l n m page h. (reached_each.takes l n m page h.0, cond_both (may_send l n m) _ _ (λ (x : Turn). Untold x.lender) (λ _. untold_serve l n m page h.1) (λ _. h.1));
+  hosts = λ l used word h. (reached_each.hosts l used word h.0, untold_host l used word h.0 h.1);
+  leaves = λ l n h. (reached_each.leaves l n h.0, untold_settle (record l { slots = map (freed n) l.slots; peers = without_peer n l.peers; round = option_map (left n l.slots) l.round }) (due (option_map (left n l.slots) l.round))
+      (untold_by (option_map (left n l.slots) l.round) l.slots (map (freed n) l.slots) (λ i. untold_freed n l.slots i) (untold_left l.round n l.slots l.slots h.1)));
+  restarts = λ l h. (reached_each.restarts l h.0, tt);
+}
+
+-- for whom slots are held
+
+abbrev HeldBy : List SlotState → Link → Type 0
+HeldBy slots n = (i : ℕ) (a : Tenant) → tenant (slot_in slots i) ≡ Some a → a.link.0 ≡ n.0
+
+abbrev HeldByNone : List SlotState → Type 0
+HeldByNone slots = (i : ℕ) (a : Tenant) → tenant (slot_in slots i) ≡ Some a → ⊥
+
+held_set : (slots : List SlotState) (j : ℕ) (n : Link) (u : Slab) (k : Lease) → HeldBy slots n → HeldBy (set slots j (Held n u k false)) n
+held_set [] j n u k h i a e = h i a e
+held_set (s ∷ ss) zero n u k h zero a e = let same : record { link = n; slab = u; lease = k } ≡ a = cc in ap (λ (t : Tenant). t.link.0) (sym same)
+held_set (s ∷ ss) zero n u k h (suc i) a e = h (suc i) a e
+held_set (s ∷ ss) (suc j) n u k h zero a e = h zero a e
+held_set (s ∷ ss) (suc j) n u k h (suc i) a e = held_set ss j n u k (λ i a e. h (suc i) a e) i a e
+
+held_part : (new old : List SlotState) (n : Link) → IsPart new old → HeldBy old n → HeldBy new n
+held_part new old n part h i a e = h i a (part.kept i a e)
+
+held_settle : (l : Lender) (o : Option ℕ) (n : Link) → HeldBy l.slots n → HeldBy (settle_with l o).lender.slots n
+held_settle l None n h = h
+held_settle l (Some set) n h = held_part (marked set 0 l.slots) l.slots n (part_marked set l.slots) h
+
+held_serve : (l : Lender) (n : Link) (m : Msg) (page : List ℕ) → HeldBy l.slots n → HeldBy (serve l n m page).lender.slots n
+held_serve l n (msg.Borrow u) page h = cond_both (lends l) _ _ (λ (x : Turn). HeldBy x.lender.slots n) (λ _. held_set l.slots (first_where is_free l.slots) n u (record { 0 = l.next_lease }) h) (λ _. h)
+held_serve l n (msg.Rates j value) page h = held_settle (record l { round = option_map (answer (slot_of l n j) value) l.round }) (due (option_map (answer (slot_of l n j) value) l.round)) n h
+held_serve l n (msg.Done j) page h = held_part (set l.slots (slot_of l n j) Free) l.slots n (part_free l.slots (slot_of l n j)) h
+held_serve l n _ page h = h
+
+-- a link that is gone leaves no slot held for it
+freed_none : (n : Link) (slots : List SlotState) → HeldBy slots n → HeldByNone (map (freed n) slots)
+freed_none n [] h i a e = cc
+freed_none n (s ∷ ss) h zero a e = go s e (h zero a)
+  where
+    go : (s : SlotState) → tenant (freed n s) ≡ Some a → (tenant s ≡ Some a → a.link.0 ≡ n.0) → ⊥
+    go Free e was = cc
+    go (Held m u k told) e was =
+        cond_both (m.0 == n.0) Free (Held m u k told) (λ x. tenant x ≡ Some a → ⊥) (λ _ e. cc)
+        (λ other e. let same : record { link = m; slab = u; lease = k } ≡ a = cc in both_ways (m.0 == n.0) other (eq-eqb m.0 n.0 (ap (λ (t : Tenant). t.link.0) same ∙ was e))) e
+freed_none n (s ∷ ss) h (suc i) a e = freed_none n ss (λ i a e. h (suc i) a e) i a e
+
+gone_none : (l : Lender) (n : Link) → HeldBy l.slots n → HeldByNone (gone l n).lender.slots
+gone_none l n h = settle_none (record l { slots = map (freed n) l.slots; peers = without_peer n l.peers; round = option_map (left n l.slots) l.round }) (due (option_map (left n l.slots) l.round)) (freed_none n l.slots h)
+  where
+    settle_none : (l : Lender) (o : Option ℕ) → HeldByNone l.slots → HeldByNone (settle_with l o).lender.slots
+    settle_none l None h = h
+    settle_none l (Some set) h = λ i a e. h i a ((part_marked set l.slots).kept i a e)
+
+restart_none : (n : ℕ) → HeldByNone (replicate n Free)
+restart_none zero i a e = cc
+restart_none (suc n) zero a e = cc
+restart_none (suc n) (suc i) a e = restart_none n i a e
+
+lodges_none : (c : Channel) → HeldByNone c.lender.slots → Lodges c
+lodges_none c none i a e = absurd (none i a e)
+
+lodges_by : (c : Channel) → c.lender_gone ≡ false → HeldBy c.lender.slots c.number → Lodges c
+lodges_by c stands h i a e = (stands, h i a e)
+
+by_lodges : (c : Channel) → Lodges c → HeldBy c.lender.slots c.number
+by_lodges c h i a e = (h i a e).1
+
+lodges_give : (ch : Channel) → Lodges ch → Lodges (given ch).1
+lodges_give ch h = cond_both ch.lender_gone _ _ (λ (x : Gave × Channel). Lodges x.1) (λ _. h) (λ stands. from stands ch.to_lender.parcels)
+  where
+    from : ch.lender_gone ≡ false → (ps : List Parcel) → Lodges (given_from ch ps).1
+    from stands [] = cond_both ch.to_lender.ended _ _ (λ (x : Gave × Channel). Lodges x.1) (λ _. lodges_none (abandoned ch) (gone_none ch.lender ch.number (by_lodges ch h))) (λ _. h)
+    from stands (p ∷ ps) =
+        cond_both (may_send ch.lender ch.number p.msg) _ _ (λ (x : Gave × Channel). Lodges x.1)
+        (λ may. lodges_by (delivered (record ch { to_lender = record ch.to_lender { parcels = ps } }) (took ch.lender ch.number p.msg p.page)) stands (took_held p may))
+        (λ _. lodges_none (abandoned (record ch { to_lender = record ch.to_lender { parcels = ps } })) (gone_none ch.lender ch.number (by_lodges ch h)))
+      where
+        took_held : (p : Parcel) → may_send ch.lender ch.number p.msg ≡ true → HeldBy (took ch.lender ch.number p.msg p.page).lender.slots ch.number
+        took_held p may = cond_both (may_send ch.lender ch.number p.msg) _ _ (λ (x : Turn). HeldBy x.lender.slots ch.number) (λ _. held_serve ch.lender ch.number p.msg p.page (by_lodges ch h)) (λ _. by_lodges ch h)
+
+-- a link that is made finds no slot held
+pub connected_none : (ch : Channel) (n : Link) → Lodges ch → HeldByNone (arrive (let_go ch) n).slots
+connected_none ch n h = cond_both (has_room (let_go ch)) _ _ (λ (x : Lender). HeldByNone x.slots) (λ _. none) (λ _. none)
+  where
+    none : HeldByNone (let_go ch).slots
+    none = cond_both ch.lender_gone _ _ (λ (x : Lender). HeldByNone x.slots) (λ left i a e. both_ways ch.lender_gone (h i a e).0 left) (λ _. gone_none ch.lender ch.number (by_lodges ch h))
+
+lodges_call : (ch : Channel) (c : FabricCall) → Lodges ch → Lodges (on_channel ch c).1
+lodges_call ch (Connect m n) h = lodges_none (on_channel ch (Connect m n)).1 (connected_none ch n h)
+lodges_call ch (Send m p) h = cond_both ch.device_gone _ _ (λ (x : Sent × Channel). Lodges x.1) (λ _. h) (λ _. h)
+lodges_call ch (Take m) h = cond_both ch.device_gone _ _ (λ (x : Handed × Channel). Lodges x.1) (λ _. h) (λ _. from ch.to_device.parcels)
+  where
+    from : (ps : List Parcel) → Lodges (taken_from ch ps).1
+    from [] = cond_both ch.to_device.ended _ _ (λ (x : Handed × Channel). Lodges x.1) (λ _. h) (λ _. h)
+    from (p ∷ ps) = h
+lodges_call ch (End m) h = h
+lodges_call ch (Give m) h = lodges_give ch h
+lodges_call ch (Cut m a b) h = h
+lodges_call ch (Crash m) h = lodges_none (crashed ch) (λ i a e. restart_none ch.lender.lending.spec.slots i a (crashed_slots i a e))
+  where
+    crashed_slots : (i : ℕ) (a : Tenant) → tenant (slot_in (crashed ch).lender.slots i) ≡ Some a → tenant (slot_in (replicate ch.lender.lending.spec.slots Free) i) ≡ Some a
+    crashed_slots i a = cond_both ch.lender_gone _ _ (λ (x : Channel). tenant (slot_in x.lender.slots i) ≡ Some a → tenant (slot_in (replicate ch.lender.lending.spec.slots Free) i) ≡ Some a) (λ _ e. e) (λ _ e. e)
+lodges_call ch (Host m used word) h = λ i a e. h i a (hosted_slots i a e)
+  where
+    hosted_slots : (i : ℕ) (a : Tenant) → tenant (slot_in (host ch.lender used word).lender.slots i) ≡ Some a → tenant (slot_in ch.lender.slots i) ≡ Some a
+    hosted_slots i a = cond_both (opens (measured ch.lender used)) _ _ (λ (x : Turn). tenant (slot_in x.lender.slots i) ≡ Some a → tenant (slot_in ch.lender.slots i) ≡ Some a) (λ _ e. e) (λ _ e. e)
+
+lodges_move : (f : Harbor) (c : FabricCall) (r : FabricAnswer c) (g : Harbor) → Moves f c r g → AllLodge f → AllLodge g
+lodges_move f c r g moved all l within =
+    let Q : FabricAnswer c × Harbor → Type 0 = λ x. Lodges (channel_of x.1 l) in
+    let size : length g.channels ≡ length f.channels = ap (λ (o : FabricOf). o.lenders) (moves_keep_of f c r g moved) in
+    subst Q moved.1 (through Lodges f c l moved.0 (all l (subst (λ n. l.0 < n) size within)) (λ _ h. lodges_call (channel_of f (lender_of c)) c h))
 
 -- lenders as they are made
 
@@ -126,10 +316,26 @@ made_reached h o made l within =
     let is = All-get_or (λ c. c ≡ new_channel h.sizes c.lender.lending.spec) h.channels l.0 (no_channel h.sizes) within made.channels in
     record { lending = lending_for h.sizes (channel_of h l).lender.lending.spec; calls = []; is = ap (λ (c : Channel). c.lender) is }
 
-pub lenders_keep : LendersKeep
-lenders_keep = record {
-  made = λ h o made. (made_slots h o made, made_reached h o made);
-  whole = by_move AreSlots slots_each;
-  reached = by_move IsReached reached_each;
-  owned = λ h all l within. are_owned (channel_of h l).lender (all l within);
+made_at : (h : Harbor) (o : FabricOf) → IsFresh h o → (l : LenderNo) → l.0 < length h.channels → channel_of h l ≡ new_channel h.sizes (channel_of h l).lender.lending.spec
+made_at h o made l within = All-get_or (λ c. c ≡ new_channel h.sizes c.lender.lending.spec) h.channels l.0 (no_channel h.sizes) within made.channels
+
+made_sound : (h : Harbor) (o : FabricOf) → IsFresh h o → AreSound h
+made_sound h o made = record {
+  whole = made_slots h o made;
+  reached = made_reached h o made;
+  untold = λ l within. subst (λ (c : Channel). AsksUntold c.lender.round c.lender.slots) (sym (made_at h o made l within)) tt;
+  lodged = λ l within. subst Lodges (sym (made_at h o made l within)) (lodges_none (new_channel h.sizes (channel_of h l).lender.lending.spec) (restart_none (channel_of h l).lender.lending.spec.slots));
 }
+
+moved_sound : (f : Harbor) (c : FabricCall) (r : FabricAnswer c) (g : Harbor) → Moves f c r g → AreSound f → AreSound g
+moved_sound f c r g moved sound =
+    let both = by_move ReachedUntold untold_each f c r g moved (λ l within. (sound.reached l within, sound.untold l within)) in
+    record {
+      whole = by_move AreSlots slots_each f c r g moved sound.whole;
+      reached = λ l within. (both l within).0;
+      untold = λ l within. (both l within).1;
+      lodged = lodges_move f c r g moved sound.lodged;
+    }
+
+pub lenders_keep : LendersKeep
+lenders_keep = record { made = made_sound; sound = moved_sound; owned = λ h sound l within. are_owned (channel_of h l).lender (sound.reached l within) }

@@ -14,3 +14,5 @@ pub mod Takes
 pub mod Harbors
 pub mod Moves
 pub mod Newest
+pub mod InTurn
+pub mod Notices

@@ -93,7 +93,7 @@ module _ {D : Type 0} (disk : DiskMeaning D) (follows : FollowsItsMoves disk) (l
   far_joins : (d : Device) (k : D) (f g : Harbor) (c : FabricCall) (r : FabricAnswer c) → IsFar There c → Agree d k f → AreSound f → AllJoined o.lenders d f → harbor.Moves f c r g → AllJoined o.lenders d g
   far_joins d k f g c r (far_give {l = l} may) agree whole all moved =
       joins_through o.lenders d d f g (Give l) r moved (λ m other. sees_itself m d) (all_but l o.lenders d f all)
-      (λ within up. joined_given d.sizes d.history d.calls d.remote.slabs d.remote.bits (ring_of d.remote.links l) l (channel_of f l) (all l within up) moved.0.channel.sound (whole.0 l moved.0.range) (clear_of (KeepsAt f) (OwesAt f) d.sizes o.lenders d.history d.calls d.remote l (serves_at d k f agree)))
+      (λ within up. joined_given d.sizes d.history d.calls d.remote.slabs d.remote.bits (ring_of d.remote.links l) l (channel_of f l) (all l within up) moved.0.channel.sound (whole.whole l moved.0.range) (clear_of (KeepsAt f) (OwesAt f) d.sizes o.lenders d.history d.calls d.remote l (serves_at d k f agree)))
   far_joins d k f g c r (far_cut {l = l} {a = a} {b = b} may) agree whole all moved =
       joins_through o.lenders d d f g (Cut l a b) r moved (λ m other. sees_itself m d) (all_but l o.lenders d f all) (λ within up. joined_cut d.sizes d.history d.calls d.remote.slabs d.remote.bits (ring_of d.remote.links l) l (channel_of f l) a b (all l within up))
   far_joins d k f g c r (far_crash {l = l} may) agree whole all moved =
@@ -105,7 +105,7 @@ module _ {D : Type 0} (disk : DiskMeaning D) (follows : FollowsItsMoves disk) (l
   alone d d' f sees h = (h.0, joins_alone o.lenders d d' f sees h.1)
 
   whole_on : (f g : Harbor) (c : FabricCall) (r : FabricAnswer c) → harbor.Moves f c r g → AreSound f → AreSound g
-  whole_on f g c r moved sound = (lenders_keep.whole f c r g moved sound.0, lenders_keep.reached f c r g moved sound.1)
+  whole_on f g c r moved sound = lenders_keep.sound f c r g moved sound
 
   pub each_joins : EachKeepsWhere disk.moves harbor.Moves (Move There) Agrees JoinedAt
   each_joins x asked y k k' f f' (enters {d = d} {c = c} {p = p} {bytes = bytes} outs) stay agree h = alone d (enter d c p bytes) f (λ l. sees_enter l d c p bytes) h

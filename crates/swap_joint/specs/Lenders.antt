@@ -13,6 +13,7 @@ use Rattle.swap_lender.specs.Calls.{Call, run, IsOwned, AsksStaying}
 use Rattle.swap_link.specs.Fits.{IsSound}
 use Rattle.swap_link.specs.Harbor.{Harbor, Moves, channel_of, IsFresh}
 use Rattle.swap_joint.specs.Seats.{HasSeat, AreSlots, is_done}
+use Rattle.swap_joint.specs.Turn.{AsksUntold, Lodges}
 
 -- a slot that is lent is had by the next lease, and a slot stays a link's, by its lease and for its slab, through each
 -- message that is served but the one that gives it back, and through the lender's own measure of its host
@@ -34,9 +35,19 @@ pub record IsReached (l : Lender) : Type 0 where
 abbrev pub AreReached : Harbor → Type 0
 AreReached h = (l : LenderNo) → l.0 < length h.channels → IsReached (channel_of h l).lender
 
--- the lenders by themselves: as many slots as their specs say, and what calls made of them
-abbrev pub AreSound : Harbor → Type 0
-AreSound h = AreWhole h × AreReached h
+abbrev pub AllUntold : Harbor → Type 0
+AllUntold h = (l : LenderNo) → l.0 < length h.channels → AsksUntold (channel_of h l).lender.round (channel_of h l).lender.slots
+
+abbrev pub AllLodge : Harbor → Type 0
+AllLodge h = (l : LenderNo) → l.0 < length h.channels → Lodges (channel_of h l)
+
+-- the lenders by themselves: they have the slots of their specs and are what calls made of them; no slot that a round
+-- asks was told to go; and they hold slots for their present links alone
+pub record AreSound (h : Harbor) : Type 0 where
+  pub whole : AreWhole h
+  pub reached : AreReached h
+  pub untold : AllUntold h
+  pub lodged : AllLodge h
 
 -- no two held slots of a lender have one lease, or one link and slab, and an open round waits for slots that stay
 pub record AreOwned (l : Lender) : Type 0 where
@@ -46,9 +57,8 @@ pub record AreOwned (l : Lender) : Type 0 where
 abbrev pub AllOwned : Harbor → Type 0
 AllOwned h = (l : LenderNo) → l.0 < length h.channels → AreOwned (channel_of h l).lender
 
--- lenders as they are made are whole and reached, every call of a harbor leaves them so, and then they are owned
+-- lenders as they are made are sound, every call of a harbor leaves them so, and then they are owned
 pub record LendersKeep : Type 0 where
-  pub made : (h : Harbor) (o : FabricOf) → IsFresh h o → AreWhole h × AreReached h
-  pub whole : (f : Harbor) (c : FabricCall) (r : FabricAnswer c) (g : Harbor) → Moves f c r g → AreWhole f → AreWhole g
-  pub reached : (f : Harbor) (c : FabricCall) (r : FabricAnswer c) (g : Harbor) → Moves f c r g → AreReached f → AreReached g
-  pub owned : (h : Harbor) → AreReached h → AllOwned h
+  pub made : (h : Harbor) (o : FabricOf) → IsFresh h o → AreSound h
+  pub sound : (f : Harbor) (c : FabricCall) (r : FabricAnswer c) (g : Harbor) → Moves f c r g → AreSound f → AreSound g
+  pub owned : (h : Harbor) → AreSound h → AllOwned h

@@ -8,3 +8,4 @@ pub mod Stored
 pub mod Newest
 pub mod Owned
 pub mod Sends
+pub mod Turn

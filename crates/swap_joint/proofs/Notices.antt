@@ -1,0 +1,162 @@
+-- What a lender says in a turn may be taken in turn, after what is under way.
+use Rattle.std.proofs.Common.{◌≡◌, ℕ, ◌+◌, ◌<◌, ◌≤◌, ◌⊎◌, inl, inr, Bool, true, false, cond, ◌&&◌, zero, suc, List, [], ◌∷◌, ◌++◌, get_or, set, map, refl, sym, ap, ◌∙◌, subst, arith, length, eqb, Option, None, Some, get_or-set_same, get_or-set_other}
+use Rattle.std.specs.Prelude.{◌==◌, nat_lt, not, min, option_map, bit_and}
+use Rattle.std.specs.Int.{bit_not, w64}
+use Rattle.std.specs.List.{filter, range_with_len, list_any}
+use Rattle.std.proofs.lemmas.Bool.{cond_both, and_parts, both_ways, cases_eq, cases_lt, ltb-true, cond-false}
+use Rattle.swap_base.specs.declared.Slab.{Slab}
+use Rattle.swap_base.specs.declared.Link.{Link}
+use Rattle.swap_base.specs.declared.Lease.{Lease}
+use Rattle.swap_wire.specs.declared.Msg.{Msg}
+use Rattle.swap_wire.specs.declared.Msg.TheVariants as msg
+use Rattle.swap_choice.specs.Slots.{has, size}
+use Rattle.swap_choice.specs.Least.{least_of, rank}
+use Rattle.swap_choice.proofs.Ranks.{has-set_of, any-filter, any-filter-out}
+use Rattle.swap_evict.specs.Rounds.{Round, opened, answer, waits_for, waiting, standing, ready}
+use Rattle.swap_evict.proofs.Bits.{has-and}
+use Rattle.swap_choice.proofs.Chosen.{has-zero}
+use Rattle.swap_lender.specs.declared.SlotState.{SlotState}
+use Rattle.swap_lender.specs.declared.SlotState.TheVariants.{Free, Held}
+use Rattle.swap_lender.specs.declared.Notice.TheVariants as notice
+use Rattle.swap_lender.specs.Lender.{Lender, fresh, slot_in, slot_of, is_evicting, is_staying, is_free, is_of, first_where, lends}
+use Rattle.swap_lender.specs.Table.{Turn, tell_slot, told, mark_slot, marked, settle_with, due, serve, took, lend, may_send, host, measured, opens, open_round, asked, to_evict, freed, left, without_peer, gone, arrive, has_room, restart}
+use Rattle.swap_lender.specs.Calls.{Tenant, tenant, Host as Hosts, AsksStaying, IsLive}
+use Rattle.swap_link.specs.Fits.{IsSound, lease_of, lease_at}
+use Rattle.swap_link.specs.Lane.{Lane}
+use Rattle.swap_link.specs.Channel.{forwarded}
+use Rattle.swap_joint.specs.Order.{is_request}
+use Rattle.swap_joint.specs.Lenders.{IsReached}
+use Rattle.swap_joint.specs.Turn.{After, InTurn, Stays, AsksUntold}
+use Rattle.swap_joint.proofs.Lenders.{reached_more}
+use Rattle.swap_joint.proofs.InTurn.{Ready, Differ, stays_free, asks_turn, asks_after, evicts_turn, evicts_after}
+
+-- the slots that a round gives are among those that it asked
+
+both_first : (a b : Bool) → (a && b) ≡ true → a ≡ true
+both_first true b e = refl
+both_first false b e = cc
+
+least_among : (rates : List ℕ) (among count i : ℕ) → has (least_of rates among count) i ≡ true → has among i ≡ true
+unfolding least_of
+least_among rates among count i e = elim (cases_lt i 64) [
+  | inl within ↦ both_first (has among i) _ (sym (any-filter test 0 64 i (omega arith) within) ∙ found)
+  | inr past ↦ absurd (both_ways (list_any (λ x. eqb i x) (filter test (range_with_len 0 64))) (any-filter-out test 0 64 i (inr past)) found)
+]
+  where
+    test : ℕ → Bool
+    test slot = has among slot && nat_lt (rank rates among slot) count
+
+    found : list_any (λ x. eqb i x) (filter test (range_with_len 0 64)) ≡ true
+    found = has-set_of (filter test (range_with_len 0 64)) i ∙ e
+
+given_asked : (r : Round) (set i : ℕ) → ready r ≡ Some set → has set i ≡ true → has r.asked i ≡ true
+given_asked r set i is e = go (waiting r == 0) is
+  where
+    standing_asked : has (standing r) i ≡ true → has r.asked i ≡ true
+    standing_asked h = both_first (has r.asked i) (has r.answered i) (sym (has-and r.asked r.answered i) ∙ both_first (has (bit_and r.asked r.answered) i) _ (sym (has-and (bit_and r.asked r.answered) (bit_not w64 r.gone) i) ∙ h))
+
+    go : (b : Bool) → cond b (Some (least_of r.values (standing r) (min r.count (size (standing r))))) None ≡ Some set → has r.asked i ≡ true
+    go true same =
+        let one : least_of r.values (standing r) (min r.count (size (standing r))) ≡ set = cc in
+        standing_asked (least_among r.values (standing r) (min r.count (size (standing r))) i (subst (λ s. has s i ≡ true) (sym one) e))
+    go false same = cc
+
+due_asked : (o : Option Round) (slots : List SlotState) (set i : ℕ) → AsksUntold o slots → due o ≡ Some set → has set i ≡ true → is_evicting (slot_in slots i) ≡ false
+due_asked None slots set i h is e = cc
+due_asked (Some r) slots set i h is e = h i (given_asked r set i is e)
+
+-- slots that differ by their leases
+differ_of : (l : Lender) → IsSound l → Differ l.slots
+differ_of l sound i j n m t u k o e f a b same = sound.differ i j k.0 (leased i n t k e a) (leased j m u o f b ∙ ap (λ x. Some x) (sym same))
+  where
+    leased : (i : ℕ) (n : Link) (t : Slab) (k : Lease) (e : Bool) → slot_in l.slots i ≡ Held n t k e → lease_at l.slots i ≡ Some k.0
+    leased i n t k e is = ap lease_of is
+
+-- a slot that stays once some were marked was there before, and isn't of the set
+unmarked : (set from : ℕ) (slots : List SlotState) (i : ℕ) (n : Link) (t : Slab) (k : Lease) → slot_in (marked set from slots) i ≡ Held n t k false → (slot_in slots i ≡ Held n t k false) × (has set (from + i) ≡ false)
+unmarked set from [] i n t k e = cc
+unmarked set from (s ∷ ss) zero n t k e = go (has set from) refl s e
+  where
+    evicting_of : SlotState → Bool
+    evicting_of Free = false
+    evicting_of (Held link slab lease evicting) = evicting
+
+    no_told : true ≡ false → ⊥
+    no_told e = cc
+
+    go : (b : Bool) → has set from ≡ b → (x : SlotState) → mark_slot b x ≡ Held n t k false → (x ≡ Held n t k false) × (has set (from + 0) ≡ false)
+    go false out x e = (e, subst (λ m. has set m ≡ false) (omega arith) out)
+    go true out Free e = cc
+    go true out (Held m u j told) e = absurd (no_told (ap evicting_of e))
+unmarked set from (s ∷ ss) (suc i) n t k e = let rest = unmarked set (from + 1) ss i n t k e in (rest.0, subst (λ m. has set m ≡ false) (omega arith) rest.1)
+
+-- a round is closed, or stays
+pub settle_turns : (M : Lease → Type 0) (n : Link) (l : Lender) (o : Option ℕ) (b : Lane) → Differ l.slots → ((set i : ℕ) → o ≡ Some set → has set i ≡ true → is_evicting (slot_in l.slots i) ≡ false) → InTurn M b.parcels → Stays M l.slots b
+    → InTurn M (forwarded n b (settle_with l o).parcels).parcels × Stays M (settle_with l o).lender.slots (forwarded n b (settle_with l o).parcels)
+settle_turns M n l None b differ untold h stays = (h, stays)
+settle_turns M n l (Some set) b differ untold h stays = (
+  evicts_turn M n set 0 l.slots b differ h ready_,
+  λ open_ i m t k held.
+      let was = unmarked set 0 l.slots i m t k held in
+      evicts_after M n set 0 l.slots b k (λ j m' t' k' e inside at same.
+      let one : j ≡ i = differ j i m' m t' t k' k e false at was.0 same in
+      both_ways (has set i) (subst (λ x. has set x ≡ false) (omega arith) was.1) (subst (λ x. has set x ≡ true) one (subst (λ x. has set x ≡ true) (omega arith) inside))) (λ e. stays e i m t k was.0) open_,
+)
+  where
+    evicting_is : (x : SlotState) (m : Link) (t : Slab) (k : Lease) (e : Bool) → x ≡ Held m t k e → is_evicting x ≡ false → x ≡ Held m t k false
+    evicting_is x m t k e is off = is ∙ ap (λ b. Held m t k b) (sym (ap is_evicting is) ∙ off)
+
+    ready_ : Ready M set 0 l.slots b
+    ready_ open_ i m t k e inside held = stays open_ i m t k (evicting_is (slot_in l.slots i) m t k e held (untold set i refl (subst (λ x. has set x ≡ true) (omega arith) inside)))
+
+-- a message is served that is no request
+pub serve_turns : (M : Lease → Type 0) (n : Link) (l : Lender) (m : Msg) (page : List ℕ) (b : Lane) → is_request m ≡ false → IsSound l → AsksUntold l.round l.slots → InTurn M b.parcels → Stays M l.slots b
+    → InTurn M (forwarded n b (serve l n m page).parcels).parcels × Stays M (serve l n m page).lender.slots (forwarded n b (serve l n m page).parcels)
+serve_turns M n l (msg.Query slab) page b plain sound untold h stays = cc
+serve_turns M n l (msg.Borrow slab) page b plain sound untold h stays = cc
+serve_turns M n l (msg.Write lease place) page b plain sound untold h stays = cc
+serve_turns M n l (msg.Read lease place) page b plain sound untold h stays = cc
+serve_turns M n l (msg.Rates lease value) page b plain sound untold h stays =
+    settle_turns M n (record l { round = option_map (answer (slot_of l n lease) value) l.round }) (due (option_map (answer (slot_of l n lease) value) l.round)) b (differ_of l sound)
+    (λ set i is inside. due_asked (option_map (answer (slot_of l n lease) value) l.round) l.slots set i (answered l.round untold) is inside) h stays
+  where
+    answered : (o : Option Round) → AsksUntold o l.slots → AsksUntold (option_map (answer (slot_of l n lease) value) o) l.slots
+    answered None u = tt
+    answered (Some r) u = u
+serve_turns M n l (msg.Done lease) page b plain sound untold h stays = (h, stays_free M l.slots b (slot_of l n lease) stays)
+serve_turns M n l (msg.Hello version page_bytes pages_per_slab) page b plain sound untold h stays = (h, stays)
+serve_turns M n l _ page b plain sound untold h stays = (h, stays)
+
+-- the slots that a new round asks stay
+asks_stay : (l : Lender) (used word : ℕ) → IsReached l → ((m : Lender) → IsReached m → AsksStaying m.round m.slots) → host l used word ≡ open_round (measured l used) (asked (measured l used) word) → (i : ℕ) → has (asked (measured l used) word) i ≡ true → is_staying (slot_in l.slots i) ≡ true
+asks_stay l used word reached live is i inside =
+    let P : Turn → Type 0 = λ t. AsksStaying t.lender.round t.lender.slots in
+    let alive : IsLive (opened (asked (measured l used) word) (to_evict (measured l used))) l.slots = subst P is (live (host l used word).lender (reached_more l (Hosts used word) reached)) in
+    alive.waits i (all_three (has (asked (measured l used) word) i) (has 0 i) (has 0 i) inside (has-zero i) (has-zero i))
+  where
+    all_three : (a b c : Bool) → a ≡ true → b ≡ false → c ≡ false → (a && not b && not c) ≡ true
+    all_three a b c e f g = cc
+
+-- a host is measured
+pub host_turns : (M : Lease → Type 0) (n : Link) (l : Lender) (used word : ℕ) (b : Lane) → IsReached l → ((m : Lender) → IsReached m → AsksStaying m.round m.slots) → InTurn M b.parcels → Stays M l.slots b
+    → InTurn M (forwarded n b (host l used word).parcels).parcels × Stays M (host l used word).lender.slots (forwarded n b (host l used word).parcels)
+host_turns M n l used word b reached live h stays = cond_both (opens (measured l used)) _ _ (λ (t : Turn). (host l used word ≡ t) → InTurn M (forwarded n b t.parcels).parcels × Stays M t.lender.slots (forwarded n b t.parcels)) (λ _ is. opens_round is) (λ _ is. (h, stays)) refl
+  where
+    now : Lender
+    now = measured l used
+
+    set : ℕ
+    set = asked (measured l used) word
+
+    opens_round : host l used word ≡ open_round (measured l used) (asked (measured l used) word) → InTurn M (forwarded n b (told notice.AskRates (asked (measured l used) word) 0 l.slots)).parcels × Stays M l.slots (forwarded n b (told notice.AskRates (asked (measured l used) word) 0 l.slots))
+    opens_round is = (
+      asks_turn M n (asked (measured l used) word) 0 l.slots b h (λ open_ i m t k e inside held. stays open_ i m t k (staying_is (slot_in l.slots i) m t k e held (all_stay is i (subst (λ x. has (asked (measured l used) word) x ≡ true) (omega arith) inside)))),
+      λ open_ i m t k held. asks_after M n (asked (measured l used) word) 0 l.slots b k (λ e. stays e i m t k held) open_,
+    )
+      where
+        staying_is : (x : SlotState) (m : Link) (t : Slab) (k : Lease) (e : Bool) → x ≡ Held m t k e → is_staying x ≡ true → x ≡ Held m t k false
+        staying_is x m t k true is at = absurd (both_ways (is_staying x) (ap is_staying is) at)
+        staying_is x m t k false is at = is
+
+        all_stay : host l used word ≡ open_round (measured l used) (asked (measured l used) word) → (i : ℕ) → has (asked (measured l used) word) i ≡ true → is_staying (slot_in l.slots i) ≡ true
+        all_stay is i inside = asks_stay l used word reached live is i inside
