@@ -16,3 +16,4 @@ pub mod Moves
 pub mod Newest
 pub mod InTurn
 pub mod Notices
+pub mod Turned

@@ -86,7 +86,7 @@ module _ {D : Type 0} (disk : DiskMeaning D) (follows : FollowsItsMoves disk) (l
   abbrev Agree : Device → D → Harbor → Type 0
   Agree = keep.Agree disk follows harbor_meaning laws T o far_may bytes_may
 
-  serves_at : (d : Device) (k : D) (h : Harbor) → Agree d k h → ServesAt o.lenders d h
+  pub serves_at : (d : Device) (k : D) (h : Harbor) → Agree d k h → ServesAt o.lenders d h
   serves_at d k h agree = subst (λ (x : FabricOf). ServesAt x.lenders d h) agree.is agree.fits.serves
 
   -- the far side moves
@@ -143,7 +143,7 @@ module _ {D : Type 0} (disk : DiskMeaning D) (follows : FollowsItsMoves disk) (l
   each_joins x asked y k k' f f' (far {d = d} {c = c} {r = r} one) (by_fabric moved) agree h = (whole_on f f' c r moved h.0, far_joins d k f f' c r one agree h.0 h.1 moved)
 
   -- no send finds a link down
-  present_at : (d : Device) (k : D) (f : Harbor) (l : Lender) → Agree d k f → AllJoined o.lenders d f → is_up d.remote.links l ≡ true → (channel_of f l).device_gone ≡ false
+  pub present_at : (d : Device) (k : D) (f : Harbor) (l : Lender) → Agree d k f → AllJoined o.lenders d f → is_up d.remote.links l ≡ true → (channel_of f l).device_gone ≡ false
   present_at d k f l agree all up = (all l (((serves_at d k f agree).link l).lender up) up).present
 
   pub each_finds_up : (x : Speaker) (asked : Asked) (y : Speaker) (k k' : D) (f f' : Harbor) → Move There x asked y → PortsGo disk.moves harbor.Moves asked k f k' f' → Agrees x k f × JoinedAt x k f → FindsUp asked

@@ -1,14 +1,15 @@
 -- What a lender says in a turn may be taken in turn, after what is under way.
-use Rattle.std.proofs.Common.{◌≡◌, ℕ, ◌+◌, ◌<◌, ◌≤◌, ◌⊎◌, inl, inr, Bool, true, false, cond, ◌&&◌, zero, suc, List, [], ◌∷◌, ◌++◌, get_or, set, map, refl, sym, ap, ◌∙◌, subst, arith, length, eqb, Option, None, Some, get_or-set_same, get_or-set_other}
+use Rattle.std.proofs.Common.{◌≡◌, ℕ, ◌+◌, ◌<◌, ◌≤◌, ◌⊎◌, inl, inr, Bool, true, false, cond, ◌&&◌, zero, suc, List, [], ◌∷◌, ◌++◌, get_or, set, map, refl, sym, ap, ◌∙◌, subst, arith, length, eqb, eq-eqb, Option, None, Some, get_or-set_same, get_or-set_other}
 use Rattle.std.specs.Prelude.{◌==◌, nat_lt, not, min, option_map, bit_and}
 use Rattle.std.specs.Int.{bit_not, w64}
 use Rattle.std.specs.List.{filter, range_with_len, list_any}
-use Rattle.std.proofs.lemmas.Bool.{cond_both, and_parts, both_ways, cases_eq, cases_lt, ltb-true, cond-false}
+use Rattle.std.proofs.lemmas.Bool.{cond_both, and_parts, both_ways, cases_eq, cases_lt, ltb-true, cond-true, cond-false}
 use Rattle.swap_base.specs.declared.Slab.{Slab}
 use Rattle.swap_base.specs.declared.Link.{Link}
 use Rattle.swap_base.specs.declared.Lease.{Lease}
 use Rattle.swap_wire.specs.declared.Msg.{Msg}
 use Rattle.swap_wire.specs.declared.Msg.TheVariants as msg
+use Rattle.swap_wire.specs.Fabric.{Parcel, parcel_of}
 use Rattle.swap_choice.specs.Slots.{has, size}
 use Rattle.swap_choice.specs.Least.{least_of, rank}
 use Rattle.swap_choice.proofs.Ranks.{has-set_of, any-filter, any-filter-out}
@@ -18,17 +19,17 @@ use Rattle.swap_choice.proofs.Chosen.{has-zero}
 use Rattle.swap_lender.specs.declared.SlotState.{SlotState}
 use Rattle.swap_lender.specs.declared.SlotState.TheVariants.{Free, Held}
 use Rattle.swap_lender.specs.declared.Notice.TheVariants as notice
-use Rattle.swap_lender.specs.Lender.{Lender, fresh, slot_in, slot_of, is_evicting, is_staying, is_free, is_of, first_where, lends}
+use Rattle.swap_lender.specs.Lender.{Lender, fresh, slot_in, slot_of, is_evicting, is_staying, is_free, is_of, first_where, free, lends, page_in}
 use Rattle.swap_lender.specs.Table.{Turn, tell_slot, told, mark_slot, marked, settle_with, due, serve, took, lend, may_send, host, measured, opens, open_round, asked, to_evict, freed, left, without_peer, gone, arrive, has_room, restart}
 use Rattle.swap_lender.specs.Calls.{Tenant, tenant, Host as Hosts, AsksStaying, IsLive}
 use Rattle.swap_link.specs.Fits.{IsSound, lease_of, lease_at}
-use Rattle.swap_link.specs.Lane.{Lane}
-use Rattle.swap_link.specs.Channel.{forwarded}
+use Rattle.swap_link.specs.Lane.{Lane, appended}
+use Rattle.swap_link.specs.Channel.{posted, forwarded}
 use Rattle.swap_joint.specs.Order.{is_request}
 use Rattle.swap_joint.specs.Lenders.{IsReached}
 use Rattle.swap_joint.specs.Turn.{After, InTurn, Stays, AsksUntold}
 use Rattle.swap_joint.proofs.Lenders.{reached_more}
-use Rattle.swap_joint.proofs.InTurn.{Ready, Differ, stays_free, asks_turn, asks_after, evicts_turn, evicts_after}
+use Rattle.swap_joint.proofs.InTurn.{Ready, Differ, turn_reply, stays_reply, stays_lent, stays_free, asks_turn, asks_after, evicts_turn, evicts_after}
 
 -- the slots that a round gives are among those that it asked
 
@@ -160,3 +161,31 @@ host_turns M n l used word b reached live h stays = cond_both (opens (measured l
 
         all_stay : host l used word ≡ open_round (measured l used) (asked (measured l used) word) → (i : ℕ) → has (asked (measured l used) word) i ≡ true → is_staying (slot_in l.slots i) ≡ true
         all_stay is i inside = asks_stay l used word reached live is i inside
+
+-- a request is served: its reply comes, and where it lends a slot, the reply names the lease
+posted_own : (n : Link) (b : Lane) (q : Parcel) → posted n b n q ≡ appended b q
+posted_own n b q = cond-true (n.0 == n.0) (appended b q) b (eq-eqb n.0 n.0 refl)
+
+request_turns : (M : Lease → Type 0) (n : Link) (l : Lender) (m : Msg) (page : List ℕ) (b : Lane) → is_request m ≡ true → InTurn M b.parcels → Stays M l.slots b
+    → InTurn M (forwarded n b (serve l n m page).parcels).parcels × Stays M (serve l n m page).lender.slots (forwarded n b (serve l n m page).parcels)
+request_turns M n l (msg.Query slab) page b asks h stays =
+    let q : Parcel = parcel_of (msg.Room slab (free l)) [] in subst (λ (z : Lane). InTurn M z.parcels × Stays M l.slots z) (sym (posted_own n b q)) (turn_reply M b q refl h, stays_reply M l.slots b q refl stays)
+request_turns M n l (msg.Borrow slab) page b asks h stays =
+    cond_both (lends l) _ _ (λ (t : Turn). InTurn M (forwarded n b t.parcels).parcels × Stays M t.lender.slots (forwarded n b t.parcels))
+    (λ _. let q : Parcel = parcel_of (msg.Lent slab (record { 0 = l.next_lease })) [] in
+    let slots : List SlotState = set l.slots (first_where is_free l.slots) (Held n slab (record { 0 = l.next_lease }) false) in
+    subst (λ (z : Lane). InTurn M z.parcels × Stays M slots z) (sym (posted_own n b q)) (turn_reply M b q refl h, stays_lent M l.slots b q (first_where is_free l.slots) n slab (record { 0 = l.next_lease }) refl stays))
+    (λ _. let q : Parcel = parcel_of (msg.Refused slab) [] in subst (λ (z : Lane). InTurn M z.parcels × Stays M l.slots z) (sym (posted_own n b q)) (turn_reply M b q refl h, stays_reply M l.slots b q refl stays))
+request_turns M n l (msg.Write lease place) page b asks h stays =
+    let q : Parcel = parcel_of (msg.Wrote lease place) [] in subst (λ (z : Lane). InTurn M z.parcels × Stays M l.slots z) (sym (posted_own n b q)) (turn_reply M b q refl h, stays_reply M l.slots b q refl stays)
+request_turns M n l (msg.Read lease place) page b asks h stays =
+    let q : Parcel = parcel_of (msg.PageIs lease place) (page_in l.contents (slot_of l n lease) place) in subst (λ (z : Lane). InTurn M z.parcels × Stays M l.slots z) (sym (posted_own n b q)) (turn_reply M b q refl h, stays_reply M l.slots b q refl stays)
+request_turns M n l _ page b asks h stays = cc
+
+pub served_turns : (M : Lease → Type 0) (n : Link) (l : Lender) (m : Msg) (page : List ℕ) (b : Lane) → IsSound l → AsksUntold l.round l.slots → InTurn M b.parcels → Stays M l.slots b
+    → InTurn M (forwarded n b (serve l n m page).parcels).parcels × Stays M (serve l n m page).lender.slots (forwarded n b (serve l n m page).parcels)
+served_turns M n l m page b sound untold h stays = go (is_request m) refl
+  where
+    go : (asks : Bool) → is_request m ≡ asks → InTurn M (forwarded n b (serve l n m page).parcels).parcels × Stays M (serve l n m page).lender.slots (forwarded n b (serve l n m page).parcels)
+    go true asks = request_turns M n l m page b asks h stays
+    go false plain = serve_turns M n l m page b plain sound untold h stays

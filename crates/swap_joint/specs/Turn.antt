@@ -1,5 +1,5 @@
 -- What is under way to a device may be taken, one message after another.
-use Rattle.std.specs.Prelude.{◌≡◌, ◌⊎◌, ℕ, false, true, List, [], ◌∷◌, Option, None, Some}
+use Rattle.std.specs.Prelude.{◌≡◌, ◌⊎◌, ℕ, ◌<◌, false, true, List, [], ◌∷◌, Option, None, Some}
 use Rattle.swap_base.specs.declared.Slab.{Slab}
 use Rattle.swap_base.specs.declared.Link.{Link}
 use Rattle.swap_base.specs.declared.Lender.{Lender}
@@ -16,8 +16,13 @@ use Rattle.swap_lender.specs.declared.SlotState.{SlotState}
 use Rattle.swap_lender.specs.declared.SlotState.TheVariants.{Held}
 use Rattle.swap_lender.specs.Lender.{slot_in, is_evicting}
 use Rattle.swap_lender.specs.Calls.{Tenant, tenant}
+use Rattle.swap_rings.specs.Rings.{is_up}
+use Rattle.swap_table.specs.Device.{Device}
+use Rattle.swap_table.specs.Moves.{Owed, Says, Ends}
 use Rattle.swap_link.specs.Lane.{Lane}
 use Rattle.swap_link.specs.Channel.{Channel}
+use Rattle.swap_link.specs.Keeping.{Unless}
+use Rattle.swap_link.specs.Harbor.{Harbor, channel_of}
 
 -- a slab is mapped at the lender by this lease
 abbrev pub IsMappedAt : List SlabState → Lender → Lease → Type 0
@@ -60,3 +65,21 @@ AsksUntold (Some r) slots = (i : ℕ) → has r.asked i ≡ true → is_evicting
 -- a lender holds slots for its present link alone, and none where its end is gone
 abbrev pub Lodges : Channel → Type 0
 Lodges c = (i : ℕ) (a : Tenant) → tenant (slot_in c.lender.slots i) ≡ Some a → (c.lender_gone ≡ false) × (a.link.0 ≡ c.number.0)
+
+-- a link of a device whose slabs are in these states: what is under way to it may be taken in turn, and where the lender's
+-- end stands, each slot that was not told to go maps its slab then
+pub record Turned (states : List SlabState) (l : Lender) (c : Channel) : Type 0 where
+  pub turn : InTurn (λ k. IsMappedAt states l k) c.to_device.parcels
+  pub stays : Unless c.lender_gone (Stays (λ k. IsMappedAt states l k) c.lender.slots c.to_device)
+
+-- so of each link that is up, but for one that is about to be ended
+abbrev pub AllTurned : ℕ → Device → Harbor → Type 0
+AllTurned n d h = (l : Lender) → l.0 < n → is_up d.remote.links l ≡ true → Turned d.remote.slabs l (channel_of h l)
+
+abbrev pub AllTurnedBut : Lender → ℕ → Device → Harbor → Type 0
+AllTurnedBut m n d h = (l : Lender) → l.0 < n → (l.0 ≡ m.0 → ⊥) → is_up d.remote.links l ≡ true → Turned d.remote.slabs l (channel_of h l)
+
+abbrev pub TurnedOwing : ℕ → Device → Harbor → List Owed → Type 0
+TurnedOwing n d h [] = AllTurned n d h
+TurnedOwing n d h (Says l q ∷ owed) = AllTurned n d h
+TurnedOwing n d h (Ends l ∷ owed) = AllTurnedBut l n d h
