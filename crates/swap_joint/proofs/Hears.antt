@@ -232,7 +232,7 @@ joined_wrote s H cs states states' bits bits' ring l c q qs p e front present t 
     (stored_left s H states bits l c q qs t.one t.left front k)) t.stored) (new_fewer l states states' qs fewer t.loans)
 
 -- a slab is lent: nothing of its pages is under way, and none has its bit set
-lends_reply : (m : Msg) (u : Slab) (k j : Lease) → borrow_reply m ≡ Some (u, Some k) → lends j m ≡ (k.0 == j.0)
+pub lends_reply : (m : Msg) (u : Slab) (k j : Lease) → borrow_reply m ≡ Some (u, Some k) → lends j m ≡ (k.0 == j.0)
 lends_reply (msg.Lent slab lease) u k j e = ap (λ n. n == j.0) (let F : Option (Slab × Option Lease) → ℕ = of_reply in ap F e)
   where
     of_lease : Option Lease → ℕ

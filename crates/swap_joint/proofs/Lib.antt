@@ -17,3 +17,4 @@ pub mod Newest
 pub mod InTurn
 pub mod Notices
 pub mod Turned
+pub mod Lies

@@ -9,3 +9,4 @@ pub mod Newest
 pub mod Owned
 pub mod Sends
 pub mod Turn
+pub mod Lies

@@ -12,13 +12,11 @@ use Rattle.swap_link.specs.Channel.{Channel}
 use Rattle.swap_link.specs.Harbor as harbor
 use Rattle.swap_link.specs.Harbor.{new_channel}
 use Rattle.swap_joint.specs.Owned.{IsLent}
-use Rattle.swap_joint.proofs.Lenders.{lenders_keep}
-use Rattle.swap_joint.proofs.Sends.{new_joins}
 use Rattle.swap_world.specs.Runs.{IsInput}
 use Rattle.swap_world.specs.World.{World, start, reach, next}
 use Rattle.swap_world.proofs.Memory.{drive_meaning, IsSound, sound_known, next_sound, next_step, reach_sound, starts_sound}
 use Rattle.swap_newest.specs.Laws.{AlwaysLent}
-use Rattle.swap_newest.proofs.Runs.{Joined, event_joined, joined_lent}
+use Rattle.swap_newest.proofs.Runs.{Joined, event_joined, joined_lent, starts_joined}
 
 module _ (s : Sizes) (n : ℕ) where
   abbrev Of : FabricOf
@@ -38,12 +36,9 @@ fresh_each s (spec ∷ specs) = (refl, fresh_each s specs)
 starts_fresh : (s : Sizes) (specs : List LenderSpec) → length specs ≤ MOST_LENDERS → harbor.IsFresh (start s specs).harbor (record { sizes = s; lenders = length specs })
 starts_fresh s specs few = record { is = (starts_sound s specs few).of; channels = All-from_recursion (λ (c : Channel). c ≡ new_channel s c.lender.lending.spec) (map (new_channel s) specs) (fresh_each s specs) }
 
-starts_joined : (s : Sizes) (specs : List LenderSpec) → harbor.IsFresh (start s specs).harbor (record { sizes = s; lenders = length specs }) → Joined (length specs) (start s specs).device (start s specs).harbor
-starts_joined s specs fresh = (lenders_keep.made (start s specs).harbor (record { sizes = s; lenders = length specs }) fresh, new_joins (length specs) (length specs) s (start s specs).harbor)
-
 pub always_lent : AlwaysLent
 always_lent s specs is few inputs =
     let first = starts_sound s specs few in
     let w : World = reach (start s specs) is in
     joined_lent drive_meaning drives.follows true (record { sizes = s; lenders = length specs }) w.device w.drive w.harbor (sound_known s (length specs) w (reach_sound s (length specs) (start s specs) is inputs first))
-    (reach_joined s (length specs) (start s specs) is inputs first (starts_joined s specs (starts_fresh s specs few)))
+    (reach_joined s (length specs) (start s specs) is inputs first (starts_joined s (length specs) (start s specs).harbor (starts_fresh s specs few)))

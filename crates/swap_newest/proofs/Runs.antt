@@ -1,5 +1,5 @@
 -- What a device and its lenders in memory agree on holds after every run over any disk.
-use Rattle.std.proofs.Common.{◌≡◌, ℕ, ◌≤◌, Bool, true, List, [], ◌∷◌, length, is_some, refl, sym, ap, ◌∙◌, subst}
+use Rattle.std.proofs.Common.{◌≡◌, ℕ, ◌≤◌, Bool, true, false, List, [], ◌∷◌, length, is_some, refl, sym, ap, ◌∙◌, subst}
 use Rattle.swap_base.specs.declared.Lender.{Lender}
 use Rattle.swap_base.specs.Sizes.{Sizes}
 use Rattle.swap_wire.specs.declared.Seen.{Seen}
@@ -28,10 +28,14 @@ use Rattle.swap_joint.specs.Lenders.{AreSound}
 use Rattle.swap_joint.specs.Owned.{IsLent}
 use Rattle.swap_joint.specs.Sends.{FindsUp}
 use Rattle.swap_joint.specs.Stored.{AllJoined}
+use Rattle.swap_joint.specs.Turn.{AllTurned}
+use Rattle.swap_joint.specs.Lies.{is_lied}
+use Rattle.swap_joint.proofs.Turned as turned
+use Rattle.swap_joint.proofs.Lies.{event_honest, understood}
 use Rattle.swap_joint.proofs.Harbors.{harbor_meaning}
 use Rattle.swap_joint.proofs.Lenders.{lenders_keep}
 use Rattle.swap_joint.proofs.Moves as joint
-use Rattle.swap_joint.proofs.Sends.{new_joins}
+use Rattle.swap_joint.proofs.Sends.{new_joins, new_turned}
 use Rattle.swap_joint.proofs.Newest.{joined_is_newest, joined_have_slots}
 use Rattle.swap_world.specs.Runs.{IsRun, begin, effect, without, polled}
 use Rattle.swap_world.specs.Laws.{Began}
@@ -42,9 +46,9 @@ use Rattle.swap_world.proofs.Parts.{bare, AreParts, round_parts, splits, Splits,
 use Rattle.swap_world.proofs.Steps.{Known, known_range, step_known, run_known}
 use Rattle.swap_newest.specs.Laws.{Holds, HoldsAfterEach}
 
--- the lenders are sound, and each link that is up is joined with its lender
+-- the lenders are sound; each link that is up is joined with its lender, and its messages may be taken in turn
 abbrev pub Joined : ℕ → Device → Harbor → Type 0
-Joined n d h = AreSound h × AllJoined n d h
+Joined n d h = (AreSound h × AllJoined n d h) × AllTurned n d h
 
 module _ {D : Type 0} (disk : DiskMeaning D) (follows : FollowsItsMoves disk) (T : Bool) (o : FabricOf) where
   abbrev pub KnownAt : Device → D → Harbor → Type 0
@@ -54,11 +58,15 @@ module _ {D : Type 0} (disk : DiskMeaning D) (follows : FollowsItsMoves disk) (T
   AgreesAt d = keep.Agrees disk follows harbor_meaning harbor_promises T (of_device d) anyone any
 
   abbrev JoinedFor : Device → Speaker → D → Harbor → Type 0
-  JoinedFor d = joint.JoinedAt disk follows harbor_promises T (of_device d) anyone any
+  JoinedFor d s k h = joint.JoinedAt disk follows harbor_promises T (of_device d) anyone any s k h × turned.TurnedAt disk follows harbor_promises T (of_device d) anyone any s k h
 
   each_both : (d : Device) → EachKeeps disk.moves harbor.Moves (Move (there d)) (λ s k h. AgreesAt d s k h × JoinedFor d s k h)
-  each_both d =
-      beside (Move (there d)) disk.moves harbor.Moves (AgreesAt d) (JoinedFor d) (keep.each_keeps disk follows harbor_meaning harbor_promises T (of_device d) anyone any) (joint.each_joins disk follows harbor_promises T (of_device d) anyone any)
+  each_both d x asked y k k' h h' move went before =
+      let J : Speaker → D → Harbor → Type 0 = joint.JoinedAt disk follows harbor_promises T (of_device d) anyone any in
+      let first : AgreesAt d y k' h' × J y k' h' =
+      beside (Move (there d)) disk.moves harbor.Moves (AgreesAt d) J (keep.each_keeps disk follows harbor_meaning harbor_promises T (of_device d) anyone any) (joint.each_joins disk follows harbor_promises T (of_device d) anyone any) x asked y k k' h h' move went (before.0, before.1.0)
+      in
+      (first.0, (first.1, turned.each_turned disk follows harbor_promises T (of_device d) anyone any x asked y k k' h h' move went (before.0, before.1.0) before.1.1))
 
   -- along a program that goes by moves
   goes_joined : {R : Type 0} (d d' : Device) (r : R) (p : Prog (Device × R)) (k k' : D) (h h' : Harbor) → Goes (Move (there d)) (λ (a : Device × R) s. s ≡ quiet a.0) (quiet d) p → KnownAt d k h → Joined o.lenders d h → Along disk.moves harbor.Moves p k h k' h' (d', r) → Joined o.lenders d' h'
@@ -100,13 +108,23 @@ module _ {D : Type 0} (disk : DiskMeaning D) (follows : FollowsItsMoves disk) (T
       let P : Speaker → D → Harbor → Type 0 = λ s k h. AgreesAt d s k h × JoinedFor d s k h in
       let agree : AgreesAt d (quiet d) k h = record { fits = record { disk = known.agree.0.disk; serves = known.agree.0.serves }; is = refl; of_f = known.agree.1 } in
       let first : JoinedFor d (quiet d) k h = subst (λ (x : FabricOf). Joined x.lenders d h) (sym known.is) joined in
-      Goes-asks (Move (there d)) disk.moves harbor.Moves P (each_both d) FindsUp (joint.each_finds_up disk follows harbor_promises T (of_device d) anyone any) _ k h (walk.happens_fares (there d) d page e (names_there d.sizes d.lenders anyone any d page e range (hands_any page e))) (agree, first)
+      Goes-asks (Move (there d)) disk.moves harbor.Moves P (each_both d) FindsUp (λ x asked y k k' h h' move went before. joint.each_finds_up disk follows harbor_promises T (of_device d) anyone any x asked y k k' h h' move went (before.0, before.1.0)) _ k h (walk.happens_fares (there d) d page e (names_there d.sizes d.lenders anyone any d page e range (hands_any page e))) (agree, first)
+
+  -- no message that an event takes is one that its lender may not send
+  honest_next : (d : Device) (k : D) (h : Harbor) (i : Input) (s : Seen) (d' : Device) (k' : D) (h' : Harbor) → KnownAt d k h → Joined o.lenders d h → IsStep disk.moves harbor.Moves d k h i s d' k' h' → is_lied s ≡ false
+  honest_next d k h i s d' k' h' known joined step =
+      let here : Joined d.lenders d h = subst (λ (x : FabricOf). Joined x.lenders d h) (sym known.is) joined in
+      event_honest disk.moves d i.page i.event k h s (understood d.lenders d h known.agree.0.serves here.0.1 here.1) (d', k', h', step)
 
 -- what is joined is lent
 pub joined_lent : {D : Type 0} (disk : DiskMeaning D) (follows : FollowsItsMoves disk) (T : Bool) (o : FabricOf) (d : Device) (k : D) (h : Harbor) → KnownAt disk follows T o d k h → Joined o.lenders d h → IsLent d h
 joined_lent disk follows T o d k h known joined =
     let here : Joined d.lenders d h = subst (λ (x : FabricOf). Joined x.lenders d h) (sym known.is) joined in
-    record { newest = joined_is_newest d.lenders d h here.1 known.agree.0.serves; owned = record { slots = lenders_keep.owned h here.0.1; slabs = joined_have_slots d.lenders d h here.1 known.agree.0.serves } }
+    record { newest = joined_is_newest d.lenders d h here.0.1 known.agree.0.serves; owned = record { slots = lenders_keep.owned h here.0.0; slabs = joined_have_slots d.lenders d h here.0.1 known.agree.0.serves } }
+
+-- a device as it is made, over lenders as they are made
+pub starts_joined : (s : Sizes) (n : ℕ) (h : Harbor) → harbor.IsFresh h (record { sizes = s; lenders = n }) → Joined n (new s n) h
+starts_joined s n h fresh = ((lenders_keep.made h (record { sizes = s; lenders = n }) fresh, new_joins n n s h), new_turned n n s h)
 
 module _ {D : Type 0} (disk : DiskMeaning D) (follows : FollowsItsMoves disk) (s : Sizes) (n : ℕ) (first : D) (harbor_first : Harbor) (began : Began disk harbor_meaning s n first harbor_first) (fresh : harbor.IsFresh harbor_first (record { sizes = s; lenders = n })) where
   abbrev Told : Bool
@@ -119,7 +137,7 @@ module _ {D : Type 0} (disk : DiskMeaning D) (follows : FollowsItsMoves disk) (s
   known made d k h run = run_known disk follows harbor_meaning harbor_promises s n first harbor_first began made d k h run
 
   run_joined : (made : List (Input × Seen)) (d : Device) (k : D) (h : Harbor) → IsRun disk.moves harbor.Moves (new s n) first harbor_first made d k h → Joined n d h
-  run_joined made d k h begin = (lenders_keep.made harbor_first (record { sizes = s; lenders = n }) fresh, new_joins n n s harbor_first)
+  run_joined made d k h begin = starts_joined s n harbor_first fresh
   run_joined made d k h (effect {made = before} {d = d0} {k = k0} {f = h0} i seen_ d' k' h' run range step has) = step_joined disk follows Told Of d0 d' k0 k' h0 h' i seen_ (known before d0 k0 h0 run) (run_joined before d0 k0 h0 run) range step
   run_joined made d k h (without {made = before} {d = d0} {k = k0} {f = h0} i seen_ k' h' run range step has) = step_joined disk follows Told Of d0 d0 k0 k' h0 h' i seen_ (known before d0 k0 h0 run) (run_joined before d0 k0 h0 run) range step
   run_joined made d k h (polled {made = before} {d = d0} {k = k0} {f = h0} step d' k' h' run along) = poll_joined disk follows Told Of d0 d' k0 k' h0 h' step (known before d0 k0 h0 run) (run_joined before d0 k0 h0 run) along
@@ -128,6 +146,7 @@ module _ {D : Type 0} (disk : DiskMeaning D) (follows : FollowsItsMoves disk) (s
   run_holds made d k h run = record {
     lent = joined_lent disk follows Told Of d k h (known made d k h run) (run_joined made d k h run);
     taken = λ page e range. sends_taken disk follows Told Of d k h page e (known made d k h run) (run_joined made d k h run) range;
+    honest = λ i s d' k' h' range step. honest_next disk follows Told Of d k h i s d' k' h' (known made d k h run) (run_joined made d k h run) step;
   }
 
 pub holds_after_each : {D : Type 0} (disk : DiskMeaning D) → FollowsItsMoves disk → HoldsAfterEach disk

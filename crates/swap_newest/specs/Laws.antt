@@ -1,5 +1,5 @@
 -- A set bit means that the remote copy is the newest, and a lent slab has one owner, after every run.
-use Rattle.std.specs.Prelude.{ℕ, ◌≤◌, List, length}
+use Rattle.std.specs.Prelude.{◌≡◌, ℕ, ◌≤◌, false, List, length}
 use Rattle.swap_base.specs.declared.geometry.LenderSpec.{LenderSpec}
 use Rattle.swap_base.specs.Sizes.{Sizes}
 use Rattle.swap_wire.specs.declared.Seen.{Seen}
@@ -15,19 +15,21 @@ use Rattle.swap_table.specs.Goes.{AllAsked}
 use Rattle.swap_table.specs.Happens.{happens}
 use Rattle.swap_joint.specs.Owned.{IsLent}
 use Rattle.swap_joint.specs.Sends.{FindsUp}
+use Rattle.swap_joint.specs.Lies.{is_lied}
 use Rattle.swap_world.specs.Runs.{IsRun}
 use Rattle.swap_world.specs.Laws.{AreInputs}
-use Rattle.swap_world.specs.World.{World, start, reach}
+use Rattle.swap_world.specs.World.{World, IsStep, start, reach}
 
 -- over the disk and the lenders in memory, after every list of events
 abbrev pub AlwaysLent : Type 0
 AlwaysLent = (s : Sizes) (specs : List LenderSpec) (is : List Input) → length specs ≤ MOST_LENDERS → AreInputs s specs is → let w : World = reach (start s specs) is in IsLent w.device w.harbor
 
--- a device over any disk and lenders in memory: what its lenders hold, and that each send of whatever event comes next
--- is taken, whatever the disk answers
+-- a device over any disk and lenders in memory: what its lenders hold, and of whatever event comes next, whatever the
+-- disk answers, that each send is taken and that no message of a lender is one that it may not send
 pub record Holds {D : Type 0} (disk : DiskMeaning D) (d : Device) (k : D) (h : Harbor) : Type 0 where
   pub lent : IsLent d h
   pub taken : (page : List ℕ) (e : Event) → IsInRange d.sizes d.lenders e → AllAsked disk.moves harbor.Moves FindsUp (happens d page e) k h
+  pub honest : (i : Input) (s : Seen) (d' : Device) (k' : D) (h' : Harbor) → IsInRange d.sizes d.lenders i.event → IsStep disk.moves harbor.Moves d k h i s d' k' h' → is_lied s ≡ false
 
 -- it holds after every run over a disk that was blank and lenders as they are made
 abbrev pub HoldsAfterEach : {D : Type 0} → DiskMeaning D → Type 0

@@ -17,7 +17,8 @@ pub fn always_lent()
 {}
 
 /// So they do over any disk that was blank and lenders in memory as they are made, after every run of events; and
-/// whatever event comes next, each of its sends is taken: no link is found down that the device takes to be up.
+/// whatever event comes next, each of its sends is taken (no link is found down that the device takes to be up), and no
+/// lender sends what it may not: `Lied` is never seen.
 pub fn holds_over_any_disk<D: DiskPort>()
     ensures { HoldsAfterEach D.DiskPort }
 {
