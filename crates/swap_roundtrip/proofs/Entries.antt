@@ -68,12 +68,16 @@ abbrev pub Tells : Sizes → Event → Seen → History → History → Type 0
 Tells s e x before now = ((entry_seen x ≡ None) × (now ≡ before)) ⊎ Enters s e x before now
 
 abbrev pub CallsWithin : Device → Type 0
-CallsWithin d = (c : Caller) → (p : Page) → ((since : ℕ) → state_of d.calls c ≡ Room p since → p.0 < pages_of d.sizes) × ((n : _) (v : _) (how : _) (newer : Bool) (since : ℕ) → state_of d.calls c ≡ Reading p n v how newer since → p.0 < pages_of d.sizes)
+CallsWithin d =
+    (c : Caller) → (p : Page) → ((since : ℕ) → state_of d.calls c ≡ Room p since → p.0 < pages_of d.sizes) ×
+    ((n : _) (v : _) (how : _) (newer : Bool) (since : ℕ) → state_of d.calls c ≡ Reading p n v how newer since → p.0 < pages_of d.sizes)
 
-pub calls_within : (T : Bool) (A : List ℕ → List ℕ → Type 0) (zeros : List ℕ) (d : Device) → AllByRecursion (λ (call : Call). IsFair T A (pages_of d.sizes) zeros d.history d.queue call.bytes call.state) d.calls → CallsWithin d
+pub calls_within : (T : Bool) (A : List ℕ → List ℕ → Type 0) (zeros : List ℕ) (d : Device)
+    → AllByRecursion (λ (call : Call). IsFair T A (pages_of d.sizes) zeros d.history d.queue call.bytes call.state) d.calls → CallsWithin d
 calls_within T A zeros d all c p =
     let call = call_of d.calls c in
-    let fair : IsFair T A (pages_of d.sizes) zeros d.history d.queue call.bytes call.state = All-get_or (λ (call : Call). IsFair T A (pages_of d.sizes) zeros d.history d.queue call.bytes call.state) d.calls c.0 idle all tt in
+    let fair : IsFair T A (pages_of d.sizes) zeros d.history d.queue call.bytes call.state =
+    All-get_or (λ (call : Call). IsFair T A (pages_of d.sizes) zeros d.history d.queue call.bytes call.state) d.calls c.0 idle all tt in
     let P : CallState → Type 0 = λ x. IsFair T A (pages_of d.sizes) zeros d.history d.queue call.bytes x in
     (λ since at. subst P at fair, λ n v how newer since at. (subst P at fair).0)
 
@@ -85,7 +89,8 @@ took_none : (d : Device) (taken : Option Taken) → let a = took_back d taken in
 took_none d None = (refl, refl)
 took_none d (Some t) = go t.done.which t.done.page t.done.ok t.bytes
   where
-    by_next : (p : Page) (copy : Copy) (o : Option Copy) → entry_seen (see_disk (cond (is_none o) (ends.Kept p copy.entry) (ends.Dropped p copy.entry))) ≡ None
+    by_next : (p : Page) (copy : Copy) (o : Option Copy)
+        → entry_seen (see_disk (cond (is_none o) (ends.Kept p copy.entry) (ends.Dropped p copy.entry))) ≡ None
     by_next p copy None = refl
     by_next p copy (Some x) = refl
 
@@ -94,28 +99,110 @@ took_none d (Some t) = go t.done.which t.done.page t.done.ok t.bytes
     back p (Some copy) true = (refl, refl)
     back p (Some copy) false = (by_next p copy (queue.next d.queue p), refl)
 
-    go : (w : DiskWhich) (p : Page) (ok : Bool) (bytes : List ℕ) → let a = took d w p ok bytes in (entry_seen (see_disk a.1) ≡ None) × (a.0.history ≡ d.history)
+    go : (w : DiskWhich) (p : Page) (ok : Bool) (bytes : List ℕ)
+        → let a = took d w p ok bytes in (entry_seen (see_disk a.1) ≡ None) × (a.0.history ≡ d.history)
     go (which.Write q) p ok bytes = back p (queue.flying d.queue p) ok
     go (which.Read c) p true bytes = (refl, refl)
     go (which.Read c) p false bytes = (refl, refl)
 
-pub comes_tells : (d : Device) (page : List ℕ) (e : Event) (d' : Device) (x : Seen) (n : ℕ) → IsInRange d.sizes n e → CallsWithin d → Comes d page e d' x → Tells d.sizes e x d.history d'.history
+pub comes_tells : (d : Device) (page : List ℕ) (e : Event) (d' : Device) (x : Seen) (n : ℕ) → IsInRange d.sizes n e → CallsWithin d → Comes d page e d' x
+    → Tells d.sizes e x d.history d'.history
 comes_tells d page e d' x n range within (accepts {c = c} {p = p} {bytes = bytes} {to = to} (begins_out is_idle) linked) =
-    inr (record { caller = c; page = p; op = op.PageOut; bytes = bytes; sent = to; is = (linked_same _ d' linked).history; seen = refl; of = refl; agree = eq-eqb p.0 p.0 refl; within = range.1; only_out = tt; zeros = tt })
+    inr (record {
+      caller = c;
+      page = p;
+      op = op.PageOut;
+      bytes = bytes;
+      sent = to;
+      is = (linked_same _ d' linked).history;
+      seen = refl;
+      of = refl;
+      agree = eq-eqb p.0 p.0 refl;
+      within = range.1;
+      only_out = tt;
+      zeros = tt;
+    })
 comes_tells d page e d' x n range within (accepts {c = c} {p = p} {bytes = bytes} {to = to} (goes_on_out {since = since} at) linked) =
-    inr (record { caller = c; page = p; op = op.PageOut; bytes = bytes; sent = to; is = (linked_same _ d' linked).history; seen = refl; of = refl; agree = refl; within = (within c p).0 since at; only_out = tt; zeros = tt })
+    inr (record {
+      caller = c;
+      page = p;
+      op = op.PageOut;
+      bytes = bytes;
+      sent = to;
+      is = (linked_same _ d' linked).history;
+      seen = refl;
+      of = refl;
+      agree = refl;
+      within = (within c p).0 since at;
+      only_out = tt;
+      zeros = tt;
+    })
 comes_tells d page e d' x n range within (gives_page {c = c} {p = p} {named = named} {from = from} {bytes = bytes} (begins_in is_idle)) =
-    inr (record { caller = c; page = p; op = op.PageIn named from; bytes = bytes; sent = None; is = refl; seen = refl; of = refl; agree = eq-eqb p.0 p.0 refl; within = range.1; only_out = refl; zeros = tt })
-comes_tells d page e d' x n range within (gives_page {c = c} {p = p} {named = named} {from = from} {bytes = bytes} (goes_on_in {n = m} {v = v} {how = how} {newer = newer} {since = since} at)) =
-    inr (record { caller = c; page = p; op = op.PageIn named from; bytes = bytes; sent = None; is = refl; seen = refl; of = refl; agree = refl; within = (within c p).1 m v how newer since at; only_out = refl; zeros = tt })
+    inr (record {
+      caller = c;
+      page = p;
+      op = op.PageIn named from;
+      bytes = bytes;
+      sent = None;
+      is = refl;
+      seen = refl;
+      of = refl;
+      agree = eq-eqb p.0 p.0 refl;
+      within = range.1;
+      only_out = refl;
+      zeros = tt;
+    })
+comes_tells d page e d' x n range within (gives_page {c =
+    c} {p = p} {named = named} {from = from} {bytes = bytes} (goes_on_in {n = m} {v = v} {how = how} {newer = newer} {since = since} at)) =
+    inr (record {
+      caller = c;
+      page = p;
+      op = op.PageIn named from;
+      bytes = bytes;
+      sent = None;
+      is = refl;
+      seen = refl;
+      of = refl;
+      agree = refl;
+      within = (within c p).1 m v how newer since at;
+      only_out = refl;
+      zeros = tt;
+    })
 comes_tells d page e d' x n range within (fails {c = c} {p = p} (full {since = since} at less)) =
-    inr (record { caller = c; page = p; op = op.Failed kind.PageOut since d.failed_writes; bytes = (call_of d.calls c).bytes; sent = None; is = refl; seen = refl; of = refl; agree = refl; within = (within c p).0 since at; only_out = refl; zeros = tt })
+    inr (record {
+      caller = c;
+      page = p;
+      op = op.Failed kind.PageOut since d.failed_writes;
+      bytes = (call_of d.calls c).bytes;
+      sent = None;
+      is = refl;
+      seen = refl;
+      of = refl;
+      agree = refl;
+      within = (within c p).0 since at;
+      only_out = refl;
+      zeros = tt;
+    })
 comes_tells d page e d' x n range within (fails {c = c} {p = p} (unread {n = m} {v = v} {since = since} at)) =
-    inr (record { caller = c; page = p; op = op.Failed kind.PageIn since d.failed_reads; bytes = _; sent = None; is = refl; seen = refl; of = refl; agree = refl; within = (within c p).1 m v arrived.Failed false since at; only_out = refl; zeros = refl })
+    inr (record {
+      caller = c;
+      page = p;
+      op = op.Failed kind.PageIn since d.failed_reads;
+      bytes = _;
+      sent = None;
+      is = refl;
+      seen = refl;
+      of = refl;
+      agree = refl;
+      within = (within c p).1 m v arrived.Failed false since at;
+      only_out = refl;
+      zeros = refl;
+    })
 comes_tells d page e d' x n range within (refuses new) = inl (refl, refl)
 comes_tells d page e d' x n range within (rests new rest) = inl ((rest_says x rest).entry, refl)
 comes_tells d page e d' x n range within (keeps_page is_idle) = inl (refl, refl)
-comes_tells d page e d' x n range within (reads {c = c} {p = p} {d' = y} v step is linked) = inl ((wait_says d e c p v step).entry, (linked_same d y linked).history)
+comes_tells d page e d' x n range within (reads {c =
+    c} {p = p} {d' = y} v step is linked) = inl ((wait_says d e c p v step).entry, (linked_same d y linked).history)
 comes_tells d page e d' x n range within starts_write = inl (refl, refl)
 comes_tells d page e d' x n range within (takes_back taken) = inl (took_none d taken)
 comes_tells d page e d' x n range within (links new of_link linked) = inl ((link_says x of_link).entry, (linked_same d d' linked).history)

@@ -52,7 +52,8 @@ pub named_there : (later before : History) (row : Row) → named (later ++ row �
 named_there [] before row = ap (λ t. cond t (Some row) (named before (length before))) (eq-eqb (length before) (length before) refl)
 named_there (r ∷ later) before row =
     let long = length-append later (row ∷ before) in
-    named_over r (later ++ row ∷ before) (length before) (eqb (length (later ++ row ∷ before)) (length before)) refl (grind (arith, nat_tests, long)) ∙ named_there later before row
+    named_over r (later ++ row ∷ before) (length before) (eqb (length (later ++ row ∷ before)) (length before)) refl (grind (arith, nat_tests, long))
+    ∙ named_there later before row
 
 seen_entry : (o : Op) (n : EntryNo) (sent : Option Lender) → entry_seen (seen_by o n sent) ≡ Some n
 seen_entry op.PageOut n sent = refl
@@ -71,7 +72,8 @@ may_be_sent (op.Failed kind since at) n sent h only = only
 
 page_word : (s : Sizes) (bytes : List ℕ) → AreInLimits s → AreBytes bytes → length bytes ≡ s.page_bytes → HasPageWord s.page_bytes bytes
 page_word s bytes within are len =
-    let listed : list_any (λ m. eqb (length bytes) m) page_lengths ≡ true = ap (λ k. list_any (λ m. eqb k m) page_lengths) len ∙ (within_limits s within).length in
+    let listed : list_any (λ m. eqb (length bytes) m) page_lengths ≡ true =
+    ap (λ k. list_any (λ m. eqb k m) page_lengths) len ∙ (within_limits s within).length in
     ap (λ k. pattern k (shortest bytes)) (sym len) ∙ page_again bytes listed are
 
 op_words_fit : (size : ℕ) (bytes : List ℕ) (o : Op) → HasOpNumbers o → HasPageWord size bytes → KeepsZeros size bytes o → HasOpWords size bytes o
@@ -80,17 +82,21 @@ op_words_fit size bytes (op.PageIn named from) h page zeros = (h.0, h.1, page)
 op_words_fit size bytes (op.Failed kind.PageOut since at) h page zeros = (h.0, h.1, page)
 op_words_fit size bytes (op.Failed kind.PageIn since at) h page zeros = (h.0, h.1, zeros)
 
-plain_line : (s : Sizes) (e : Event) (x : Seen) (before now F : History) → LinesArePrinted → LineFits s.page_bytes e x now → entry_seen x ≡ None → now ≡ before → Shape (pages_of s) e x → LineBack s e x before now F
+plain_line : (s : Sizes) (e : Event) (x : Seen) (before now F : History) → LinesArePrinted → LineFits s.page_bytes e x now → entry_seen x ≡ None
+    → now ≡ before → Shape (pages_of s) e x → LineBack s e x before now F
 plain_line s e x before now F printed fits none same shape = record {
   told = Saw (seen_back s x);
   words = record { event = fits.event; told = may_see s e x none shape fits.seen };
   page = names_page s e x shape;
   judged = ap unmarked (sym same);
   count = let l : length now ≡ length before = ap length same in omega (arith, l);
-  is_line = ap (λ w. ended (spaced (event_words e ++ codes "=" ∷ w))) (sym (seen_same s F x)) ∙ printed F (pair_with e (Saw (seen_back s x))) (plain_back s x none);
+  is_line =
+      ap (λ w. ended (spaced (event_words e ++ codes "=" ∷ w))) (sym (seen_same s F x))
+      ∙ printed F (pair_with e (Saw (seen_back s x))) (plain_back s x none);
 }
 
-entry_line : (s : Sizes) (e : Event) (x : Seen) (before now F : History) → AreInLimits s → LinesArePrinted → GoesOn now F → LineFits s.page_bytes e x now → Enters s e x before now → LineBack s e x before now F
+entry_line : (s : Sizes) (e : Event) (x : Seen) (before now F : History) → AreInLimits s → LinesArePrinted → GoesOn now F → LineFits s.page_bytes e x now
+    → Enters s e x before now → LineBack s e x before now F
 entry_line s e x before now F within printed goes fits r =
     let row : Row = row_of before r.caller r.page r.op r.bytes in
     let no : EntryNo = next_name before in
@@ -100,18 +106,28 @@ entry_line s e x before now F within printed goes fits r =
     let row_fits : RowFits s.page_bytes row = fits.entry no row (ap entry_seen r.seen ∙ seen_entry r.op no r.sent) here in
     let page : HasPageWord s.page_bytes r.bytes = page_word s r.bytes within row_fits.bytes row_fits.len in
     let sent : MayBeSent r.op r.sent = may_be_sent r.op no r.sent numbers r.only_out in
-    let there : named F (length before) ≡ Some row = ap (λ H. named H (length before)) (goes.1 ∙ ap (λ H. goes.0 ++ H) r.is) ∙ named_there goes.0 before row in
+    let there : named F (length before) ≡ Some row =
+    ap (λ H. named H (length before)) (goes.1 ∙ ap (λ H. goes.0 ++ H) r.is) ∙ named_there goes.0 before row in
     record {
       told = Entered shown;
       words =
           record {
             event = fits.event;
-            told = (r.agree, record { no = small_no r.op no r.sent numbers; page = row_fits.entry.page; op = op_words_fit s.page_bytes r.bytes r.op row_fits.entry.op page r.zeros; sent = sent });
+            told = (
+              r.agree,
+              record {
+                no = small_no r.op no r.sent numbers;
+                page = row_fits.entry.page;
+                op = op_words_fit s.page_bytes r.bytes r.op row_fits.entry.op page r.zeros;
+                sent = sent;
+              },
+            );
           };
       page = lt-ltb r.page.0 (pages_of s) r.within;
       judged =
           ap (λ c. entered (unmarked before) c shown) r.of
-          ∙ ap (λ b. record { history = pushed before r.caller r.page r.op r.bytes; noted = cond b None (Some (length before)) }) (eq-eqb (length before) (length before) refl)
+          ∙ ap (λ b. record { history = pushed before r.caller r.page r.op r.bytes; noted = cond b None (Some (length before)) })
+          (eq-eqb (length before) (length before) refl)
           ∙ ap unmarked (sym r.is);
       count = let l : length now ≡ length (pushed before r.caller r.page r.op r.bytes) = ap length r.is in omega (arith, l);
       is_line =
@@ -119,6 +135,7 @@ entry_line s e x before now F within printed goes fits r =
           ∙ printed F (pair_with e (Entered shown)) (record { row = row; is = there; page = refl; op = refl; bytes = refl; sent = sent });
     }
 
-pub line_back : (s : Sizes) (e : Event) (x : Seen) (before now F : History) → AreInLimits s → LinesArePrinted → GoesOn now F → LineFits s.page_bytes e x now → Tells s e x before now → Shape (pages_of s) e x → LineBack s e x before now F
+pub line_back : (s : Sizes) (e : Event) (x : Seen) (before now F : History) → AreInLimits s → LinesArePrinted → GoesOn now F → LineFits s.page_bytes e x now
+    → Tells s e x before now → Shape (pages_of s) e x → LineBack s e x before now F
 line_back s e x before now F within printed goes fits (inl plain) shape = plain_line s e x before now F printed fits plain.0 plain.1 shape
 line_back s e x before now F within printed goes fits (inr r) shape = entry_line s e x before now F within printed goes fits r

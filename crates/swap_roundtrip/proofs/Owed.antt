@@ -62,14 +62,17 @@ has_its_page s n (event.Round w) h = refl
 passed : (w : Why) (b : Bool) (rest : List (Why × Bool)) → b ≡ true → first_beyond ((w, b) ∷ rest) ≡ first_beyond rest
 passed w b rest e = ap (λ t. cond t (first_beyond rest) (Some w)) e
 
-pub owes_none : (s : Sizes) (n : ℕ) (above : Above) (pair : Pair) → IsInRange s n pair.event → tells_page s pair.told ≡ true → (above.entries + entries_in pair.told) * s.page_bytes ≤ 1_073_741_824 → above.events < 4_194_304
+pub owes_none : (s : Sizes) (n : ℕ) (above : Above) (pair : Pair) → IsInRange s n pair.event → tells_page s pair.told ≡ true
+    → (above.entries + entries_in pair.told) * s.page_bytes ≤ 1_073_741_824 → above.events < 4_194_304
     → first_beyond (tests s above pair) ≡ None
 owes_none s n above pair range page few within =
     let owed = tests s above pair in
-    let calls : nat_le ((above.entries + entries_in pair.told) * s.page_bytes) 1_073_741_824 ≡ true = le-leb ((above.entries + entries_in pair.told) * s.page_bytes) 1_073_741_824 few in
+    let calls : nat_le ((above.entries + entries_in pair.told) * s.page_bytes) 1_073_741_824 ≡ true =
+    le-leb ((above.entries + entries_in pair.told) * s.page_bytes) 1_073_741_824 few in
     let events : nat_lt above.events 4_194_304 ≡ true = lt-ltb above.events 4_194_304 within in
     passed why.Caller (has_caller s pair.event) (drop 1 owed) (has_its_caller s n pair.event range)
-    ∙ passed why.Page (has_page s pair.event && tells_page s pair.told) (drop 2 owed) (and_from (has_page s pair.event) (tells_page s pair.told) (has_its_page s n pair.event range) page)
+    ∙ passed why.Page (has_page s pair.event && tells_page s pair.told) (drop 2 owed)
+    (and_from (has_page s pair.event) (tells_page s pair.told) (has_its_page s n pair.event range) page)
     ∙ passed why.Calls (nat_le ((above.entries + entries_in pair.told) * s.page_bytes) 1_073_741_824) (drop 3 owed) calls
     ∙ passed why.Events (nat_lt above.events 4_194_304) [] events
 
@@ -81,14 +84,19 @@ all_right P (x ∷ xs) ys h = all_right P xs ys h.1
 slots_split : (xs ys : List LenderSpec) → slots_of (xs ++ ys) ≡ slots_of xs + slots_of ys
 slots_split xs ys = sum_by-append (λ (spec : LenderSpec). spec.slots) xs ys
 
-lends : (s : Sizes) (others specs : List LenderSpec) (spec : LenderSpec) → MayLend s (others ++ spec ∷ specs) → first_beyond (lending_tests s (others ++ spec ∷ [])) ≡ None
+lends : (s : Sizes) (others specs : List LenderSpec) (spec : LenderSpec) → MayLend s (others ++ spec ∷ specs)
+    → first_beyond (lending_tests s (others ++ spec ∷ [])) ≡ None
 lends s others specs spec may =
     let now : List LenderSpec = others ++ spec ∷ [] in
     let all : others ++ spec ∷ specs ≡ now ++ specs = sym (append_assoc others (spec ∷ []) specs) in
-    let count : length now ≤ 8 = let e : length (others ++ spec ∷ specs) ≡ length (now ++ specs) = ap length all in omega (arith, e, length-append now specs, may.count) in
-    let slots : slots_of now ≤ slots_of (others ++ spec ∷ specs) = let e : slots_of (others ++ spec ∷ specs) ≡ slots_of (now ++ specs) = ap slots_of all in omega (arith, e, slots_split now specs) in
-    let lent : lent_bytes s now ≤ 536_870_912 = omega (arith, mul-le (slots_of now) (slab_bytes s) (slots_of (others ++ spec ∷ specs)) (slab_bytes s) slots (omega arith), may.lent) in
-    passed why.Lenders (nat_le (length now) 8) ((why.Lent, lends_within s now) ∷ []) (le-leb (length now) 8 count) ∙ passed why.Lent (lends_within s now) [] (le-leb (lent_bytes s now) 536_870_912 lent)
+    let count : length now ≤ 8 =
+    let e : length (others ++ spec ∷ specs) ≡ length (now ++ specs) = ap length all in omega (arith, e, length-append now specs, may.count) in
+    let slots : slots_of now ≤ slots_of (others ++ spec ∷ specs) =
+    let e : slots_of (others ++ spec ∷ specs) ≡ slots_of (now ++ specs) = ap slots_of all in omega (arith, e, slots_split now specs) in
+    let lent : lent_bytes s now ≤ 536_870_912 =
+    omega (arith, mul-le (slots_of now) (slab_bytes s) (slots_of (others ++ spec ∷ specs)) (slab_bytes s) slots (omega arith), may.lent) in
+    passed why.Lenders (nat_le (length now) 8) ((why.Lent, lends_within s now) ∷ []) (le-leb (length now) 8 count)
+    ∙ passed why.Lent (lends_within s now) [] (le-leb (lent_bytes s now) 536_870_912 lent)
 
 pub may_stand : (s : Sizes) (specs others : List LenderSpec) → MayLend s (others ++ specs) → MayStandBelow s others specs
 may_stand s [] others may = tt
@@ -103,7 +111,8 @@ pub record Sized (s : Script) : Type 0 where
   pub events : length s.inputs ≤ 4_194_304
   pub calls : calls_of s.inputs * s.sizes.page_bytes ≤ 1_073_741_824
 
-owed_of : (s : Sizes) (lenders : ℕ) (above : reading.Above) (line : Line) → first_beyond (reading.tests grammar.Script s lenders above line) ≡ None → ((above.calls + calls_in line.event) * s.page_bytes ≤ 1_073_741_824) × (above.events < 4_194_304)
+owed_of : (s : Sizes) (lenders : ℕ) (above : reading.Above) (line : Line) → first_beyond (reading.tests grammar.Script s lenders above line) ≡ None
+    → ((above.calls + calls_in line.event) * s.page_bytes ≤ 1_073_741_824) × (above.events < 4_194_304)
 owed_of s lenders above line e =
     let owed = reading.tests grammar.Script s lenders above line in
     let addressed = passes why.Lenders (are_addressed grammar.Script lenders) (drop 1 owed) e in
@@ -119,27 +128,42 @@ owed_of s lenders above line e =
 abbrev Few : Sizes → reading.Above → List Input → Type 0
 Few s above is = (above.events + length is ≤ 4_194_304) × ((above.calls + calls_of is) * s.page_bytes ≤ 1_073_741_824)
 
-few_more : (s : Sizes) (lenders : ℕ) (above : reading.Above) (o : Option Line) (is : List Input) → fault_of grammar.Script s lenders above o ≡ None → (above.events ≤ 4_194_304) × (above.calls * s.page_bytes ≤ 1_073_741_824)
-    → ((reading.counted above o).events ≤ 4_194_304 → (reading.counted above o).calls * s.page_bytes ≤ 1_073_741_824 → Few s (reading.counted above o) is) → Few s above (cons_option (option_map (input_of s) o) is)
+few_more : (s : Sizes) (lenders : ℕ) (above : reading.Above) (o : Option Line) (is : List Input) → fault_of grammar.Script s lenders above o ≡ None
+    → (above.events ≤ 4_194_304) × (above.calls * s.page_bytes ≤ 1_073_741_824)
+    → ((reading.counted above o).events ≤ 4_194_304 → (reading.counted above o).calls * s.page_bytes ≤ 1_073_741_824 → Few s (reading.counted above o) is)
+    → Few s above (cons_option (option_map (input_of s) o) is)
 few_more s lenders above None is e so_far later = cc
 few_more s lenders above (Some line) is e so_far later =
     let owed = owed_of s lenders above line e in
     let rest = later (omega (arith, owed.1)) owed.0 in
-    let sum : above.calls + calls_of (input_of s line ∷ is) ≡ above.calls + calls_in line.event + calls_of is = omega (arith, calls_of-cons (input_of s line) is) in
+    let sum : above.calls + calls_of (input_of s line ∷ is) ≡ above.calls + calls_in line.event + calls_of is =
+    omega (arith, calls_of-cons (input_of s line) is) in
     (omega (arith, rest.0), subst (λ n. n * s.page_bytes ≤ 1_073_741_824) (sym sum) rest.1)
 
-few_lines : (s : Sizes) (end lenders : ℕ) (lines : List (ℕ × List ℕ)) (above : reading.Above) → first_fault grammar.Script end s lenders lines above ≡ None → above.events ≤ 4_194_304 → above.calls * s.page_bytes ≤ 1_073_741_824
+few_lines : (s : Sizes) (end lenders : ℕ) (lines : List (ℕ × List ℕ)) (above : reading.Above) → first_fault grammar.Script end s lenders lines above ≡ None
+    → above.events ≤ 4_194_304 → above.calls * s.page_bytes ≤ 1_073_741_824
     → Few s above (inputs_of grammar.Script s lines)
-few_lines s end lenders [] above e events calls = (omega (arith, events), let sum : above.calls + calls_of [] ≡ above.calls = omega arith in subst (λ n. n * s.page_bytes ≤ 1_073_741_824) (sym sum) calls)
+few_lines s end lenders [] above e events calls =
+    let sum : above.calls + calls_of [] ≡ above.calls = omega arith in
+    (omega (arith, events), subst (λ n. n * s.page_bytes ≤ 1_073_741_824) (sym sum) calls)
 few_lines s end lenders ((n, text) ∷ rest) above e events calls =
     let line = line_of grammar.Script (words_of text) in
     let parts = none_or n (fault_of grammar.Script s lenders above line) (first_fault grammar.Script end s lenders rest (reading.counted above line)) e in
-    few_more s lenders above line (inputs_of grammar.Script s rest) parts.0 (events, calls) (λ ev ca. few_lines s end lenders rest (reading.counted above line) parts.1 ev ca)
+    few_more s lenders above line (inputs_of grammar.Script s rest) parts.0 (events, calls)
+    (λ ev ca. few_lines s end lenders rest (reading.counted above line) parts.1 ev ca)
 
 pub sized : (text : List ℕ) (s : Script) → script text ≡ Ok s → Sized s
 sized text s e =
     of_text grammar.Script Sized
     (λ end sizes front within may none.
     let few = few_lines sizes end (length front.lenders) front.lines nothing_above none (omega arith) (omega arith) in
-    record { sizes = within; lenders = may; events = omega (arith, few.0); calls = let sum : nothing_above.calls + calls_of (inputs_of grammar.Script sizes front.lines) ≡ calls_of (inputs_of grammar.Script sizes front.lines) = omega arith in subst (λ n. n * sizes.page_bytes ≤ 1_073_741_824) sum few.1 })
+    record {
+      sizes = within;
+      lenders = may;
+      events = omega (arith, few.0);
+      calls =
+          let sum : nothing_above.calls + calls_of (inputs_of grammar.Script sizes front.lines) ≡ calls_of (inputs_of grammar.Script sizes front.lines) =
+          omega arith in
+          subst (λ n. n * sizes.page_bytes ≤ 1_073_741_824) sum few.1;
+    })
     text s e

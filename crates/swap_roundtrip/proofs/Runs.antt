@@ -57,30 +57,46 @@ module _ (s : Sizes) (n : ℕ) where
   within : (w : World) → IsSound s n w → CallsWithin w.device
   within w sound = let fits = sound_fits s n w sound in calls_within true (λ page given. page ≡ given) (zeros w.device.sizes) w.device fits.disk.agrees.fair
 
-  comes : (w : World) (i : Input) (x : Next) → IsInRange s n i.event → IsSound s n w → ComesTo w.device i.page i.event x.world.device x.seen → Tells s i.event x.seen (history w) (history x.world)
+  comes : (w : World) (i : Input) (x : Next) → IsInRange s n i.event → IsSound s n w → ComesTo w.device i.page i.event x.world.device x.seen
+      → Tells s i.event x.seen (history w) (history x.world)
   comes w i x range sound to =
       let same = sizes_are w sound in
       let d : Device = record w.device { rates = to.0 } in
-      subst (λ z. Tells z i.event x.seen (history w) (history x.world)) same (comes_tells d i.page i.event x.world.device x.seen n (subst (λ z. IsInRange z n i.event) (sym same) range) (within w sound) to.2)
+      subst (λ z. Tells z i.event x.seen (history w) (history x.world)) same
+      (comes_tells d i.page i.event x.world.device x.seen n (subst (λ z. IsInRange z n i.event) (sym same) range) (within w sound) to.2)
 
   flights : (w : World) → IsSound s n w → FlightsWithin (pages_of w.device.sizes) w.drive.disk.flights
-  flights w sound = let fits = sound_fits s n w sound in flights_within true (pages_of w.device.sizes) w.device.sizes.callers w.device.queue w.device.calls w.drive.disk.flights fits.disk.agrees.expected
+  flights w sound =
+      let fits = sound_fits s n w sound in
+      flights_within true (pages_of w.device.sizes) w.device.sizes.callers w.device.queue w.device.calls w.drive.disk.flights fits.disk.agrees.expected
 
   pub event_tells : (w : World) (i : Input) → IsInput s n i → IsSound s n w → TellsOfIt s i.event (next w i).seen (history w) (history (next w i).world)
   event_tells w i input sound = go i.event input
     where
-      go : (e : Event) → IsInput s n (record { event = e; page = i.page }) → let x : Next = next_by w i.page e in TellsOfIt s e x.seen (history w) (history x.world)
+      go : (e : Event) → IsInput s n (record { event = e; page = i.page })
+          → let x : Next = next_by w i.page e in TellsOfIt s e x.seen (history w) (history x.world)
       go (event.Round word) given =
           let j : Input = record { event = event.Round word; page = i.page } in
           let x : Next = next w j in
-          record { tells = adds_none s w.device j x.seen (history x.world) refl (event_adds drive.Moves harbor.Moves w.device x.world.device w.drive x.world.drive w.harbor x.world.harbor j x.seen (next_step s n w j given sound)); shape = tt }
+          let step = next_step s n w j given sound in
+          record {
+            tells =
+                adds_none s w.device j x.seen (history x.world) refl
+                (event_adds drive.Moves harbor.Moves w.device x.world.device w.drive x.world.drive w.harbor x.world.harbor j x.seen step);
+            shape = tt;
+          }
       go (event.Disk v ok) given =
           let j : Input = record { event = event.Disk v ok; page = i.page } in
           let x : Next = next w j in
           let step = next_step s n w j given sound in
           record {
-            tells = comes w j x given.0 sound (step_comes drive.Moves harbor.Moves w.device x.world.device w.drive x.world.drive w.harbor x.world.harbor j x.seen step);
-            shape = subst (λ z. Shape (pages_of z) (event.Disk v ok) x.seen) (sizes_are w sound) (disk_shape harbor.Moves (pages_of w.device.sizes) w.device x.world.device w.drive x.world.drive w.harbor x.world.harbor i.page v ok x.seen (flights w sound) step);
+            tells =
+                comes w j x given.0 sound
+                (step_comes drive.Moves harbor.Moves w.device x.world.device w.drive x.world.drive w.harbor x.world.harbor j x.seen step);
+            shape =
+                subst (λ z. Shape (pages_of z) (event.Disk v ok) x.seen) (sizes_are w sound)
+                (disk_shape harbor.Moves
+                (pages_of w.device.sizes) w.device x.world.device w.drive x.world.drive w.harbor x.world.harbor i.page v ok x.seen (flights w sound) step);
           }
       go e given =
           let j : Input = record { event = e; page = i.page } in
@@ -88,10 +104,13 @@ module _ (s : Sizes) (n : ℕ) where
           let step = next_step s n w j given sound in
           let fits = sound_fits s n w sound in
           record {
-            tells = comes w j x given.0 sound (step_comes drive.Moves harbor.Moves w.device x.world.device w.drive x.world.drive w.harbor x.world.harbor j x.seen step);
+            tells =
+                comes w j x given.0 sound
+                (step_comes drive.Moves harbor.Moves w.device x.world.device w.drive x.world.drive w.harbor x.world.harbor j x.seen step);
             shape =
                 subst (λ z. Shape (pages_of z) e x.seen) (sizes_are w sound)
-                (Leads-Along drive.Moves harbor.Moves (happens w.device i.page e) w.drive w.harbor x.world.drive x.world.harbor (x.world.device, x.seen) (λ (a : Device × Seen) _ _. Shape (pages_of w.device.sizes) e a.1)
+                (Leads-Along drive.Moves harbor.Moves (happens w.device i.page e) w.drive w.harbor x.world.drive x.world.harbor (x.world.device, x.seen)
+                (λ (a : Device × Seen) _ _. Shape (pages_of w.device.sizes) e a.1)
                 (other_shape drive.Moves harbor.Moves w.device w.drive w.harbor i.page e fits.disk.agrees.in_line (λ v ok is. cc) (λ word is. cc)) step);
           }
 
@@ -124,8 +143,10 @@ pub record RunBack (s : Sizes) (above : Above) (w : World) (is : List Input) (F 
   pub prints : flat_map (line F) (seens w is) ≡ text_of (map pair_words pairs)
 
 module _ (s : Sizes) (n most : ℕ) (limits : AreInLimits s) (print : LinesArePrinted) (on : HistoriesGoOn) (few : most * s.page_bytes ≤ 1_073_741_824) where
-  pub run_back : (is : List Input) (w : World) (above : Above) (F : History) → F ≡ history (reach w is) → IsSound s n w → AllByRecursion (IsInput s n) is → NumbersFit w is
-      → above.entries ≡ length (history w) → above.events + length is ≤ 4_194_304 → length (history w) + busy_callers w.device + calls_of is ≤ most → RunBack s above w is F
+  pub run_back : (is : List Input) (w : World) (above : Above) (F : History) → F ≡ history (reach w is) → IsSound s n w → AllByRecursion (IsInput s n) is
+      → NumbersFit w is
+      → above.entries ≡ length (history w) → above.events + length is ≤ 4_194_304 → length (history w) + busy_callers w.device + calls_of is ≤ most
+      → RunBack s above w is F
   run_back [] w above F e sound inputs fit entries events room = record { pairs = []; follow = tt; judges = refl; prints = refl }
   run_back (i ∷ is) w above F e sound inputs fit entries events room =
       let x : Next = next w i in
@@ -143,8 +164,10 @@ module _ (s : Sizes) (n most : ℕ) (limits : AreInLimits s) (print : LinesArePr
       let new = new_call i.event in
       let room' : length H' + busy_callers x.world.device + calls_of is ≤ most = omega (arith, grows, calls, new, room) in
       let entries' : above.entries + entries_in back.told ≡ length H' = omega (arith, entries, back.count) in
-      let within : (above.entries + entries_in back.told) * s.page_bytes ≤ 1_073_741_824 = omega (arith, mul-le (above.entries + entries_in back.told) s.page_bytes most s.page_bytes (omega (arith, entries', room')) (omega arith), few) in
-      let rest : RunBack s (counted above pair) x.world is F = run_back is x.world (counted above pair) F e (next_sound s n w i inputs.0 sound) inputs.1 fit.1 entries' (omega (arith, events)) room' in
+      let within : (above.entries + entries_in back.told) * s.page_bytes ≤ 1_073_741_824 =
+      omega (arith, mul-le (above.entries + entries_in back.told) s.page_bytes most s.page_bytes (omega (arith, entries', room')) (omega arith), few) in
+      let rest : RunBack s (counted above pair) x.world is F =
+      run_back is x.world (counted above pair) F e (next_sound s n w i inputs.0 sound) inputs.1 fit.1 entries' (omega (arith, events)) room' in
       record {
         pairs = pair ∷ rest.pairs;
         follow = (back.words, owes_none s n above pair inputs.0.0 back.page within (omega (arith, events)), rest.follow);
@@ -169,7 +192,8 @@ is_paged s (event.Crash l) page h = tt
 is_paged s (event.Host l u w) page h = tt
 is_paged s (event.Round w) page h = tt
 
-pub are_inputs : (s : Sizes) (n : ℕ) (is : List Input) → AllByRecursion (λ (i : Input). IsInRange s n i.event) is → AllByRecursion (λ (i : Input). HandsInAPage s i.event i.page) is → AllByRecursion (IsInput s n) is
+pub are_inputs : (s : Sizes) (n : ℕ) (is : List Input) → AllByRecursion (λ (i : Input). IsInRange s n i.event) is
+    → AllByRecursion (λ (i : Input). HandsInAPage s i.event i.page) is → AllByRecursion (IsInput s n) is
 are_inputs s n [] range pages = tt
 are_inputs s n (i ∷ is) range pages = ((range.0, is_paged s i.event i.page pages.0), are_inputs s n is range.1 pages.1)
 
@@ -184,12 +208,14 @@ text-append xs ys = flat_map-append (λ words. ended (spaced words)) xs ys
 text_is : (t : Transcript) (lines : List ℕ) (n : ℕ) → lines ≡ text_of (map pair_words t.pairs) → entries_of t ≡ n
     → text_of (transcript_words t) ≡ printed.header t.sizes ++ flat_map lender_header t.lenders ++ lines ++ printed.end_line n
 text_is t lines n prints count =
-    let end : text_of (end_words (entries_of t) ∷ []) ≡ printed.end_line n = append-nil (ended (spaced (end_words (entries_of t)))) ∙ ap printed.end_line count in
+    let end : text_of (end_words (entries_of t) ∷ []) ≡ printed.end_line n =
+    append-nil (ended (spaced (end_words (entries_of t)))) ∙ ap printed.end_line count in
     let body : text_of (map pair_words t.pairs ++ end_words (entries_of t) ∷ []) ≡ lines ++ printed.end_line n =
     text-append (map pair_words t.pairs) (end_words (entries_of t) ∷ []) ∙ ap₂ (λ a b. a ++ b) (sym prints) end in
     let head : List ℕ = printed.header t.sizes in
     let lenders : List ℕ = flat_map lender_header t.lenders in
-    ap (λ r. head ++ r) (text-append (map lender_words t.lenders) (map pair_words t.pairs ++ end_words (entries_of t) ∷ []) ∙ ap₂ (λ a b. a ++ b) (lenders_text t.lenders) body)
+    ap (λ r. head ++ r)
+    (text-append (map lender_words t.lenders) (map pair_words t.pairs ++ end_words (entries_of t) ∷ []) ∙ ap₂ (λ a b. a ++ b) (lenders_text t.lenders) body)
     ∙ sym (append_assoc head lenders (lines ++ printed.end_line n)) ∙ sym (append_assoc (head ++ lenders) lines (printed.end_line n))
 
 pub back : AlwaysLegal → HistoriesGoOn → LinesArePrinted → PrintedIsRead → EventsInRange → PagesAreWhole → ScriptsAreReadBack
@@ -200,17 +226,23 @@ back legal on print read range pages text s e fit =
     let few : n ≤ MOST_LENDERS = known.lenders.count in
     let inputs : AreInputs s.sizes specs s.inputs = are_inputs s.sizes n s.inputs (range text s e) (pages text s e) in
     let F : History = history (reach (start_of s) s.inputs) in
-    let room : length (history (start_of s)) + busy_callers (start_of s).device + calls_of s.inputs ≤ calls_of s.inputs = let b = none_busy s.sizes.callers in omega (arith, b) in
-    let run : RunBack s.sizes nothing_above (start_of s) s.inputs F = run_back s.sizes n (calls_of s.inputs) known.sizes print on known.calls s.inputs (start_of s) nothing_above F refl (starts_sound s.sizes specs few) inputs fit refl (omega (arith, known.events)) room in
+    let room : length (history (start_of s)) + busy_callers (start_of s).device + calls_of s.inputs ≤ calls_of s.inputs =
+    let b = none_busy s.sizes.callers in omega (arith, b) in
+    let run : RunBack s.sizes nothing_above (start_of s) s.inputs F =
+    run_back s.sizes n (calls_of s.inputs) known.sizes print on known.calls s.inputs (start_of s) nothing_above F refl
+    (starts_sound s.sizes specs few) inputs fit refl (omega (arith, known.events)) room in
     let t : Transcript = record { sizes = s.sizes; lenders = specs; pairs = run.pairs } in
     let is_judged : judged t ≡ unmarked F = run.judges in
     let count : entries_of t ≡ length F = ap (λ j. length j.history) is_judged in
     let whole : text_of (transcript_words t) ≡ output s = text_is t (flat_map (line F) (seens (start_of s) s.inputs)) (length F) run.prints count in
     record {
       transcript = t;
-      reads = ap transcripts.transcript (sym whole) ∙ read t (record { sizes = known.sizes; lenders = may_stand s.sizes specs [] known.lenders; pairs = run.follow });
+      reads =
+          ap transcripts.transcript (sym whole)
+          ∙ read t (record { sizes = known.sizes; lenders = may_stand s.sizes specs [] known.lenders; pairs = run.follow });
       sizes = refl;
       lenders = refl;
       judged = is_judged;
-      legal = (ap (λ j. j.noted) is_judged, subst (IsLegal (zeros s.sizes)) (sym (ap (λ j. j.history) is_judged)) (legal s.sizes specs s.inputs few inputs));
+      legal =
+          (ap (λ j. j.noted) is_judged, subst (IsLegal (zeros s.sizes)) (sym (ap (λ j. j.history) is_judged)) (legal s.sizes specs s.inputs few inputs));
     }

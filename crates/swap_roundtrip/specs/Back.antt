@@ -30,4 +30,5 @@ pub record IsReadBack (s : Script) (text : List ℕ) : Type 0 where
 
 -- so of each script whose lines print numbers that fit their types
 abbrev pub ScriptsAreReadBack : Type 0
-ScriptsAreReadBack = (text : List ℕ) (s : Script) → script text ≡ Ok s → NumbersFit (start_of s) s.inputs → IsReadBack s (output s)
+ScriptsAreReadBack =
+    (text : List ℕ) (s : Script) → script text ≡ Ok s → NumbersFit (start_of s) s.inputs → IsReadBack s (output s)

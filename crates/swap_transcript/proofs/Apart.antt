@@ -24,7 +24,8 @@ lacks low c (b ∷ bytes) l h =
 words_of-spaced : (word : List ℕ) (words : Words) → AreInked (word ∷ words) → words_of (spaced (word ∷ words)) ≡ word ∷ words
 words_of-spaced word [] h = words_of-cut word word None (refl, lacks 32 32 word (omega arith) h.0)
 words_of-spaced word (next ∷ words) h =
-    words_of-cut (word ++ 32 ∷ spaced (next ∷ words)) word (Some (spaced (next ∷ words))) (refl, lacks 32 32 word (omega arith) h.0) ∙ ap (λ ws. word ∷ ws) (words_of-spaced next words h.1)
+    words_of-cut (word ++ 32 ∷ spaced (next ∷ words)) word (Some (spaced (next ∷ words))) (refl, lacks 32 32 word (omega arith) h.0)
+    ∙ ap (λ ws. word ∷ ws) (words_of-spaced next words h.1)
 
 -- its bytes stand behind the line feed
 higher : (bytes : List ℕ) → list_all (λ b. nat_lt 32 b) bytes ≡ true → list_all (λ b. nat_lt 10 b) bytes ≡ true
@@ -37,7 +38,8 @@ spaced_high : (words : Words) → AreInked words → list_all (λ b. nat_lt 10 b
 spaced_high [] h = refl
 spaced_high (word ∷ []) h = higher word h.0
 spaced_high (word ∷ next ∷ words) h =
-    list_all-append (λ b. nat_lt 10 b) word (32 ∷ spaced (next ∷ words)) ∙ and_from (list_all (λ b. nat_lt 10 b) word) (list_all (λ b. nat_lt 10 b) (spaced (next ∷ words))) (higher word h.0) (spaced_high (next ∷ words) h.1)
+    list_all-append (λ b. nat_lt 10 b) word (32 ∷ spaced (next ∷ words))
+    ∙ and_from (list_all (λ b. nat_lt 10 b) word) (list_all (λ b. nat_lt 10 b) (spaced (next ∷ words))) (higher word h.0) (spaced_high (next ∷ words) h.1)
 
 -- a line that is printed: its words, the first of which shows that it isn't skipped
 pub record IsPrintedLine (words : Words) : Type 0 where
@@ -55,7 +57,10 @@ kept-printed n (words ∷ lines) h =
     let rest : List ℕ = text_of lines in
     let text : ended front ++ rest ≡ front ++ 10 ∷ rest = append_assoc front (10 ∷ []) rest in
     let some : 0 < length (ended front ++ rest) = omega (arith, length-append (ended front) rest, length-append front (10 ∷ [])) in
+    let inked : AreInked (line.first ∷ line.others) = let P : Words → Type 0 = λ ws. AreInked ws in subst P line.are line.inked in
     let apart : words_of front ≡ words =
-    ap (λ ws. words_of (spaced ws)) line.are ∙ words_of-spaced line.first line.others (let P : Words → Type 0 = λ ws. AreInked ws in subst P line.are line.inked) ∙ sym line.are in
-    ap words_in (kept_from-cut n (ended front ++ rest) front (Some rest) false some (text, lacks 10 10 front (omega arith) (spaced_high words line.inked)) (sym line.counts))
+    ap (λ ws. words_of (spaced ws)) line.are ∙ words_of-spaced line.first line.others inked ∙ sym line.are in
+    ap words_in
+    (kept_from-cut n (ended front ++ rest) front (Some rest) false some (text, lacks 10 10 front (omega arith) (spaced_high words line.inked))
+    (sym line.counts))
     ∙ ap₂ (λ w ws. w ∷ ws) apart (kept-printed (n + 1) lines h.1)

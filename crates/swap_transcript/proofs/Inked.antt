@@ -118,7 +118,8 @@ numbers_if false n ns l h = h
 slots_inked-from : (set least many : ℕ) → least + many ≤ 64 → AreInked (map decimal (filter (has set) (range_with_len least many)))
 slots_inked-from set least zero l = tt
 slots_inked-from set least (suc many) l =
-    numbers_if (has set least) least (filter (has set) (range_with_len (least + 1) many)) (omega arith) (slots_inked-from set (least + 1) many (omega arith))
+    numbers_if (has set least) least (filter (has set) (range_with_len (least + 1) many)) (omega arith)
+    (slots_inked-from set (least + 1) many (omega arith))
 
 numbers_inked : (set : ℕ) → AreInked (map decimal (slots set))
 unfolding slots
@@ -171,7 +172,8 @@ seen_inked s (event.Map slab l) seen.Nothing h = (refl, tt)
 seen_inked s (event.Connect l) (seen.Linked n) h = (refl, (small_inked n.0 h, tt))
 seen_inked s (event.Connect l) seen.Nothing h = (refl, tt)
 seen_inked s (event.Give l) (seen.Gave m reply evicted) h =
-    inked-append (msg_words m ++ reply_words reply) (slots_behind (codes "evict") evicted) (inked-append (msg_words m) (reply_words reply) (msg_inked s m h.0) (reply_inked s reply h.1)) (slots_inked (codes "evict") evicted refl)
+    inked-append (msg_words m ++ reply_words reply) (slots_behind (codes "evict") evicted)
+    (inked-append (msg_words m) (reply_words reply) (msg_inked s m h.0) (reply_inked s reply h.1)) (slots_inked (codes "evict") evicted refl)
 seen_inked s (event.Give l) seen.GaveEnd h = (refl, tt)
 seen_inked s (event.Give l) (seen.GaveEnded m) h = inked-append (msg_words m) (codes "ended" ∷ []) (msg_inked s m h) (refl, tt)
 seen_inked s (event.Give l) seen.Nothing h = (refl, tt)
@@ -201,9 +203,15 @@ origin_inked (origin.Lender l) h = (refl, (small_inked l.0 h, tt))
 
 op_inked : (size page : ℕ) (bytes : List ℕ) (o : Op) → page < 2 ^ 32 → HasOpWords size bytes o → AreInked (op_words page bytes o)
 op_inked size page bytes op.PageOut l h = (refl, (small_inked page l, (page_inked size bytes h, tt)))
-op_inked size page bytes (op.PageIn named from) l h =
-    (refl, (small_inked page l, (refl, (named_inked named h.0, inked-append (origin_words from) (shortest bytes ∷ []) (origin_inked from h.1) (page_inked size bytes h.2, tt)))))
-op_inked size page bytes (op.Failed kind.PageOut since at) l h = (refl, (refl, (small_inked page l, (wide_inked since h.0, (wide_inked at h.1, (page_inked size bytes h.2, tt))))))
+op_inked size page bytes (op.PageIn named from) l h = (
+  refl,
+  (
+    small_inked page l,
+    (refl, (named_inked named h.0, inked-append (origin_words from) (shortest bytes ∷ []) (origin_inked from h.1) (page_inked size bytes h.2, tt))),
+  ),
+)
+op_inked size page bytes (op.Failed kind.PageOut since at) l h =
+    (refl, (refl, (small_inked page l, (wide_inked since h.0, (wide_inked at h.1, (page_inked size bytes h.2, tt))))))
 op_inked size page bytes (op.Failed kind.PageIn since at) l h = (refl, (refl, (small_inked page l, (wide_inked since h.0, (wide_inked at h.1, tt)))))
 
 sent_inked : (o : Op) (sent : Option Lender) → MayBeSent o sent → AreInked (sent_words sent)
@@ -213,12 +221,20 @@ sent_inked (op.PageIn named from) (Some l) h = cc
 sent_inked (op.Failed kind since at) (Some l) h = cc
 
 shown_inked : (size : ℕ) (shown : Shown) → HasShownWords size shown → AreInked (shown_words shown)
-shown_inked size shown h =
-    (refl, (small_inked shown.no.0 h.no, inked-append (op_words shown.page.0 shown.bytes shown.op) (sent_words shown.sent) (op_inked size shown.page.0 shown.bytes shown.op h.page h.op) (sent_inked shown.op shown.sent h.sent)))
+shown_inked size shown h = (
+  refl,
+  (
+    small_inked shown.no.0 h.no,
+    inked-append (op_words shown.page.0 shown.bytes shown.op) (sent_words shown.sent)
+        (op_inked size shown.page.0 shown.bytes shown.op h.page h.op) (sent_inked shown.op shown.sent h.sent),
+  ),
+)
 
 told_inked : (s : Sizes) (e : Event) (t : Told) → MayTell s e t → AreInked (told_words t)
 told_inked s e (Saw x) h = seen_inked s e x h
 told_inked s e (Entered shown) h = shown_inked s.page_bytes shown h.1
 
 pub pair_inked : (s : Sizes) (pair : Pair) → HasPairWords s pair → AreInked (pair_words pair)
-pair_inked s pair h = inked-append (event_words pair.event) (codes "=" ∷ told_words pair.told) (event_inked pair.event h.event) (refl, told_inked s pair.event pair.told h.told)
+pair_inked s pair h =
+    inked-append (event_words pair.event) (codes "=" ∷ told_words pair.told) (event_inked pair.event h.event)
+    (refl, told_inked s pair.event pair.told h.told)

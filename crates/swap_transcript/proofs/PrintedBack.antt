@@ -42,7 +42,13 @@ geometry_printed s h =
             small_inked s.pages_per_slab (omega (arith, w.pages_per_slab.1)),
             (
               small_inked s.slabs (omega (arith, w.slabs.1)),
-              (small_inked s.queue (omega (arith, w.queue.1)), (small_inked s.callers (omega (arith, w.callers.1)), (small_inked s.window (omega (arith, w.window.1)), (small_inked s.hot (omega (arith, w.hot.1)), tt)))),
+              (
+                small_inked s.queue (omega (arith, w.queue.1)),
+                (
+                  small_inked s.callers (omega (arith, w.callers.1)),
+                  (small_inked s.window (omega (arith, w.window.1)), (small_inked s.hot (omega (arith, w.hot.1)), tt)),
+                ),
+              ),
             ),
           ),
         ),
@@ -53,7 +59,13 @@ geometry_printed s h =
 lender_printed : (spec : LenderSpec) → IsWithinLimits spec → IsPrintedLine (lender_words spec)
 lender_printed spec h =
     let few = spec_small spec h in
-    record { first = codes "lender"; others = _; are = refl; inked = (refl, (small_inked spec.slots few.0, (small_inked spec.headroom few.1, (small_inked spec.extra few.2, tt)))); counts = refl }
+    record {
+      first = codes "lender";
+      others = _;
+      are = refl;
+      inked = (refl, (small_inked spec.slots few.0, (small_inked spec.headroom few.1, (small_inked spec.extra few.2, tt))));
+      counts = refl;
+    }
 
 lenders_printed : (s : Sizes) (others specs : List LenderSpec) → MayStandBelow s others specs → AllPrinted (map lender_words specs)
 lenders_printed s others [] h = tt
@@ -78,8 +90,10 @@ event_counts (event.Round w) words = refl
 
 pairs_printed : (s : Sizes) (above : Above) (pairs : List Pair) → MayFollow s above pairs → AllPrinted (map pair_words pairs)
 pairs_printed s above [] h = tt
-pairs_printed s above (pair ∷ pairs) h =
-    (record { first = _; others = _; are = refl; inked = pair_inked s pair h.0; counts = event_counts pair.event (told_words pair.told) }, pairs_printed s (counted above pair) pairs h.2)
+pairs_printed s above (pair ∷ pairs) h = (
+  record { first = _; others = _; are = refl; inked = pair_inked s pair h.0; counts = event_counts pair.event (told_words pair.told) },
+  pairs_printed s (counted above pair) pairs h.2,
+)
 
 end_printed : (n : ℕ) → n < 2 ^ 32 → IsPrintedLine (end_words n)
 end_printed n l = record { first = codes "end"; others = _; are = refl; inked = (refl, (small_inked n l, tt)); counts = refl }
@@ -93,4 +107,9 @@ printed_is_read t h =
       printed-append (map lender_words t.lenders) _ (lenders_printed t.sizes [] t.lenders h.lenders)
           (printed-append (map pair_words t.pairs) _ (pairs_printed t.sizes nothing_above t.pairs h.pairs) (end_printed (entries_of t) end, tt)),
     ) in
-    transcript-back (text_of (transcript_words t)) t (record { sizes = h.sizes; lenders = h.lenders; pairs = h.pairs; lines = kept-printed 1 (transcript_words t) lines })
+    transcript-back (text_of (transcript_words t)) t (record {
+      sizes = h.sizes;
+      lenders = h.lenders;
+      pairs = h.pairs;
+      lines = kept-printed 1 (transcript_words t) lines;
+    })

@@ -15,5 +15,7 @@ pub returns-in-Done : goal.returns-in-Done
 returns-in-Done c = record {
   event = c.event_numbers.ensures;
   seen = c.seen_numbers.ensures;
-  entry = λ n row of at. c.row_fits.ensures row (ap (λ (e : EntryNo). named c.args.history.now.history e.0) (sym (same c.args.seen c.in-Done.entry n c.in-Done.is of)) ∙ at);
+  entry =
+      λ n row of at. c.row_fits.ensures row
+      (ap (λ (e : EntryNo). named c.args.history.now.history e.0) (sym (same c.args.seen c.in-Done.entry n c.in-Done.is of)) ∙ at);
 }
