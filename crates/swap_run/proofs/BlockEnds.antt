@@ -1,5 +1,5 @@
 -- What the sink behind one that gathers took, by how a call ends.
-use Rattle.std.proofs.Common.{◌≡◌, ℕ, ◌+◌, ◌≤◌, true, false, Bool, List, [], ◌++◌, length, take, refl, sym, ap, ◌∙◌, subst, arith, Option, None, Some, inl, inr, append-nil, length-append}
+use Rattle.std.proofs.Common.{◌≡◌, ℕ, ◌≤◌, true, false, Bool, List, [], ◌++◌, length, take, refl, sym, ap, ◌∙◌, subst, arith, Option, None, Some, inl, inr, append-nil, length-append}
 use Rattle.std.specs.Io.KnownBytes.{Appends, Keeps, append_known}
 use Rattle.std.proofs.KnownBytes.{Appends-kept}
 use Rattle.std.proofs.lemmas.List.{take_at, take_all, take-take, length-take, nil_from_length}
@@ -64,6 +64,7 @@ ran_whole source before f mid now fault none kept p = record {
   wrote = out_all before (gathered mid) now.handed now.held (transcript_of p.script) none p.wrote kept;
   fault = p.fault;
   headline = p.headline;
+  read_back = p.read_back;
 }
 
 broke_off : (source : Stream) (before : Option (List ℕ)) (f : ℕ) (mid now : Gathered) (fault : Bool) → IsFresh before → Keeps (gathered mid) (gathered now) → f ≤ mid.faults → Rose mid.faults now.faults → RanScript source (stream (append_known before []) (gathered mid) f mid.faults) fault

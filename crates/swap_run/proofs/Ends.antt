@@ -1,21 +1,18 @@
 -- How a script's run ends.
-use Rattle.std.proofs.Common.{◌≡◌, ℕ, ◌≤◌, true, false, List, ◌++◌, length, [], ◌∷◌, refl, sym, ap, ◌∙◌, subst, is_err, OnErr, OnOk, inl, inr, Option, None, Some, Result, Ok, Err}
+use Rattle.std.proofs.Common.{◌≡◌, ℕ, ◌≤◌, true, false, List, ◌++◌, length, refl, sym, ap, ◌∙◌, subst, is_err, OnErr, OnOk, inl, inr, Option, None, Some, Result, Ok, Err}
 use Rattle.std.specs.Io.KnownBytes.{Appends, Keeps}
 use Rattle.swap_io.specs.Causes.{AppendsFront, HasCause, WasReadWhole}
-use Rattle.std.specs.List.{AllByRecursion}
-use Rattle.swap_base.specs.Sizes.{Sizes}
 use Rattle.swap_slabs.specs.declared.TheConstants.{MOST_LENDERS}
-use Rattle.swap_wire.specs.Input.{Input, IsInRange}
-use Rattle.swap_wire.specs.declared.Event.{Event}
-use Rattle.swap_wire.specs.declared.Event.TheVariants as event
-use Rattle.swap_world.specs.Runs.{IsPaged, IsInput}
 use Rattle.swap_world.specs.Laws.{AreInputs, AlwaysLegal, EachCallOnce, EntriesAreSeen}
 use Rattle.swap_world.specs.World.{World, start, reach, history}
 use Rattle.swap_script.specs.declared.TheConstants.{TEXT_LIMIT}
 use Rattle.swap_script.specs.declared.ScriptRefused.{ScriptRefused}
-use Rattle.swap_script.specs.Laws.{EventsInRange, LendersMayLend, HandsInAPage, PagesAreWhole}
+use Rattle.swap_script.specs.Laws.{EventsInRange, LendersMayLend, PagesAreWhole}
 use Rattle.swap_script.specs.Reading as reading
 use Rattle.swap_script.specs.Transcript.{end_line}
+use Rattle.swap_roundtrip.specs.Numbers.{NumbersFit}
+use Rattle.swap_roundtrip.specs.Back.{ScriptsAreReadBack}
+use Rattle.swap_roundtrip.proofs.Runs.{are_inputs}
 use Rattle.swap_run.specs.declared.Command.{Command}
 use Rattle.swap_run.specs.declared.Ending.{Ending}
 use Rattle.swap_run.specs.declared.Ending.TheVariants as ending
@@ -47,30 +44,12 @@ broke s left w a b el ew h = let P : List ℕ → Type 0 = λ r. AppendsFront a 
 pub history_is : (s left : reading.Script) (w after : World) → left ≡ s → w ≡ start s.sizes s.lenders → after ≡ reach w left.inputs → history after ≡ history_of s
 history_is s left w after el ew ea = ap history ea ∙ ap (λ (l : reading.Script). history (reach w l.inputs)) el ∙ ap (λ x. history (reach x s.inputs)) ew
 
+pub fits_of : (s left : reading.Script) (w : World) → left ≡ s → w ≡ start s.sizes s.lenders → NumbersFit w left.inputs → NumbersFit (start s.sizes s.lenders) s.inputs
+fits_of s left w el ew fits = subst (λ x. NumbersFit x s.inputs) ew (subst (λ (l : reading.Script). NumbersFit w l.inputs) el fits)
+
 pub keeps_same : (known : Option (List ℕ)) → Keeps known known
 keeps_same None = tt
 keeps_same (Some bytes) = refl
-
--- a script's events are inputs of its world: in range, with whole pages
-is_paged : (s : Sizes) (e : Event) (page : List ℕ) → HandsInAPage s e page → IsPaged s e page
-is_paged s (event.PageOut c p) page h = h
-is_paged s (event.PageIn c p) page h = tt
-is_paged s (event.Finish c) page h = tt
-is_paged s event.Start page h = tt
-is_paged s (event.Disk w ok) page h = tt
-is_paged s (event.Tick w) page h = tt
-is_paged s (event.Map t l) page h = tt
-is_paged s (event.Connect l) page h = tt
-is_paged s (event.Give l) page h = tt
-is_paged s (event.Take l) page h = tt
-is_paged s (event.Cut l a b) page h = tt
-is_paged s (event.Crash l) page h = tt
-is_paged s (event.Host l u w) page h = tt
-is_paged s (event.Round w) page h = tt
-
-are_inputs : (s : Sizes) (n : ℕ) (is : List Input) → AllByRecursion (λ (i : Input). IsInRange s n i.event) is → AllByRecursion (λ (i : Input). HandsInAPage s i.event i.page) is → AllByRecursion (IsInput s n) is
-are_inputs s n [] range pages = tt
-are_inputs s n (i ∷ is) range pages = ((range.0, is_paged s i.event i.page pages.0), are_inputs s n is range.1 pages.1)
 
 -- what holds of every script
 pub record ScriptLaws : Type 0 where
@@ -96,12 +75,12 @@ headline legal once seen laws text s e =
     }
 
 -- a text that was read whole, and how its run ended
-pub script_ends : AlwaysLegal → EachCallOnce → EntriesAreSeen → ScriptLaws → (source out : Stream) (text : List ℕ) (end : Ending) → WasReadWhole source.before source.now text → length text ≤ TEXT_LIMIT → TextEnds (reading.script text) out end → ScriptEnds source out end
-script_ends legal once seen range source out text end read within h = go (reading.script text) end refl h
+pub script_ends : AlwaysLegal → EachCallOnce → EntriesAreSeen → ScriptLaws → ScriptsAreReadBack → (source out : Stream) (text : List ℕ) (end : Ending) → WasReadWhole source.before source.now text → length text ≤ TEXT_LIMIT → TextEnds (reading.script text) out end → ScriptEnds source out end
+script_ends legal once seen range back source out text end read within h = go (reading.script text) end refl h
   where
     go : (r : Result reading.Script ScriptRefused) (end : Ending) → reading.script text ≡ r → TextEnds r out end → ScriptEnds source out end
-    go (Ok s) ending.Done e h = record { script = s; read = record { text = text; was_read = read; within = within; is_script = e }; wrote = h.wrote; fault = h.fault; headline = headline legal once seen range text s e }
-    go (Ok s) ending.Faulted e h = record { script = s; read = record { text = text; was_read = read; within = within; is_script = e }; wrote = h.wrote; fault = h.fault; headline = headline legal once seen range text s e }
+    go (Ok s) ending.Done e h = record { script = s; read = record { text = text; was_read = read; within = within; is_script = e }; wrote = h.wrote; fault = h.fault; headline = headline legal once seen range text s e; read_back = back text s e h.fits }
+    go (Ok s) ending.Faulted e h = record { script = s; read = record { text = text; was_read = read; within = within; is_script = e }; wrote = h.wrote; fault = h.fault; headline = headline legal once seen range text s e; read_back = back text s e h.fits }
     go (Ok s) ending.Usage e h = absurd h
     go (Ok s) ending.ReadFailed e h = absurd h
     go (Ok s) ending.WriteFailed e h = record { script = s; read = record { text = text; was_read = read; within = within; is_script = e }; wrote = h.0; failed = h.1 }

@@ -30,6 +30,7 @@ use Rattle.swap_world.specs.Runs.{WorldOf, IsLogged, Adds, nothing, one, GoesOn,
 use Rattle.swap_script.specs.Reading.{Script, calls_of, calls_in, page_after, first_event, later, is_out}
 use Rattle.swap_script.specs.Laws.{LinesStay}
 use Rattle.swap_script.specs.Transcript.{HasEntry, line}
+use Rattle.swap_roundtrip.specs.Numbers.{LineFits, NumbersFit}
 use Rattle.swap_run.specs.Run.{lines_of}
 use Rattle.swap_run.specs.Printing.{world_in, lines_from, HasRoomFor, Printing}
 
@@ -210,9 +211,9 @@ pub print_more : StepsAreNext → LinesStay → (first : WorldOf Drive Harbor) (
     → Printing first all now left tb tm → left.inputs ≡ i ∷ is → left'.inputs ≡ is → left'.sizes ≡ left.sizes → left'.lenders ≡ left.lenders
     → IsEvent drive.Moves harbor.Moves now.core.device now.core.disk now.core.fabric (record { event = i.event; page = page_after (i ∷ is) buf }) s after.core.device after.core.disk after.core.fabric
     → of_device after.core.device ≡ of_device now.core.device → KeepsRoom now.core after.core → GrowsByCalls i.event now.core.device after.core.device → after.log_spare ≡ one_less_if (has_effect i.event s) now.log_spare
-    → GoesOn now.core.device.history after.core.device.history → StandsIn after.core.device.history s
+    → GoesOn now.core.device.history after.core.device.history → StandsIn after.core.device.history s → LineFits now.core.device.sizes.page_bytes i.event s after.core.device.history
     → bytes ≡ line after.core.device.history (i.event, s) → Appends tm tn bytes → Printing first all after left' tb tn
-print_more steps stay first all now after left left' i is buf s bytes tb tm tn k el el' es eb step of keeps grows log goes stands is_line took =
+print_more steps stay first all now after left left' i is buf s bytes tb tm tn k el el' es eb step of keeps grows log goes stands fits is_line took =
     let nx = steps_to steps now after i is buf s step in
     let H : History = now.core.device.history in
     let H' : History = after.core.device.history in
@@ -230,6 +231,12 @@ print_more steps stay first all now after left left' i is buf s bytes tb tm tn k
           let P : List ℕ → Type 0 = λ r. Appends tb tn r in
           subst P (ap (λ l. l ++ bytes) (sym same) ∙ ap (λ b. lines_of H' k.so_far ++ b) is_line ∙ sym (lines_more H' k.so_far (i.event, s))) (appends_after tb tm tn (lines_of H k.so_far) bytes k.taken took);
       room = room_left now after left left' i is s el el' es eb of keeps grows log k.room;
+      fits =
+          λ rest.
+          let size : ℕ = now.core.device.sizes.page_bytes in
+          let P : Next → Type 0 = λ n. LineFits size i.event n.seen (history n.world) × NumbersFit n.world is in
+          let later : NumbersFit (world_in after) is = subst (NumbersFit (world_in after)) el' rest in
+          k.fits (subst (NumbersFit (world_in now)) (sym el) (subst P (sym nx) (fits, later)));
     }
 
 -- a line was broken off
@@ -305,7 +312,20 @@ pub record IsMade (now after : WorldOf Drive Harbor) (e : Event) (page : List �
   pub grows : GrowsByCalls e now.core.device after.core.device
   pub log : IsLogged e s now after
   pub adds : Adds now.core.device (record { event = e; page = page }) s after.core.device.history
+  pub fits : LineFits now.core.device.sizes.page_bytes e s after.core.device.history
   pub is_line : bytes ≡ line after.core.device.history (e, s)
+
+-- a line's numbers fit in the terms of the world
+pub line_fits_at : {m n : ℕ} {e : Event} {s : Seen} {H K : History} → LineFits m e s H → m ≡ n → H ≡ K → LineFits n e s K
+line_fits_at {m} {n} {e} {s} {H} {K} fits size same = subst (LineFits n e s) same (subst (λ k. LineFits k e s H) size fits)
+
+-- no event is left, so all numbers fit
+pub all_fit : (first : WorldOf Drive Harbor) (all : List Input) (now : WorldOf Drive Harbor) (left : Script) (tb tn : Option (List ℕ)) → Printing first all now left tb tn → None ≡ first_event left.inputs → NumbersFit (world_in first) all
+all_fit first all now left tb tn k none = go left.inputs refl none
+  where
+    go : (inputs : List Input) → left.inputs ≡ inputs → None ≡ first_event inputs → NumbersFit (world_in first) all
+    go [] is none = k.fits (subst (NumbersFit (world_in now)) (sym is) tt)
+    go (i ∷ inputs) is none = cc
 
 some_is : {X : Type 0} {x y : X} → Some x ≡ Some y → x ≡ y
 some_is e = cc
@@ -324,7 +344,7 @@ printed_more steps stay first all now after left left' e page buf s bytes tb tm 
     go (i ∷ is) is_inputs ee ep =
         let made = made_at now after e i.event page (page_after (i ∷ is) buf) s bytes (some_is ee) ep m in
         print_more steps stay first all now after left left' i is buf s bytes tb tm tn k is_inputs (ap (λ (x : Script). x.inputs) el ∙ ap (λ l. drop 1 l) is_inputs) (ap (λ (x : Script). x.sizes) el) (ap (λ (x : Script). x.lenders) el)
-        made.step made.of made.keeps made.grows made.log.room (adds_go_on _ _ _ _ made.adds) (adds_stand _ _ _ _ made.adds) made.is_line took
+        made.step made.of made.keeps made.grows made.log.room (adds_go_on _ _ _ _ made.adds) (adds_stand _ _ _ _ made.adds) made.fits made.is_line took
 
 pub printed_broke : StepsAreNext → LinesStay → HistoriesGoOn → (first : WorldOf Drive Harbor) (all : List Input) (now after : WorldOf Drive Harbor) (left : Script) (e : Event) (page buf : List ℕ) (s : Seen) (bytes : List ℕ) (tb tm tn : Option (List ℕ))
     → Printing first all now left tb tm → Some e ≡ first_event left.inputs → page ≡ page_after left.inputs buf → IsMade now after e page s bytes → AppendsFront tm tn bytes → AppendsFront tb tn (lines_from (world_in first) all)

@@ -14,6 +14,8 @@ use Rattle.swap_transcript.specs.declared.Judgement.{Judgement}
 use Rattle.swap_transcript.specs.Transcripts.{Transcript}
 use Rattle.swap_transcript.specs.Transcripts as transcripts
 use Rattle.swap_transcript.specs.Verdicts.{IsJudged}
+use Rattle.swap_roundtrip.specs.Numbers.{NumbersFit}
+use Rattle.swap_roundtrip.specs.Back.{start_of, IsReadBack}
 use Rattle.swap_run.specs.Judging.{verdict_line}
 use Rattle.swap_run.specs.declared.Command.{Command}
 use Rattle.swap_run.specs.declared.Command.TheVariants.{RunScript, CheckTranscript}
@@ -48,13 +50,15 @@ pub record ReadScript (source : Stream) (s : reading.Script) : Type 0 where
   pub within : length text ≤ TEXT_LIMIT
   pub is_script : reading.script text ≡ Ok s
 
--- a script ran: out took its transcript, and nothing else; a call failed or none did; and the headline holds of it
+-- a script ran: out took its transcript, and nothing else; a call failed or none did; the headline holds of it; and
+-- reading what out took gives its history back
 pub record RanScript (source out : Stream) (with_fault : Bool) : Type 0 where
   pub script : reading.Script
   pub read : ReadScript source script
   pub wrote : Appends out.before out.now (transcript_of script)
   pub fault : has_failed (history_of script) ≡ with_fault
   pub headline : IsHeadline script
+  pub read_back : IsReadBack script (transcript_of script)
 
 -- a write failed in a script's run: out took a front of the transcript
 pub record BrokeOff (source out : Stream) : Type 0 where
@@ -83,10 +87,11 @@ pub record ReadTooMuch (source : Stream) : Type 0 where
   pub was_read : WasRead source.before source.now bytes
   pub too_long : TEXT_LIMIT < length bytes
 
--- what a script's run leaves, by how it ends
+-- what a script's run leaves, by how it ends; the numbers of its lines fit their types
 pub record RanIn (s : reading.Script) (out : Stream) (with_fault : Bool) : Type 0 where
   pub wrote : Appends out.before out.now (transcript_of s)
   pub fault : has_failed (history_of s) ≡ with_fault
+  pub fits : NumbersFit (start_of s) s.inputs
 
 abbrev pub LabEnds : reading.Script → Stream → Ending → Type 0
 LabEnds s out ending.Done = RanIn s out false

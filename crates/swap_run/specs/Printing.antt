@@ -13,6 +13,7 @@ use Rattle.swap_world.specs.World.{World, reach, seens, history}
 use Rattle.swap_world.specs.Runs.{WorldOf, busy_callers}
 use Rattle.swap_script.specs.Reading.{Script, calls_of}
 use Rattle.swap_script.specs.Transcript.{HasEntry, header, lender_header}
+use Rattle.swap_roundtrip.specs.Numbers.{NumbersFit}
 use Rattle.swap_run.specs.Run.{lines_of}
 
 -- the program's world as a function's
@@ -34,7 +35,8 @@ pub record HasRoomFor (w : WorldOf Drive Harbor) (s : Script) : Type 0 where
   pub entries : busy_callers w.core.device + calls_of s.inputs ≤ w.core.spare
   pub log : length s.inputs ≤ w.log_spare
 
--- while events are printed: what was made so far and what is left are all events, and the lines so far are taken
+-- while events are printed: what was made so far and what is left are all events, and the lines so far are taken; their
+-- numbers fit, so that all fit where those of what is left do
 pub record Printing (first : WorldOf Drive Harbor) (all : List Input) (now : WorldOf Drive Harbor) (left : Script) (taken_before taken_now : Option (List ℕ)) : Type 0 where
   pub so_far : List (Event × Seen)
   pub seens : seens (world_in first) all ≡ so_far ++ seens (world_in now) left.inputs
@@ -42,3 +44,4 @@ pub record Printing (first : WorldOf Drive Harbor) (all : List Input) (now : Wor
   pub stand : AllByRecursion (λ (p : Event × Seen). HasEntry (history (world_in now)) p.1) so_far
   pub taken : Appends taken_before taken_now (lines_of (history (world_in now)) so_far)
   pub room : HasRoomFor now left
+  pub fits : NumbersFit (world_in now) left.inputs → NumbersFit (world_in first) all

@@ -3,12 +3,14 @@ ghost use Rattle.std.specs.Io.KnownBytes.{Appends};
 ghost use Rattle.swap_io.specs.Causes.{HasCause, AppendsFront};
 ghost use Rattle.swap_world.specs.World.{reach, history};
 ghost use Rattle.swap_script.specs.Transcript.{lender_header, end_line};
+ghost use Rattle.swap_roundtrip.specs.Numbers.{NumbersFit};
 ghost use Rattle.swap_run.specs.Printing.{world_in, headers, lines_from, HasRoomFor};
 
 use swap_base::{Geometry, LenderSpec};
 use swap_disk::MemDisk;
 use swap_io::{LineBuf, Sink, WriteFailed, write_line};
 use swap_link::Harbor;
+use swap_roundtrip::line_fits;
 use swap_script::{Walk, end_line, event_line, header_line, lender_line, lines_stay};
 use swap_world::{World, histories_go_on, steps_are_next};
 
@@ -56,6 +58,7 @@ fn print_events<K: Sink>(
     requires room { HasRoomFor world.old walk.old }
     requires page { length page.old ≡ walk.old.sizes.page_bytes }
     ensures world { OnOk result (world_in world.new ≡ reach (world_in world.old) walk.old.inputs) }
+    ensures fits { OnOk result (NumbersFit (world_in world.old) walk.old.inputs) }
     ensures ok { OnOk result (Appends (K.taken out.old) (K.taken out.new) (lines_from (world_in world.old) walk.old.inputs)) }
     ensures err { OnErr result (AppendsFront (K.taken out.old) (K.taken out.new) (lines_from (world_in world.old) walk.old.inputs)) }
     ensures cause { HasCause (K.faults out.old) (K.faults out.new) result }
@@ -65,7 +68,9 @@ fn print_events<K: Sink>(
     histories_go_on();
     'events: while let Some(event) = walk.next(page) {
         let seen = world.step(&event, page);
-        event_line(&event, &seen, world.device().history(), line);
+        let history = world.device().history();
+        line_fits(event, seen, history);
+        event_line(&event, &seen, history, line);
         write_line(out, line.bytes())?;
     }
     Ok(())
@@ -84,6 +89,7 @@ pub(crate) fn print_run<K: Sink>(
     requires lenders { lenders.now ≡ walk.old.lenders }
     requires page { length page.old ≡ walk.old.sizes.page_bytes }
     ensures world { OnOk result (world_in world.new ≡ reach (world_in world.old) walk.old.inputs) }
+    ensures fits { OnOk result (NumbersFit (world_in world.old) walk.old.inputs) }
     ensures ok { OnOk result (Appends (K.taken out.old) (K.taken out.new) (headers walk.old.sizes walk.old.lenders ++ lines_from (world_in world.old) walk.old.inputs ++ end_line (length (history (reach (world_in world.old) walk.old.inputs))))) }
     ensures err { OnErr result (AppendsFront (K.taken out.old) (K.taken out.new) (headers walk.old.sizes walk.old.lenders ++ lines_from (world_in world.old) walk.old.inputs ++ end_line (length (history (reach (world_in world.old) walk.old.inputs))))) }
     ensures cause { HasCause (K.faults out.old) (K.faults out.new) result }

@@ -17,6 +17,7 @@ use swap_disk::MemDisk;
 use swap_io::{BlockSink, LineBuf, Sink, Source, WholeRefused, read_whole};
 use swap_link::Harbor;
 use swap_record::{Op, Record};
+use swap_roundtrip::scripts_are_read_back;
 use swap_script::{
     Script, TEXT_LIMIT, events_in_range, lenders_may_lend, pages_are_whole, read_script,
 };
@@ -135,6 +136,7 @@ fn run_script<S: Source, K: Sink>(alloc: Global, source: &mut S, out: &mut K) ->
     events_in_range();
     lenders_may_lend();
     pages_are_whole();
+    scripts_are_read_back();
     match read_whole(alloc, source, TEXT_LIMIT) {
         Ok(text) => run_text(alloc, &text, out),
         Err(WholeRefused::ReadFailed) => Ending::ReadFailed,
@@ -189,8 +191,9 @@ fn run_command<S: Source, K: Sink>(
 }
 
 /// The top call for the commands that work on a text. `script` reads a script from `source`, runs it, and writes its
-/// transcript to `out`; `check` reads a transcript, judges it, and writes the verdict. The answer is the program's status; what went wrong is told to `err`, whose own
-/// failures change nothing. Each status has its cause in the clause.
+/// transcript to `out`; `check` reads a transcript, judges it, and writes the verdict. Reading a whole transcript of
+/// `script` back gives the history that its events reached. The answer is the program's status; what went wrong is told
+/// to `err`, whose own failures change nothing. Each status has its cause in the clause.
 pub fn run_lab<S: Source, K: Sink, E: Sink>(
     alloc: Global,
     words: &[&str],

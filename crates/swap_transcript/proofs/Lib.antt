@@ -11,3 +11,6 @@ pub mod Judges
 pub mod Whole
 pub mod WholeBack
 pub mod PrintedLines
+pub mod Inked
+pub mod Apart
+pub mod PrintedBack

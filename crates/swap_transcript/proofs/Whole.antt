@@ -127,7 +127,7 @@ within_64 low n e =
     let parts = and_parts (nat_le low n) (nat_le n 64) e in
     omega (arith, leb-true n 64 parts.1)
 
-spec_small : (spec : LenderSpec) → IsWithinLimits spec → (spec.slots < 2 ^ 32) × (spec.headroom < 2 ^ 32) × (spec.extra < 2 ^ 32)
+pub spec_small : (spec : LenderSpec) → IsWithinLimits spec → (spec.slots < 2 ^ 32) × (spec.headroom < 2 ^ 32) × (spec.extra < 2 ^ 32)
 spec_small spec e =
     let slots = passes Slots (is_within 1 64 spec.slots) ((Headroom, is_within 0 64 spec.headroom) ∷ (Extra, is_within 0 64 spec.extra) ∷ []) e in
     let headroom = passes Headroom (is_within 0 64 spec.headroom) ((Extra, is_within 0 64 spec.extra) ∷ []) slots.1 in

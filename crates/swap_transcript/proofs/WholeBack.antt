@@ -53,7 +53,7 @@ event_apart (event.Host l u w) words = (refl, refl)
 event_apart (event.Round w) words = (refl, refl)
 
 -- there are few entries
-few_entries : (s : Sizes) (pairs : List Pair) (above : Above) → MayFollow s above pairs → above.entries ≤ above.events → above.events ≤ 4_194_304 → entries_after above pairs ≤ 4_194_304
+pub few_entries : (s : Sizes) (pairs : List Pair) (above : Above) → MayFollow s above pairs → above.entries ≤ above.events → above.events ≤ 4_194_304 → entries_after above pairs ≤ 4_194_304
 few_entries s [] above h fewer within = omega arith
 few_entries s (pair ∷ pairs) above h fewer within =
     let owes = owes_nothing s above pair h.1 in
@@ -84,7 +84,7 @@ entries-are : (pairs : List Pair) (above : Above) (j : Judged) → above.entries
 entries-are [] above j e = e
 entries-are (pair ∷ pairs) above j e = entries-are pairs (counted above pair) (with_pair j pair) (one_more above j pair.event pair.told e)
 
-entries_of-is : (t : Transcript) → entries_after nothing_above t.pairs ≡ entries_of t
+pub entries_of-is : (t : Transcript) → entries_after nothing_above t.pairs ≡ entries_of t
 entries_of-is t = entries-are t.pairs nothing_above no_entries refl
 
 no_lender : (pairs : List Pair) (n : ℕ) → NoLender (map pair_words pairs ++ end_words n ∷ [])

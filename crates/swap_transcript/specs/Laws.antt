@@ -1,5 +1,5 @@
 -- What a transcript is: its lines are those that its sizes, its lenders and its pairs print.
-use Rattle.std.specs.Prelude.{◌≡◌, ℕ, ◌↔◌, List, [], ◌∷◌, ◌++◌, map, Option, None, Some, Ok, codes}
+use Rattle.std.specs.Prelude.{◌≡◌, ℕ, ◌↔◌, List, [], ◌∷◌, ◌++◌, map, flat_map, Option, None, Some, Ok, codes}
 use Rattle.std.specs.Fmt.{decimal}
 use Rattle.swap_base.specs.Sizes.{Sizes, AreInLimits, first_beyond}
 use Rattle.swap_base.specs.declared.geometry.LenderSpec.{LenderSpec}
@@ -108,3 +108,17 @@ LinesArePrinted = (H : History) (pair : Pair) → IsToldOf H pair.told → line 
 -- the bytes of a transcript's lines are its words with one space between each two
 abbrev pub BytesArePrinted : Type 0
 BytesArePrinted = (text : List ℕ) (t : Transcript) → transcript text ≡ Ok t → map (λ (numbered : ℕ × List ℕ). numbered.1) (kept_lines text) ≡ map spaced (transcript_words t)
+
+-- lines as a text: the words of each with one space between each two, and a line feed behind them
+abbrev pub text_of : List Words → List ℕ
+text_of lines = flat_map (λ words. ended (spaced words)) lines
+
+-- a transcript within the limits, whose lines have words and owe nothing
+pub record IsWhole (t : Transcript) : Type 0 where
+  pub sizes : AreInLimits t.sizes
+  pub lenders : MayStandBelow t.sizes [] t.lenders
+  pub pairs : MayFollow t.sizes nothing_above t.pairs
+
+-- what such a transcript prints is read as that transcript
+abbrev pub PrintedIsRead : Type 0
+PrintedIsRead = (t : Transcript) → IsWhole t → transcript (text_of (transcript_words t)) ≡ Ok t

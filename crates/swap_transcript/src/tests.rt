@@ -2,8 +2,11 @@
 
 use super::*;
 use std::test::Fail;
-use swap_base::EntryNo;
+use swap_base::{EntryNo, Field};
 use swap_script::{TEXT_LIMIT, Why};
+
+const NINE_LENDERS: &str = "geometry 8 4 2 4 2 4 20\nlender 4 1 1\nlender 4 1 1\nlender 4 1 1\n\
+    lender 4 1 1\nlender 4 1 1\nlender 4 1 1\nlender 4 1 1\nlender 4 1 1\nlender 4 1 1\nend 0\n";
 
 /// One text for each reason that a short text can have, with the line that is named.
 #[test]
@@ -71,10 +74,67 @@ fn each_reason_is_named(rt: HostRuntime) {
             Why::Page,
         ),
         (
+            "geometry 12 4 2 4 2 4 20\nend 0\n",
+            1,
+            Why::Field(Field::PageBytes),
+        ),
+        (
+            "geometry 8 0 2 4 2 4 20\nend 0\n",
+            1,
+            Why::Field(Field::PagesPerSlab),
+        ),
+        (
+            "geometry 8 4 0 4 2 4 20\nend 0\n",
+            1,
+            Why::Field(Field::Slabs),
+        ),
+        (
+            "geometry 8 4 2 0 2 4 20\nend 0\n",
+            1,
+            Why::Field(Field::Queue),
+        ),
+        (
+            "geometry 8 4 2 4 0 4 20\nend 0\n",
+            1,
+            Why::Field(Field::Callers),
+        ),
+        (
+            "geometry 8 4 2 4 2 0 20\nend 0\n",
+            1,
+            Why::Field(Field::Window),
+        ),
+        ("geometry 8 4 2 4 2 4 0\nend 0\n", 1, Why::Field(Field::Hot)),
+        (
+            "geometry 8 65536 17 4 2 4 20\nend 0\n",
+            1,
+            Why::Field(Field::Pages),
+        ),
+        (
+            "geometry 4096 65536 2 4 2 4 20\nend 0\n",
+            1,
+            Why::Field(Field::Bytes),
+        ),
+        (
             "geometry 8 4 2 4 2 4 20\nlender 0 0 0\nend 0\n",
             2,
-            Why::Field(swap_base::Field::Slots),
+            Why::Field(Field::Slots),
         ),
+        (
+            "geometry 8 4 2 4 2 4 20\nlender 4 65 0\nend 0\n",
+            2,
+            Why::Field(Field::Headroom),
+        ),
+        (
+            "geometry 8 4 2 4 2 4 20\nlender 4 1 65\nend 0\n",
+            2,
+            Why::Field(Field::Extra),
+        ),
+        (
+            "geometry 4096 16384 1 4 2 4 20\nlender 64 0 0\nend 0\n",
+            2,
+            Why::Lent,
+        ),
+        (NINE_LENDERS, 10, Why::Lenders),
     ] {
         assert!(rt; text.len() < 1000);
         assert_eq!(rt;

@@ -4,6 +4,7 @@ use Rattle.swap_transcript.specs.Transcripts.{pair_of}
 use Rattle.swap_transcript.proofs.ResultBack.{pair_of-back}
 use Rattle.swap_transcript.proofs.WholeBack.{transcript-only, transcript-back, one_reading}
 use Rattle.swap_transcript.proofs.PrintedLines.{bytes_are_printed, lines_are_printed}
+use Rattle.swap_transcript.proofs.PrintedBack.{printed_is_read}
 use Rattle.swap_transcript.proofs.transcripts_are_read.Goals as goal
 
 pub returns-clause-lines : goal.returns-clause-lines
@@ -20,3 +21,6 @@ returns-clause-bytes c = bytes_are_printed
 
 pub returns-clause-printed : goal.returns-clause-printed
 returns-clause-printed c = lines_are_printed
+
+pub returns-clause-back : goal.returns-clause-back
+returns-clause-back c = printed_is_read

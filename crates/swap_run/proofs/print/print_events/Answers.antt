@@ -1,6 +1,7 @@
 use Rattle.std.proofs.Common.{arith, ap, sym, ◌∙◌}
 use Rattle.swap_script.specs.Transcript.{line}
-use Rattle.swap_run.proofs.Printed.{printed_more, printed_broke, any_err}
+use Rattle.swap_run.proofs.Printed.{printed_more, printed_broke, line_fits_at, any_err}
+use Rattle.swap_wire.specs.Fabric.{FabricOf}
 use Rattle.swap_run.proofs.print.print_events.Goals as goal
 
 pub events-preserved : goal.events-preserved
@@ -14,7 +15,8 @@ events-preserved g c = record {
         grows = c.step-seen.ensures.grows;
         log = c.step-seen.ensures.log;
         adds = c.step-seen.ensures.adds;
-        is_line = c.bytes.ensures.bytes ∙ c.event_line.ensures ∙ ap (λ h. line h (c.in-Some.event, c.step-seen.result)) (c.history.ensures.history ∙ ap (λ d. d.device.history) c.device.ensures);
+        fits = line_fits_at c.line_fits.ensures (c.history-history.ensures.page ∙ ap (λ d. d.device.sizes.page_bytes) c.device.ensures ∙ ap (λ (o : FabricOf). o.sizes.page_bytes) c.step-seen.ensures.of) (c.history-history.ensures.history ∙ ap (λ d. d.device.history) c.device.ensures);
+        is_line = c.bytes.ensures.bytes ∙ c.event_line.ensures ∙ ap (λ h. line h (c.in-Some.event, c.step-seen.result)) (c.history-history.ensures.history ∙ ap (λ d. d.device.history) c.device.ensures);
       })
       c.in_ok-write_line.ensures.ok;
   faults = omega (arith, c.events.invariant.faults, c.write_line.ensures.cause.later);
@@ -32,6 +34,7 @@ returns-in_err-write_line-clause-err g c =
       grows = c.step-seen.ensures.grows;
       log = c.step-seen.ensures.log;
       adds = c.step-seen.ensures.adds;
-      is_line = c.bytes.ensures.bytes ∙ c.event_line.ensures ∙ ap (λ h. line h (c.in-Some.event, c.step-seen.result)) (c.history.ensures.history ∙ ap (λ d. d.device.history) c.device.ensures);
+      fits = line_fits_at c.line_fits.ensures (c.history-history.ensures.page ∙ ap (λ d. d.device.sizes.page_bytes) c.device.ensures ∙ ap (λ (o : FabricOf). o.sizes.page_bytes) c.step-seen.ensures.of) (c.history-history.ensures.history ∙ ap (λ d. d.device.history) c.device.ensures);
+      is_line = c.bytes.ensures.bytes ∙ c.event_line.ensures ∙ ap (λ h. line h (c.in-Some.event, c.step-seen.result)) (c.history-history.ensures.history ∙ ap (λ d. d.device.history) c.device.ensures);
     })
     c.in_err-write_line.ensures.err)

@@ -1,0 +1,6 @@
+mod Shapes
+mod Entries
+mod Plain
+mod Owed
+mod Lines
+pub mod Runs
