@@ -1,31 +1,23 @@
 -- Lists of messages that may be taken one after another, and what a lender adds to them.
-use Rattle.std.proofs.Common.{◌≡◌, ℕ, ◌+◌, ◌<◌, ◌≤◌, ◌⊎◌, inl, inr, Bool, true, false, cond, ◌&&◌, zero, suc, List, [], ◌∷◌, ◌++◌, take, get_or, set, map, refl, sym, ap, ◌∙◌, subst, arith, length, eqb, Option, None, Some, get_or-set_same, get_or-set_other}
-use Rattle.std.specs.Prelude.{◌==◌, min, option_map}
-use Rattle.std.specs.List.{filter, range_with_len, list_any}
-use Rattle.std.proofs.lemmas.Bool.{cond_both, and_parts, both_ways, cases_eq, cases_lt, ltb-true}
-use Rattle.std.proofs.lemmas.List.{get_or_past}
+use Rattle.std.proofs.Common.{◌≡◌, ℕ, ◌+◌, ◌≤◌, ◌⊎◌, inl, inr, Bool, true, false, zero, suc, List, [], ◌∷◌, ◌++◌, take, get_or, set, refl, sym, ap, ◌∙◌, subst, arith, length, get_or-set_same, get_or-set_other}
+use Rattle.std.specs.Prelude.{◌==◌}
+use Rattle.std.proofs.lemmas.Bool.{cond_both, both_ways, cases_eq, cases_lt}
 use Rattle.swap_base.specs.declared.Slab.{Slab}
 use Rattle.swap_base.specs.declared.Link.{Link}
 use Rattle.swap_base.specs.declared.Lease.{Lease}
 use Rattle.swap_wire.specs.declared.Msg.{Msg}
 use Rattle.swap_wire.specs.declared.Msg.TheVariants as msg
 use Rattle.swap_wire.specs.Fabric.{Parcel, parcel_of}
-use Rattle.swap_choice.specs.Slots.{has, size}
-use Rattle.swap_choice.specs.Least.{least_of, rank}
-use Rattle.swap_choice.proofs.Ranks.{has-set_of, any-filter, any-filter-out}
-use Rattle.swap_evict.specs.Rounds.{Round, answer, waiting, standing, ready}
-use Rattle.swap_evict.proofs.Bits.{has-and}
+use Rattle.swap_choice.specs.Slots.{has}
 use Rattle.swap_lender.specs.declared.SlotState.{SlotState}
 use Rattle.swap_lender.specs.declared.SlotState.TheVariants.{Free, Held}
-use Rattle.swap_lender.specs.declared.Notice.{Notice}
 use Rattle.swap_lender.specs.declared.Notice.TheVariants as notice
-use Rattle.swap_lender.specs.Lender.{Lender, slot_in, slot_of, is_evicting, is_free, first_where, lends}
-use Rattle.swap_lender.specs.Table.{Turn, tell_slot, told, mark_slot, marked, settle_with, due, serve, lend, may_send, host, measured, opens, asked}
-use Rattle.swap_link.specs.Fits.{IsSound, lease_at}
+use Rattle.swap_lender.specs.Lender.{slot_in}
+use Rattle.swap_lender.specs.Table.{tell_slot, told}
 use Rattle.swap_link.specs.Lane.{Lane, appended}
 use Rattle.swap_link.specs.Channel.{posted, forwarded}
-use Rattle.swap_joint.specs.Order.{is_request, is_reply}
-use Rattle.swap_joint.specs.Turn.{MayCome, Then, After, InTurn, Stays, AsksUntold}
+use Rattle.swap_joint.specs.Order.{is_reply}
+use Rattle.swap_joint.specs.Turn.{MayCome, Then, After, InTurn, Stays}
 use Rattle.swap_joint.proofs.Lanes.{by_append}
 
 -- more leases that map a slab
@@ -114,9 +106,9 @@ stays_lent M slots b q j m u lease is h open_ i n t k held = after-append M b q 
     here : b.ended ≡ false → After M b.parcels k ⊎ (lease.0 ≡ k.0)
     here e = elim (cases_eq i j) [
       | inl same ↦ elim (cases_lt j (length slots)) [
-          | inl within ↦ inr (lease_is m n u t lease k false false (sym (get_or-set_same slots j (Held m u lease false) Free within) ∙ ap (λ x. get_or (set slots j (Held m u lease false)) x Free) (sym same) ∙ held))
-          | inr past ↦ inl (h e i n t k (sym (unset slots j (Held m u lease false) past i) ∙ held))
-        ]
+        | inl within ↦ inr (lease_is m n u t lease k false false (sym (get_or-set_same slots j (Held m u lease false) Free within) ∙ ap (λ x. get_or (set slots j (Held m u lease false)) x Free) (sym same) ∙ held))
+        | inr past ↦ inl (h e i n t k (sym (unset slots j (Held m u lease false) past i) ∙ held))
+      ]
       | inr other ↦ inl (h e i n t k (sym (get_or-set_other slots j i (Held m u lease false) Free other) ∙ held))
     ]
       where

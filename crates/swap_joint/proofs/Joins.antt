@@ -1,63 +1,50 @@
 -- The device's own moves, and what it sends: each link that is up stays joined with its lender.
-use Rattle.std.proofs.Common.{◌≡◌, ℕ, ◌+◌, ◌<◌, ◌≤◌, inl, inr, Bool, true, false, cond, ◌&&◌, List, [], ◌∷◌, ◌++◌, length, set, refl, sym, ap, ◌∙◌, subst, length-set, get_or-set_same, Option, None, Some, eq-eqb}
+use Rattle.std.proofs.Common.{◌≡◌, ℕ, ◌<◌, ◌≤◌, inl, inr, Bool, true, false, cond, List, [], ◌∷◌, ◌++◌, length, set, refl, sym, ap, ◌∙◌, subst, length-set, get_or-set_same, None, Some}
 use Rattle.std.specs.List.{AllByRecursion}
 use Rattle.std.proofs.lemmas.Bool.{cond-false, cases_eq, cases_lt, both_ways}
 use Rattle.std.proofs.lemmas.List.{get_or_past}
 use Rattle.swap_base.specs.declared.Page.{Page}
-use Rattle.swap_base.specs.declared.Slab.{Slab}
 use Rattle.swap_base.specs.declared.Caller.{Caller}
 use Rattle.swap_base.specs.declared.Lender.{Lender}
 use Rattle.swap_base.specs.declared.Lease.{Lease}
 use Rattle.swap_base.specs.declared.EntryNo.{EntryNo}
 use Rattle.swap_base.specs.declared.Via.TheVariants as via
-use Rattle.swap_base.specs.declared.DiskWhich.{DiskWhich}
-use Rattle.swap_base.specs.declared.DiskWhich.TheVariants as which
-use Rattle.swap_base.specs.Sizes.{Sizes, place_of, zeros}
-use Rattle.swap_record.specs.History.{History, last, next_name, row_of, is_out_of}
-use Rattle.swap_record.specs.declared.Op.TheVariants as op
-use Rattle.swap_queue.specs.Queue as queue
-use Rattle.swap_queue.specs.Queue.{Copy}
-use Rattle.swap_disk.specs.Disk.{Taken}
-use Rattle.swap_wire.specs.declared.Msg.TheVariants as msg
+use Rattle.swap_base.specs.Sizes.{Sizes, zeros}
+use Rattle.swap_record.specs.History.{History, last, next_name, is_out_of}
 use Rattle.swap_wire.specs.declared.fabric.Sent.{Sent}
 use Rattle.swap_wire.specs.declared.fabric.Sent.TheVariants as sent_is
-use Rattle.swap_wire.specs.Fabric.{Parcel, parcel_of, write_parcel, read_parcel, FabricCall, Send, FabricAnswer}
+use Rattle.swap_wire.specs.Fabric.{Parcel, FabricCall, FabricAnswer}
 use Rattle.swap_bits.specs.Bits.{has}
 use Rattle.swap_calls.specs.Calls as calls
 use Rattle.swap_calls.specs.Calls.{Call, Calls, state_of}
 use Rattle.swap_calls.specs.declared.Arrived.TheVariants as arrived
-use Rattle.swap_calls.specs.declared.CallState.{CallState}
-use Rattle.swap_calls.specs.declared.CallState.TheVariants.{Idle, Room, Reading}
-use Rattle.swap_slabs.specs.Slabs as slabs
+use Rattle.swap_calls.specs.declared.CallState.TheVariants.{Reading}
 use Rattle.swap_slabs.specs.Slabs.{has_lease}
 use Rattle.swap_slabs.specs.declared.SlabState.{SlabState}
-use Rattle.swap_slabs.specs.declared.SlabState.TheVariants.{Local, Asking, Borrowing, Mapped, Draining}
 use Rattle.swap_rings.specs.Rings as rings
 use Rattle.swap_rings.specs.Rings.{LinkState, link_of, ring_of, is_up}
 use Rattle.swap_rings.specs.declared.Request.{Request}
 use Rattle.swap_rings.specs.declared.Request.TheVariants as request
-use Rattle.swap_remote.specs.Remote as remote
-use Rattle.swap_remote.specs.Remote.{Remote, slab_for, state_for, target}
-use Rattle.swap_table.specs.Device as device
-use Rattle.swap_table.specs.Device.{Device, enter, lost, wait_for_room, wait_for_disk, write_sent, read_sent}
-use Rattle.swap_table.specs.Serves.{IsOut, IsOutIn, bytes_of, bytes_in, WaitsFrom, Serves}
+use Rattle.swap_remote.specs.Remote.{Remote, slab_for, state_for}
+use Rattle.swap_table.specs.Device.{Device, lost}
+use Rattle.swap_table.specs.Serves.{IsOut, IsOutIn, bytes_of, Serves}
 use Rattle.swap_table.proofs.Entries.{named_last, out_on, last_bytes}
 use Rattle.swap_table.proofs.Links.{link-same}
-use Rattle.swap_table.proofs.Sends.{sent-same, sent-other}
+use Rattle.swap_table.proofs.Sends.{sent-same}
 use Rattle.swap_table.proofs.Requests.{has_own}
-use Rattle.swap_table.proofs.Waits.{Target, target_is}
+use Rattle.swap_table.proofs.Waits.{Target}
 use Rattle.swap_link.specs.Channel.{Channel, sent, on_channel}
 use Rattle.swap_link.specs.Harbor as harbor
 use Rattle.swap_link.specs.Harbor.{Harbor, channel_of, lender_of, KeepsAt, OwesAt}
 use Rattle.swap_link.specs.HarborLaws.{called, other_channel}
 use Rattle.swap_link.specs.Keeping.{Unless}
-use Rattle.swap_link.specs.KeepLaws.{unless, unless-map}
+use Rattle.swap_link.specs.KeepLaws.{unless-map}
 use Rattle.swap_joint.specs.Order.{is_request, Carries, served_of}
 use Rattle.swap_joint.specs.Brought.{kept_entry, found, HoldsFor}
 use Rattle.swap_joint.specs.Sight.{SameLeases, StillReads, SeesSame}
 use Rattle.swap_joint.specs.Stored.{Stored, JoinedOf, Joined, AllJoined, AllJoinedBut}
-use Rattle.swap_joint.proofs.Facts.{still_all, leased_all}
-use Rattle.swap_joint.proofs.Sights.{entries_stay, leases_begun, leases_borrowed, leases_asked, leases_answered, sees_enter, sees_other, sees_lost, sees_parts, sees_itself, still_same, still_set, still_arrives, still_reads}
+use Rattle.swap_joint.proofs.Facts.{leased_all}
+use Rattle.swap_joint.proofs.Sights.{entries_stay, sees_lost, sees_itself}
 use Rattle.swap_joint.proofs.Hears.{joined_sees, joined_same, with_message, joined_sent}
 
 -- what device and links agree on, where the links are those of lenders in memory
@@ -169,4 +156,3 @@ target_lease s r p at t = ap (has_lease at.0 at.1) t.mapped ∙ has_own at.0 at.
 
 pub ring_more : (links : List LinkState) (l : Lender) (x : Request) → is_up links l ≡ true → ring_of (rings.sent links l x) l ≡ ring_of links l ++ x ∷ []
 ring_more links l x up = ap (λ (k : LinkState). k.ring) (sent-same links l x (up_within links l up))
-

@@ -1,6 +1,6 @@
 -- What each call leaves of the slots of the lenders in memory.
 use Rattle.std.proofs.Common.{◌≡◌, ℕ, ◌<◌, Bool, true, false, ◌&&◌, not, zero, suc, List, [], ◌∷◌, ◌++◌, length, map, get_or, set, replicate, eq-eqb, refl, sym, ap, ◌∙◌, subst, length-set, Option, None, Some}
-use Rattle.std.specs.Prelude.{◌==◌, option_map, All}
+use Rattle.std.specs.Prelude.{◌==◌, option_map}
 use Rattle.std.specs.List.{fold}
 use Rattle.std.proofs.lemmas.Bool.{cond_both, both_ways}
 use Rattle.std.proofs.lemmas.List.{length-map, length-replicate}
@@ -13,7 +13,6 @@ use Rattle.swap_wire.specs.declared.fabric.Sent.{Sent}
 use Rattle.swap_wire.specs.declared.fabric.Gave.{Gave}
 use Rattle.swap_wire.specs.Fabric.{FabricOf, Parcel, Handed, FabricCall, Connect, Send, Take, End, Give, Cut, Crash, Host, FabricAnswer}
 use Rattle.swap_evict.specs.Rounds.{Round, opened, answer, leave}
-use Rattle.swap_lender.specs.declared.Lending.{Lending}
 use Rattle.swap_base.specs.declared.Slab.{Slab}
 use Rattle.swap_base.specs.declared.Lease.{Lease}
 use Rattle.swap_choice.specs.Slots.{has}
@@ -192,8 +191,11 @@ untold_each = record {
   arrives = λ l n h. (reached_each.arrives l n h.0, cond_both (has_room l) _ _ Untold (λ _. h.1) (λ _. h.1));
   takes = λ l n m page h. (reached_each.takes l n m page h.0, cond_both (may_send l n m) _ _ (λ (x : Turn). Untold x.lender) (λ _. untold_serve l n m page h.1) (λ _. h.1));
   hosts = λ l used word h. (reached_each.hosts l used word h.0, untold_host l used word h.0 h.1);
-  leaves = λ l n h. (reached_each.leaves l n h.0, untold_settle (record l { slots = map (freed n) l.slots; peers = without_peer n l.peers; round = option_map (left n l.slots) l.round }) (due (option_map (left n l.slots) l.round))
-      (untold_by (option_map (left n l.slots) l.round) l.slots (map (freed n) l.slots) (λ i. untold_freed n l.slots i) (untold_left l.round n l.slots l.slots h.1)));
+  leaves = λ l n h. (
+    reached_each.leaves l n h.0,
+    untold_settle (record l { slots = map (freed n) l.slots; peers = without_peer n l.peers; round = option_map (left n l.slots) l.round }) (due (option_map (left n l.slots) l.round))
+        (untold_by (option_map (left n l.slots) l.round) l.slots (map (freed n) l.slots) (λ i. untold_freed n l.slots i) (untold_left l.round n l.slots l.slots h.1)),
+  );
   restarts = λ l h. (reached_each.restarts l h.0, tt);
 }
 

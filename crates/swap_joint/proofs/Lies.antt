@@ -1,31 +1,27 @@
 -- A message that comes from a lender in memory is understood.
-use Rattle.std.proofs.Common.{◌≡◌, ℕ, ◌+◌, ◌<◌, ◌≤◌, ◌⊎◌, inl, inr, Bool, true, false, cond, ◌==◌, ◌&&◌, ◌||◌, is_none, get_or, List, [], ◌∷◌, ◌++◌, length, position, option_map, refl, sym, ap, ◌∙◌, subst, arith, eq-eqb, Option, None, Some}
-use Rattle.std.proofs.lemmas.Bool.{cond-true, cond-false, both_ways, and_from}
+use Rattle.std.proofs.Common.{◌≡◌, ℕ, ◌<◌, Bool, true, false, cond, ◌==◌, ◌||◌, is_none, List, ◌∷◌, position, option_map, refl, sym, ap, ◌∙◌, subst, eq-eqb, Option, None, Some}
+use Rattle.std.proofs.lemmas.Bool.{cond-true, both_ways, and_from}
 use Rattle.std.proofs.lemmas.List.Quantifiers.{position-Some}
 use Rattle.swap_base.specs.declared.Page.{Page}
-use Rattle.swap_base.specs.declared.Caller.{Caller}
 use Rattle.swap_base.specs.declared.EntryNo.{EntryNo}
 use Rattle.swap_base.specs.declared.Slab.{Slab}
 use Rattle.swap_base.specs.declared.Lender.{Lender}
 use Rattle.swap_base.specs.declared.Lease.{Lease}
 use Rattle.swap_base.specs.declared.Link.{Link}
-use Rattle.swap_base.specs.declared.DiskWhich.{DiskWhich}
-use Rattle.swap_base.specs.Sizes.{Sizes, place_of}
+use Rattle.swap_base.specs.Sizes.{place_of}
 use Rattle.swap_disk.specs.Port.{DiskCall, DiskAnswer}
 use Rattle.swap_wire.specs.declared.Msg.{Msg}
 use Rattle.swap_wire.specs.declared.Msg.TheVariants as msg
 use Rattle.swap_wire.specs.declared.Event.{Event}
 use Rattle.swap_wire.specs.declared.Event.TheVariants as event
 use Rattle.swap_wire.specs.declared.Seen.{Seen}
-use Rattle.swap_wire.specs.declared.Seen.TheVariants as seen
 use Rattle.swap_wire.specs.declared.fabric.Gave.{Gave}
 use Rattle.swap_wire.specs.declared.fabric.Gave.TheVariants as gave
 use Rattle.swap_wire.specs.declared.fabric.Hosted.{Hosted}
-use Rattle.swap_wire.specs.Fabric.{Parcel, Handed, Brought, NothingCame, LinkLost, Take, FabricCall, FabricAnswer, lends}
+use Rattle.swap_wire.specs.Fabric.{Parcel, Handed, Brought, NothingCame, LinkLost, Take, lends}
 use Rattle.swap_calls.specs.Calls.{state_of, is_idle}
 use Rattle.swap_slabs.specs.Slabs as slabs
 use Rattle.swap_slabs.specs.Slabs.{has_lease}
-use Rattle.swap_slabs.proofs.Change.{lease_in_range}
 use Rattle.swap_slabs.specs.declared.SlabState.{SlabState}
 use Rattle.swap_slabs.specs.declared.SlabState.TheVariants.{Local, Mapped}
 use Rattle.swap_rings.specs.Rings.{is_up, ring_of, oldest}
@@ -55,10 +51,10 @@ use Rattle.swap_link.specs.Channel.{Channel}
 use Rattle.swap_link.specs.Harbor as harbor
 use Rattle.swap_link.specs.Harbor.{Harbor, channel_of}
 use Rattle.swap_joint.specs.Order.{is_reply, IsRoomFor, IsReplyFor, Names, Answers}
-use Rattle.swap_joint.specs.Stored.{lends_in, AreNew, Joined, AllJoined}
+use Rattle.swap_joint.specs.Stored.{lends_in, Joined, AllJoined}
 use Rattle.swap_joint.specs.Turn.{IsMappedAt, MayCome, InTurn, Turned, AllTurned}
 use Rattle.swap_joint.specs.Lies.{is_lied}
-use Rattle.swap_joint.proofs.Hears.{lends_reply, Taken, taken_front}
+use Rattle.swap_joint.proofs.Hears.{lends_reply, taken_front}
 use Rattle.swap_joint.proofs.Joins.{ServesAt}
 use Rattle.swap_joint.proofs.Takes.{FrontIs, taken_brings}
 

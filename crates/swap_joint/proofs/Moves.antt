@@ -1,9 +1,6 @@
 -- Each move of a device over any disk and the lenders in memory leaves its links joined with their lenders.
-use Rattle.std.proofs.Common.{◌≡◌, ℕ, ◌+◌, ◌<◌, inl, inr, Bool, true, false, List, [], ◌∷◌, length, refl, sym, ap, ◌∙◌, subst, Option, None, Some}
-use Rattle.std.specs.List.{AllByRecursion}
+use Rattle.std.proofs.Common.{◌≡◌, ℕ, ◌+◌, Bool, true, false, List, [], refl, sym, ap, subst, Option, None, Some}
 use Rattle.swap_base.specs.declared.Page.{Page}
-use Rattle.swap_base.specs.declared.Caller.{Caller}
-use Rattle.swap_base.specs.declared.Slab.{Slab}
 use Rattle.swap_base.specs.declared.Lender.{Lender}
 use Rattle.swap_base.specs.declared.DiskWhich.{DiskWhich}
 use Rattle.swap_base.specs.declared.DiskWhich.TheVariants as which
@@ -12,7 +9,6 @@ use Rattle.swap_queue.specs.Queue as queue
 use Rattle.swap_queue.specs.Queue.{Copy}
 use Rattle.swap_disk.specs.Disk.{Taken}
 use Rattle.swap_disk.specs.declared.port.DiskPort.{Ghosts as DiskMeaning}
-use Rattle.swap_wire.specs.declared.Msg.{Msg}
 use Rattle.swap_wire.specs.declared.fabric.Sent.{Sent}
 use Rattle.swap_wire.specs.declared.fabric.Sent.TheVariants as sent_is
 use Rattle.swap_wire.specs.Fabric.{Parcel, Handed, Brought, NothingCame, LinkLost, FabricOf, FabricCall, Connect, Send, Take, End, Give, Cut, Crash, Host, FabricAnswer}
@@ -26,17 +22,15 @@ use Rattle.swap_remote.specs.Remote as remote
 use Rattle.swap_table.specs.Device as device
 use Rattle.swap_table.specs.Device.{Device, of_device, enter, give, fault, lost, wait_for_room, wait_for_disk, raised, next_link, hello}
 use Rattle.swap_table.specs.Goes.{Asked, stay, by_disk, by_fabric, PortsGo, EachKeepsWhere}
-use Rattle.swap_table.specs.Moves.{Within, of_sizes, Speaker, Owed, Says, Ends, Sends, write, read, borrow, query, query_too, IsFar, far_give, far_cut, far_crash, far_host, Move, enters, gives, faults, waits_for_room, rates_change, lets_go, gives_up, starts, waits_for_disk, takes, lets_finish, sends, finds_down, raises, speaks, speaks_to_nobody, hears, hears_nothing, loses, misunderstands, breaks_off, far}
+use Rattle.swap_table.specs.Moves.{Within, of_sizes, Speaker, Sends, write, read, borrow, query, query_too, IsFar, far_give, far_cut, far_crash, far_host, Move, enters, gives, faults, waits_for_room, rates_change, lets_go, gives_up, starts, waits_for_disk, takes, lets_finish, sends, finds_down, raises, speaks, speaks_to_nobody, hears, hears_nothing, loses, misunderstands, breaks_off, far}
 use Rattle.swap_table.specs.Promises.{FollowsItsMoves, Promises}
 use Rattle.swap_table.proofs.Keeps as keep
 use Rattle.swap_table.proofs.Keeps.{ins_wait}
-use Rattle.swap_link.specs.Channel.{Channel}
 use Rattle.swap_link.specs.Harbor as harbor
 use Rattle.swap_link.specs.Harbor.{Harbor, channel_of, KeepsAt, OwesAt}
-use Rattle.swap_joint.specs.Seats.{is_done}
 use Rattle.swap_joint.specs.Lenders.{AreSound}
 use Rattle.swap_joint.specs.Sight.{SeesSame}
-use Rattle.swap_joint.specs.Stored.{Joined, AllJoined, AllJoinedBut, JoinedOwing}
+use Rattle.swap_joint.specs.Stored.{Joined, AllJoined, JoinedOwing}
 use Rattle.swap_joint.proofs.Harbors.{harbor_meaning}
 use Rattle.swap_joint.proofs.Lenders.{lenders_keep}
 use Rattle.swap_joint.proofs.Facts.{still_all}
@@ -70,7 +64,6 @@ base_sees W d l m q e base (read ins within is none at) = sees_itself l d
 base_sees W d l m q e base (borrow within may) = sees_itself l d
 base_sees W d l m q e base (query within may) = sees_itself l d
 base_sees W d l m q e base (query_too within state other may) = sees_itself l d
-
 
 module _ {D : Type 0} (disk : DiskMeaning D) (follows : FollowsItsMoves disk) (laws : Promises harbor_meaning) (T : Bool) (o : FabricOf) (far_may : Lender → Type 0) (bytes_may : List ℕ → Type 0) where
   abbrev pub There : Within
@@ -133,9 +126,10 @@ module _ {D : Type 0} (disk : DiskMeaning D) (follows : FollowsItsMoves disk) (l
   each_joins x asked y k k' f f' (speaks_to_nobody {d = d} {l = l} {q = q} word) (by_fabric moved) agree h = (whole_on f f' (Send l q) sent_is.Down moved h.0, joins_down o.lenders d f f' (Send l q) sent_is.Down moved (all_but l o.lenders d f h.1.0))
   each_joins x asked y k k' f f' (hears {d = d} {h = heard} {l = l} {q = q} up one) (by_fabric moved) agree h =
       (whole_on f f' (Take l) (Brought q) moved h.0, heard_joins o.lenders d f f' l q h.1 (serves_at d k f agree) up moved heard one)
-  each_joins x asked y k k' f f' (hears_nothing {d = d} {l = l} up) (by_fabric moved) agree h =
-      (whole_on f f' (Take l) NothingCame moved h.0,
-       joins_through o.lenders d d f f' (Take l) NothingCame moved (λ m other. sees_itself m d) (all_but l o.lenders d f h.1) (λ within up. subst (λ ch. Joined d l ch) (sym (taken_nothing (channel_of f l) (ap (λ (x : Handed × Harbor). x.0) moved.1))) (h.1 l within up)))
+  each_joins x asked y k k' f f' (hears_nothing {d = d} {l = l} up) (by_fabric moved) agree h = (
+    whole_on f f' (Take l) NothingCame moved h.0,
+    joins_through o.lenders d d f f' (Take l) NothingCame moved (λ m other. sees_itself m d) (all_but l o.lenders d f h.1) (λ within up. subst (λ ch. Joined d l ch) (sym (taken_nothing (channel_of f l) (ap (λ (x : Handed × Harbor). x.0) moved.1))) (h.1 l within up)),
+  )
   each_joins x asked y k k' f f' (loses {d = d} {l = l} up) (by_fabric moved) agree h = (whole_on f f' (Take l) LinkLost moved h.0, joins_down o.lenders d f f' (Take l) LinkLost moved (all_but l o.lenders d f h.1))
   each_joins x asked y k k' f f' (misunderstands {d = d} {l = l} {q = q} up) (by_fabric moved) agree h =
       (whole_on f f' (Take l) (Brought q) moved h.0, others_through o.lenders d d f f' (Take l) (Brought q) moved (λ m other. sees_itself m d) (all_but l o.lenders d f h.1))

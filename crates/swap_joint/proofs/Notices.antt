@@ -1,9 +1,9 @@
 -- What a lender says in a turn may be taken in turn, after what is under way.
-use Rattle.std.proofs.Common.{◌≡◌, ℕ, ◌+◌, ◌<◌, ◌≤◌, ◌⊎◌, inl, inr, Bool, true, false, cond, ◌&&◌, zero, suc, List, [], ◌∷◌, ◌++◌, get_or, set, map, refl, sym, ap, ◌∙◌, subst, arith, length, eqb, eq-eqb, Option, None, Some, get_or-set_same, get_or-set_other}
+use Rattle.std.proofs.Common.{◌≡◌, ℕ, ◌+◌, inl, inr, Bool, true, false, cond, ◌&&◌, zero, suc, List, [], ◌∷◌, set, refl, sym, ap, ◌∙◌, subst, arith, eqb, eq-eqb, Option, None, Some}
 use Rattle.std.specs.Prelude.{◌==◌, nat_lt, not, min, option_map, bit_and}
 use Rattle.std.specs.Int.{bit_not, w64}
 use Rattle.std.specs.List.{filter, range_with_len, list_any}
-use Rattle.std.proofs.lemmas.Bool.{cond_both, and_parts, both_ways, cases_eq, cases_lt, ltb-true, cond-true, cond-false}
+use Rattle.std.proofs.lemmas.Bool.{cond_both, both_ways, cases_lt, cond-true}
 use Rattle.swap_base.specs.declared.Slab.{Slab}
 use Rattle.swap_base.specs.declared.Link.{Link}
 use Rattle.swap_base.specs.declared.Lease.{Lease}
@@ -13,21 +13,21 @@ use Rattle.swap_wire.specs.Fabric.{Parcel, parcel_of}
 use Rattle.swap_choice.specs.Slots.{has, size}
 use Rattle.swap_choice.specs.Least.{least_of, rank}
 use Rattle.swap_choice.proofs.Ranks.{has-set_of, any-filter, any-filter-out}
-use Rattle.swap_evict.specs.Rounds.{Round, opened, answer, waits_for, waiting, standing, ready}
+use Rattle.swap_evict.specs.Rounds.{Round, opened, answer, waiting, standing, ready}
 use Rattle.swap_evict.proofs.Bits.{has-and}
 use Rattle.swap_choice.proofs.Chosen.{has-zero}
 use Rattle.swap_lender.specs.declared.SlotState.{SlotState}
 use Rattle.swap_lender.specs.declared.SlotState.TheVariants.{Free, Held}
 use Rattle.swap_lender.specs.declared.Notice.TheVariants as notice
-use Rattle.swap_lender.specs.Lender.{Lender, fresh, slot_in, slot_of, is_evicting, is_staying, is_free, is_of, first_where, free, lends, page_in}
-use Rattle.swap_lender.specs.Table.{Turn, tell_slot, told, mark_slot, marked, settle_with, due, serve, took, lend, may_send, host, measured, opens, open_round, asked, to_evict, freed, left, without_peer, gone, arrive, has_room, restart}
-use Rattle.swap_lender.specs.Calls.{Tenant, tenant, Host as Hosts, AsksStaying, IsLive}
+use Rattle.swap_lender.specs.Lender.{Lender, slot_in, slot_of, is_evicting, is_staying, is_free, first_where, free, lends, page_in}
+use Rattle.swap_lender.specs.Table.{Turn, told, mark_slot, marked, settle_with, due, serve, host, measured, opens, open_round, asked, to_evict}
+use Rattle.swap_lender.specs.Calls.{Host as Hosts, AsksStaying, IsLive}
 use Rattle.swap_link.specs.Fits.{IsSound, lease_of, lease_at}
 use Rattle.swap_link.specs.Lane.{Lane, appended}
 use Rattle.swap_link.specs.Channel.{posted, forwarded}
 use Rattle.swap_joint.specs.Order.{is_request}
 use Rattle.swap_joint.specs.Lenders.{IsReached}
-use Rattle.swap_joint.specs.Turn.{After, InTurn, Stays, AsksUntold}
+use Rattle.swap_joint.specs.Turn.{InTurn, Stays, AsksUntold}
 use Rattle.swap_joint.proofs.Lenders.{reached_more}
 use Rattle.swap_joint.proofs.InTurn.{Ready, Differ, turn_reply, stays_reply, stays_lent, stays_free, asks_turn, asks_after, evicts_turn, evicts_after}
 

@@ -19,7 +19,6 @@ use Rattle.swap_lender.specs.Table.{Turn, marked, mark_slot, settle_with, due, l
 use Rattle.swap_lender.proofs.FreeSlots.{free_there, lends_room}
 use Rattle.swap_link.specs.Fits.{IsSound}
 use Rattle.swap_link.specs.Slots.{lease-has, lacks, found, found-lease, marked-first}
-use Rattle.swap_link.specs.Sound.{length-marked}
 use Rattle.swap_joint.specs.Seats.{seat_in, HasSeat, AreSlots, is_done}
 
 -- a seat is in one of the slots

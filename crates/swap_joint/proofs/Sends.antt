@@ -1,20 +1,17 @@
 -- What the device sends, and links that are made: each link that is up stays joined with its lender.
-use Rattle.std.proofs.Common.{◌≡◌, ℕ, ◌+◌, ◌<◌, ◌⊎◌, inl, inr, Bool, true, false, cond, ◌==◌, ◌&&◌, List, [], ◌∷◌, length, get_or, zero, suc, refl, sym, ap, ◌∙◌, subst, arith, eq-eqb, Option, None, Some}
+use Rattle.std.proofs.Common.{◌≡◌, ℕ, ◌+◌, ◌<◌, inl, inr, Bool, true, false, cond, ◌==◌, ◌&&◌, List, [], length, get_or, zero, suc, refl, sym, ap, ◌∙◌, subst, arith, eq-eqb, Option, None, Some}
 use Rattle.std.proofs.lemmas.Bool.{cases_lt, both_ways, and_parts, eqb-true}
 use Rattle.std.proofs.lemmas.List.{get_or_past}
 use Rattle.swap_base.specs.declared.Page.{Page}
 use Rattle.swap_base.specs.declared.Slab.{Slab}
-use Rattle.swap_base.specs.declared.Caller.{Caller}
 use Rattle.swap_base.specs.declared.Lender.{Lender}
 use Rattle.swap_base.specs.declared.Lease.{Lease}
 use Rattle.swap_base.specs.declared.EntryNo.{EntryNo}
 use Rattle.swap_base.specs.declared.Via.TheVariants as via
 use Rattle.swap_base.specs.Sizes.{Sizes, place_of}
-use Rattle.swap_record.specs.History.{last, next_name, row_of}
+use Rattle.swap_record.specs.History.{next_name, row_of}
 use Rattle.swap_record.specs.declared.Op.TheVariants as op
-use Rattle.swap_wire.specs.declared.Msg.{Msg}
 use Rattle.swap_wire.specs.declared.Msg.TheVariants as msg
-use Rattle.swap_wire.specs.declared.fabric.Sent.{Sent}
 use Rattle.swap_wire.specs.declared.fabric.Sent.TheVariants as sent_is
 use Rattle.swap_wire.specs.Fabric.{Parcel, parcel_of, write_parcel, read_parcel, FabricAnswer, Connect, Send}
 use Rattle.swap_slabs.specs.Slabs as slabs
@@ -36,12 +33,11 @@ use Rattle.swap_table.proofs.Links.{link-same, link-other}
 use Rattle.swap_table.proofs.Sends.{sent-other}
 use Rattle.swap_table.proofs.Waits.{Target, target_is, may_send_is}
 use Rattle.swap_table.proofs.Keeps.{ins_wait}
-use Rattle.swap_link.specs.Channel.{Channel, connected}
+use Rattle.swap_link.specs.Channel.{connected}
 use Rattle.swap_link.specs.Harbor as harbor
 use Rattle.swap_link.specs.Harbor.{Harbor, channel_of}
 use Rattle.swap_link.specs.KeepLaws.{unless}
 use Rattle.swap_joint.specs.Order.{is_request}
-use Rattle.swap_joint.specs.Seats.{is_done}
 use Rattle.swap_joint.specs.Sight.{SameLeases}
 use Rattle.swap_joint.specs.Turn.{AllTurned}
 use Rattle.swap_joint.specs.Stored.{JoinedOf, Joined, AllJoined, MayGiveBack}

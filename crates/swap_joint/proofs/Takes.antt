@@ -5,16 +5,15 @@ use Rattle.std.proofs.lemmas.Bool.{cond_both, cond-false, cases_eq, cases_lt, bo
 use Rattle.std.proofs.lemmas.List.{get_or_past}
 use Rattle.swap_base.specs.declared.Page.{Page}
 use Rattle.swap_base.specs.declared.Slab.{Slab}
-use Rattle.swap_base.specs.declared.Caller.{Caller}
 use Rattle.swap_base.specs.declared.Lender.{Lender}
 use Rattle.swap_base.specs.declared.Lease.{Lease}
 use Rattle.swap_base.specs.declared.EntryNo.{EntryNo}
-use Rattle.swap_base.specs.Sizes.{Sizes, pages_of, slab_of, place_of, zeros}
+use Rattle.swap_base.specs.Sizes.{Sizes, pages_of, slab_of, zeros}
 use Rattle.swap_queue.specs.Queue.{first_of}
 use Rattle.swap_record.specs.History.{History, last}
 use Rattle.swap_wire.specs.declared.Msg.{Msg}
 use Rattle.swap_wire.specs.declared.Msg.TheVariants as msg
-use Rattle.swap_wire.specs.Fabric.{Parcel, parcel_of, Handed, Brought, NothingCame, LinkLost, Take, lends}
+use Rattle.swap_wire.specs.Fabric.{Parcel, Handed, Brought, NothingCame, Take, lends}
 use Rattle.swap_bits.specs.Bits.{has, with_number}
 use Rattle.swap_calls.specs.Calls as calls
 use Rattle.swap_calls.specs.Calls.{Calls}
@@ -31,12 +30,11 @@ use Rattle.swap_rings.specs.declared.Request.TheVariants as request
 use Rattle.swap_remote.specs.Remote as remote
 use Rattle.swap_remote.specs.Remote.{Remote, slab_for, state_for, has_page}
 use Rattle.swap_remote.proofs.Asked.{evicted_bit, length-evicted}
-use Rattle.swap_table.specs.Device as device
 use Rattle.swap_table.specs.Device.{Device, Heard, query_reply, borrow_reply, write_reply, read_reply, rate_asked, taken_back, is_newest, done_word}
-use Rattle.swap_table.specs.Serves.{is_for_slab, flying_for, entry_to, latest, IsLeasedFrom, IsAwaited, MayPrecede, AreInOrder, SlabFits, PageFits, Serves}
-use Rattle.swap_table.specs.Moves.{Speaker, Owed, words, owing, Hears, roomy, lent, refused, written, brought, asked_rate, told_to_go}
+use Rattle.swap_table.specs.Serves.{is_for_slab, flying_for, entry_to, latest, IsLeasedFrom, IsAwaited, MayPrecede, AreInOrder, SlabFits, PageFits}
+use Rattle.swap_table.specs.Moves.{words, Hears, roomy, lent, refused, written, brought, asked_rate, told_to_go}
 use Rattle.swap_table.proofs.Lists.{not_eqb, one_if}
-use Rattle.swap_table.proofs.Links.{by_slab, state-other, entry_to-own, flying-cons}
+use Rattle.swap_table.proofs.Links.{state-other, entry_to-own, flying-cons}
 use Rattle.swap_table.proofs.Leases.{unleased}
 use Rattle.swap_table.proofs.Entries.{last_bytes, none_later}
 use Rattle.swap_table.proofs.Shifts.{latest_out}
@@ -49,9 +47,8 @@ use Rattle.swap_link.specs.Harbor.{Harbor, channel_of, KeepsAt}
 use Rattle.swap_link.specs.HarborLaws.{called}
 use Rattle.swap_link.specs.Keeping.{Unless}
 use Rattle.swap_joint.specs.Order.{is_reply}
-use Rattle.swap_joint.specs.Seats.{is_done}
 use Rattle.swap_joint.specs.Sight.{SameLeases, StaysLeased, StillReads, SeesSame}
-use Rattle.swap_joint.specs.Stored.{lends_in, LentOnce, IsGivenBack, JoinedOf, Joined, AllJoined, MayGiveBack, JoinedOwing}
+use Rattle.swap_joint.specs.Stored.{lends_in, LentOnce, IsGivenBack, JoinedOf, Joined, AllJoined, JoinedOwing}
 use Rattle.swap_joint.proofs.Pairs.{all-front}
 use Rattle.swap_joint.proofs.Facts.{NoNewLease, leased_all, still_all}
 use Rattle.swap_joint.proofs.Sights.{entries_stay, leases_set, leases_refused, leases_answered, fewer_settled, leased_settled, sees_parts, sees_itself, sees_evicted, still_same, still_arrives}

@@ -1,6 +1,6 @@
 -- Each move of a device leaves what is under way to it such that it may be taken in turn.
-use Rattle.std.proofs.Common.{◌≡◌, ℕ, ◌+◌, ◌-◌, ◌<◌, ◌≤◌, ◌⊎◌, inl, inr, Bool, true, false, cond, ◌==◌, ◌&&◌, List, [], ◌∷◌, ◌++◌, length, refl, sym, ap, ◌∙◌, subst, arith, Option, None, Some}
-use Rattle.std.proofs.lemmas.Bool.{cond_both, cond-false, cases_eq, cases_lt, both_ways, and_parts, eqb-true}
+use Rattle.std.proofs.Common.{◌≡◌, ℕ, ◌+◌, ◌-◌, ◌<◌, ◌⊎◌, inl, inr, Bool, true, false, ◌==◌, ◌&&◌, List, [], ◌∷◌, length, refl, sym, ap, ◌∙◌, subst, Option, None, Some}
+use Rattle.std.proofs.lemmas.Bool.{cond_both, cond-false, cases_eq, cases_lt, both_ways, and_parts}
 use Rattle.std.proofs.lemmas.List.{get_or_past}
 use Rattle.std.specs.List.{AllByRecursion}
 use Rattle.swap_base.specs.declared.Page.{Page}
@@ -28,7 +28,7 @@ use Rattle.swap_slabs.specs.declared.Pair.{Pair}
 use Rattle.swap_slabs.specs.declared.Reply.{Reply}
 use Rattle.swap_slabs.specs.declared.Reply.TheVariants as reply
 use Rattle.swap_slabs.specs.declared.SlabState.{SlabState}
-use Rattle.swap_slabs.specs.declared.SlabState.TheVariants.{Local, Asking, Borrowing, Mapped, Draining}
+use Rattle.swap_slabs.specs.declared.SlabState.TheVariants.{Local, Asking, Borrowing, Mapped}
 use Rattle.swap_rings.specs.Rings.{LinkState, is_up, ring_of}
 use Rattle.swap_rings.specs.Rings as rings
 use Rattle.swap_rings.specs.declared.Request.{Request}
@@ -38,8 +38,8 @@ use Rattle.swap_remote.specs.Remote.{Remote, slab_for}
 use Rattle.swap_table.specs.Device as device
 use Rattle.swap_table.specs.Device.{Device, Heard, lost, raised, next_link, query_reply, borrow_reply, write_reply, read_reply, rate_asked, taken_back}
 use Rattle.swap_table.specs.Serves.{IsAwaited}
-use Rattle.swap_table.specs.Goes.{Asked, stay, by_disk, by_fabric, PortsGo, EachKeepsWhere}
-use Rattle.swap_table.specs.Moves.{Within, of_sizes, Speaker, Owed, Says, Ends, words, Sends, write, read, borrow, query, query_too, Hears, roomy, lent, refused, written, brought, asked_rate, told_to_go, IsWord, IsFar, far_give, far_cut, far_crash, far_host, Move, enters, gives, faults, waits_for_room, rates_change, lets_go, gives_up, starts, waits_for_disk, takes, lets_finish, sends, finds_down, raises, speaks, speaks_to_nobody, hears, hears_nothing, loses, misunderstands, breaks_off, far}
+use Rattle.swap_table.specs.Goes.{stay, by_disk, by_fabric, EachKeepsWhere}
+use Rattle.swap_table.specs.Moves.{Within, of_sizes, Speaker, words, Sends, write, read, borrow, query, query_too, Hears, roomy, lent, refused, written, brought, asked_rate, told_to_go, IsFar, far_give, far_cut, far_crash, far_host, Move, enters, gives, faults, waits_for_room, rates_change, lets_go, gives_up, starts, waits_for_disk, takes, lets_finish, sends, finds_down, raises, speaks, speaks_to_nobody, hears, hears_nothing, loses, misunderstands, breaks_off, far}
 use Rattle.swap_table.specs.Promises.{FollowsItsMoves, Promises}
 use Rattle.swap_table.proofs.Keeps as keep
 use Rattle.swap_table.proofs.Lists.{not_eqb}
@@ -47,25 +47,20 @@ use Rattle.swap_table.proofs.Links.{by_slab, link-other, state-same, state-other
 use Rattle.swap_table.proofs.Sends.{sent-other}
 use Rattle.swap_table.proofs.Replies.{answered-other}
 use Rattle.swap_table.proofs.Evictions.{MappedBy, mapped_by_is}
-use Rattle.swap_table.proofs.Waits.{may_send_is}
-use Rattle.swap_lender.specs.Lender.{Lender as LenderTable}
-use Rattle.swap_lender.specs.Table.{Turn, serve, took, may_send, host}
+use Rattle.swap_lender.specs.Table.{Turn, serve, may_send, host}
 use Rattle.swap_lender.specs.Calls.{tenant}
 use Rattle.swap_link.specs.Fits.{IsSound}
-use Rattle.swap_link.specs.Lane.{Lane, appended}
-use Rattle.swap_link.specs.Channel.{Channel, sent, taken, given, given_from, abandoned, severed, crashed, connected, delivered, forwarded, on_channel}
+use Rattle.swap_link.specs.Channel.{Channel, sent, taken, given, given_from, severed, crashed, connected, delivered, on_channel}
 use Rattle.swap_link.specs.Harbor as harbor
 use Rattle.swap_link.specs.Harbor.{Harbor, channel_of, lender_of}
 use Rattle.swap_link.specs.HarborLaws.{called, other_channel}
 use Rattle.swap_link.specs.Keeping.{Unless}
-use Rattle.swap_link.specs.KeepLaws.{unless, unless-map, unless-at, took-served}
-use Rattle.swap_joint.specs.Order.{is_request, is_reply}
+use Rattle.swap_link.specs.KeepLaws.{unless, unless-map, took-served}
 use Rattle.swap_joint.specs.Lenders.{IsReached, AreSound}
-use Rattle.swap_joint.specs.Stored.{AllJoined, AllJoinedBut, JoinedOwing}
 use Rattle.swap_joint.specs.Turn.{IsMappedAt, Then, After, InTurn, Stays, AsksUntold, Lodges, Turned, AllTurned, AllTurnedBut, TurnedOwing}
 use Rattle.swap_joint.proofs.Harbors.{harbor_meaning}
 use Rattle.swap_joint.proofs.Lenders.{are_owned, connected_none}
-use Rattle.swap_joint.proofs.InTurn.{turn_map, after_map, turn_take, turn_reply, stays_reply, stays_lent}
+use Rattle.swap_joint.proofs.InTurn.{turn_map, after_map, turn_take}
 use Rattle.swap_joint.proofs.Notices.{served_turns, host_turns}
 use Rattle.swap_joint.proofs.Sights.{state-lost}
 use Rattle.swap_joint.proofs.Joins.{ServesAt, lost_down}

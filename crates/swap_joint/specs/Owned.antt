@@ -1,5 +1,5 @@
 -- A slab that is mapped, or drains, has its slot; and so what a device and its lenders hold at every moment.
-use Rattle.std.specs.Prelude.{◌<◌, length}
+use Rattle.std.specs.Prelude.{◌<◌}
 use Rattle.swap_base.specs.declared.Slab.{Slab}
 use Rattle.swap_slabs.specs.Slabs.{state_of}
 use Rattle.swap_slabs.specs.declared.SlabState.{SlabState}

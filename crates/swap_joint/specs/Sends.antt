@@ -1,6 +1,5 @@
 -- A device finds no link down that it takes to be up.
 use Rattle.std.specs.Prelude.{◌≡◌}
-use Rattle.swap_disk.specs.Port.{DiskCall, DiskAnswer}
 use Rattle.swap_wire.specs.declared.fabric.Sent.TheVariants as sent
 use Rattle.swap_wire.specs.Fabric.{FabricCall, FabricAnswer, Connect, Send, Take, End, Give, Cut, Crash, Host}
 use Rattle.swap_table.specs.Goes.{Asked, Nothing, OfDisk, OfFabric}

@@ -1,13 +1,11 @@
 -- What a device and its lenders in memory agree on holds after every run over any disk.
-use Rattle.std.proofs.Common.{◌≡◌, ℕ, ◌≤◌, Bool, true, false, List, [], ◌∷◌, length, is_some, refl, sym, ap, ◌∙◌, subst}
-use Rattle.swap_base.specs.declared.Lender.{Lender}
+use Rattle.std.proofs.Common.{◌≡◌, ℕ, Bool, true, false, List, [], is_some, refl, sym, subst}
 use Rattle.swap_base.specs.Sizes.{Sizes}
 use Rattle.swap_wire.specs.declared.Seen.{Seen}
 use Rattle.swap_wire.specs.Input.{Input, IsInRange}
 use Rattle.swap_wire.specs.declared.Event.{Event}
 use Rattle.swap_wire.specs.Fabric.{FabricOf}
 use Rattle.swap_disk.specs.declared.port.DiskPort.{Ghosts as DiskMeaning}
-use Rattle.swap_slabs.specs.declared.TheConstants.{MOST_LENDERS}
 use Rattle.swap_link.specs.Harbor as harbor
 use Rattle.swap_link.specs.Harbor.{Harbor}
 use Rattle.swap_table.specs.Ports.{Prog, Along}
@@ -15,8 +13,7 @@ use Rattle.swap_table.specs.Goes.{Goes, EachKeeps, AllAsked}
 use Rattle.swap_table.specs.Moves.{Speaker, quiet, Move}
 use Rattle.swap_table.specs.Device.{Device, of_device, new, disk_take}
 use Rattle.swap_table.specs.Happens.{happens}
-use Rattle.swap_table.specs.Fits.{IsBlank}
-use Rattle.swap_table.specs.Promises.{FollowsItsMoves, Promises}
+use Rattle.swap_table.specs.Promises.{FollowsItsMoves}
 use Rattle.swap_table.specs.declared.DiskStep.{DiskStep}
 use Rattle.swap_table.proofs.Going.{Goes-along, Goes-asks, Goes-implies, beside}
 use Rattle.swap_table.proofs.Walks as walk

@@ -1,5 +1,5 @@
 -- A set bit means that the remote copy is the newest, and a lent slab has one owner, after every run.
-use Rattle.std.specs.Prelude.{◌≡◌, ℕ, ◌≤◌, false, List, length}
+use Rattle.std.specs.Prelude.{◌≡◌, ℕ, ◌≤◌, false, List, length, take}
 use Rattle.swap_base.specs.declared.geometry.LenderSpec.{LenderSpec}
 use Rattle.swap_base.specs.Sizes.{Sizes}
 use Rattle.swap_wire.specs.declared.Seen.{Seen}
@@ -20,9 +20,9 @@ use Rattle.swap_world.specs.Runs.{IsRun}
 use Rattle.swap_world.specs.Laws.{AreInputs}
 use Rattle.swap_world.specs.World.{World, IsStep, start, reach}
 
--- over the disk and the lenders in memory, after every list of events
+-- over the disk and the lenders in memory, after each front of every list of events
 abbrev pub AlwaysLent : Type 0
-AlwaysLent = (s : Sizes) (specs : List LenderSpec) (is : List Input) → length specs ≤ MOST_LENDERS → AreInputs s specs is → let w : World = reach (start s specs) is in IsLent w.device w.harbor
+AlwaysLent = (s : Sizes) (specs : List LenderSpec) (is : List Input) (n : ℕ) → length specs ≤ MOST_LENDERS → AreInputs s specs is → let w : World = reach (start s specs) (take n is) in IsLent w.device w.harbor
 
 -- a device over any disk and lenders in memory: what its lenders hold, and of whatever event comes next, whatever the
 -- disk answers, that each send is taken and that no message of a lender is one that it may not send

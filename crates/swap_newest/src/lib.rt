@@ -2,13 +2,14 @@
 #![tactic(auto)]
 
 ghost use Rattle.swap_newest.specs.Laws.{AlwaysLent, Holds, HoldsAfterEach};
+ghost use Rattle.swap_newest.specs.Rows.{BitFollowsTheNewest, NewestCanFail, OwnedCanFail, PageAtALender, SlotHoldsWhatWasCut};
 
 use swap_disk::DiskPort;
 use swap_link::Harbor;
 use swap_table::ports_promise;
 use swap_world::World;
 
-/// Over the disk and the lenders in memory, after every list of events, Rounds included: a page whose bit is set is
+/// Over the disk and the lenders in memory, after each front of every list of events, Rounds included: a page whose bit is set is
 /// mapped over a link that is up, and where the lender's end of it stands, the lender's slot holds the page's newest
 /// content, no write of it is under way and nothing under way replaces it. No two held slots of a lender have one
 /// lease, or one link and slab, and each slab that is mapped or drains over a standing link has its slot.
@@ -32,3 +33,13 @@ pub fn harbor_law<D: DiskPort>(world: &World<D, Harbor>)
     world.reached();
     holds_over_any_disk::<D>();
 }
+
+/// Worlds by hand: a bit is set where its page stands at a lender, and the promise fails of a bit over an older page, of
+/// one with a write under way, of two slots for one slab, and of a mapped slab without a slot.
+pub fn rows()
+    ensures at_a_lender { PageAtALender }
+    ensures follows { BitFollowsTheNewest }
+    ensures cut { SlotHoldsWhatWasCut }
+    ensures newest_fails { NewestCanFail }
+    ensures owned_fails { OwnedCanFail }
+{}

@@ -4,6 +4,7 @@ use Rattle.std.specs.Io.KnownBytes.{Appends, Keeps}
 use Rattle.swap_io.specs.Causes.{AppendsFront, HasCause, WasReadWhole}
 use Rattle.swap_slabs.specs.declared.TheConstants.{MOST_LENDERS}
 use Rattle.swap_world.specs.Laws.{AreInputs, AlwaysLegal, EachCallOnce, EntriesAreSeen}
+use Rattle.swap_newest.specs.Laws.{AlwaysLent}
 use Rattle.swap_world.specs.World.{World, start, reach, history}
 use Rattle.swap_script.specs.declared.TheConstants.{TEXT_LIMIT}
 use Rattle.swap_script.specs.declared.ScriptRefused.{ScriptRefused}
@@ -64,23 +65,24 @@ pub few_lenders : ScriptLaws → (text : List ℕ) (s : reading.Script) → read
 few_lenders laws text s e = (laws.lenders text s e).count
 
 -- the headline of each script
-pub headline : AlwaysLegal → EachCallOnce → EntriesAreSeen → ScriptLaws → ScriptsKeepTheHeadline
-headline legal once seen laws text s e =
+pub headline : AlwaysLegal → EachCallOnce → EntriesAreSeen → AlwaysLent → ScriptLaws → ScriptsKeepTheHeadline
+headline legal once seen lent laws text s e =
     let few = few_lenders laws text s e in
     let inputs = inputs_of laws text s e in
     record {
       legal = legal s.sizes s.lenders s.inputs few inputs;
       once = λ c within. once s.sizes s.lenders s.inputs c within few inputs;
       entries = seen s.sizes s.lenders s.inputs few inputs;
+      lent = λ n. lent s.sizes s.lenders s.inputs n few inputs;
     }
 
 -- a text that was read whole, and how its run ended
-pub script_ends : AlwaysLegal → EachCallOnce → EntriesAreSeen → ScriptLaws → ScriptsAreReadBack → (source out : Stream) (text : List ℕ) (end : Ending) → WasReadWhole source.before source.now text → length text ≤ TEXT_LIMIT → TextEnds (reading.script text) out end → ScriptEnds source out end
-script_ends legal once seen range back source out text end read within h = go (reading.script text) end refl h
+pub script_ends : ScriptsKeepTheHeadline → ScriptsAreReadBack → (source out : Stream) (text : List ℕ) (end : Ending) → WasReadWhole source.before source.now text → length text ≤ TEXT_LIMIT → TextEnds (reading.script text) out end → ScriptEnds source out end
+script_ends keep back source out text end read within h = go (reading.script text) end refl h
   where
     go : (r : Result reading.Script ScriptRefused) (end : Ending) → reading.script text ≡ r → TextEnds r out end → ScriptEnds source out end
-    go (Ok s) ending.Done e h = record { script = s; read = record { text = text; was_read = read; within = within; is_script = e }; wrote = h.wrote; fault = h.fault; headline = headline legal once seen range text s e; read_back = back text s e h.fits }
-    go (Ok s) ending.Faulted e h = record { script = s; read = record { text = text; was_read = read; within = within; is_script = e }; wrote = h.wrote; fault = h.fault; headline = headline legal once seen range text s e; read_back = back text s e h.fits }
+    go (Ok s) ending.Done e h = record { script = s; read = record { text = text; was_read = read; within = within; is_script = e }; wrote = h.wrote; fault = h.fault; headline = keep text s e; read_back = back text s e h.fits }
+    go (Ok s) ending.Faulted e h = record { script = s; read = record { text = text; was_read = read; within = within; is_script = e }; wrote = h.wrote; fault = h.fault; headline = keep text s e; read_back = back text s e h.fits }
     go (Ok s) ending.Usage e h = absurd h
     go (Ok s) ending.ReadFailed e h = absurd h
     go (Ok s) ending.WriteFailed e h = record { script = s; read = record { text = text; was_read = read; within = within; is_script = e }; wrote = h.0; failed = h.1 }

@@ -1,5 +1,5 @@
 -- What a script's text gives.
-use Rattle.std.specs.Prelude.{◌≡◌, ◌<◌, ℕ, Bool, true, false, List, [], Result, Ok, flat_map}
+use Rattle.std.specs.Prelude.{◌≡◌, ◌<◌, ℕ, Bool, true, false, List, [], take, Result, Ok, flat_map}
 use Rattle.std.specs.List.{list_any}
 use Rattle.swap_base.specs.declared.Caller.{Caller}
 use Rattle.swap_base.specs.Sizes.{zeros}
@@ -8,6 +8,7 @@ use Rattle.swap_wire.specs.declared.Seen.{Seen}
 use Rattle.swap_record.specs.declared.Op.{Op}
 use Rattle.swap_record.specs.declared.Op.TheVariants.{PageOut, PageIn, Failed}
 use Rattle.swap_record.specs.History.{History, Row, IsLegal}
+use Rattle.swap_joint.specs.Owned.{IsLent}
 use Rattle.swap_world.specs.World.{World, start, reach, seens, history, made_by}
 use Rattle.swap_world.specs.Answered.{AreAnsweredOnce}
 use Rattle.swap_world.specs.Failures.{HoldsEntriesSeen, failed_writes_in, failed_reads_in}
@@ -51,11 +52,13 @@ made_of s = made_by [] (start s.sizes s.lenders) s.inputs
 
 -- The history that a script prints is one of an array of pages that starts as zeros, and holds each caller's answered
 -- calls once, in its order. It is exactly the entries that were seen, and a failure has its cause: the counts of its
--- own call, and for a page-in its own failed read.
+-- own call, and for a page-in its own failed read. After each front of its events a set bit means that the remote copy
+-- is the newest, and a lent slab has one owner.
 pub record IsHeadline (s : Script) : Type 0 where
   pub legal : IsLegal (zeros s.sizes) (history_of s)
   pub once : (c : Caller) → c.0 < s.sizes.callers → AreAnsweredOnce c (made_of s) (world_of s).device
   pub entries : HoldsEntriesSeen (made_of s) (history_of s)
+  pub lent : (n : ℕ) → let w : World = reach (start s.sizes s.lenders) (take n s.inputs) in IsLent w.device w.harbor
 
 -- so has each text that is a script
 abbrev pub ScriptsKeepTheHeadline : Type 0

@@ -12,6 +12,7 @@ mod run;
 mod tell;
 
 pub use run::{run_lab, run_lab_in_blocks};
+use swap_newest::always_lent;
 use swap_record::passes_to_prefixes;
 use swap_script::{ScriptRefused, events_in_range, lenders_may_lend, pages_are_whole};
 use swap_world::{always_legal, each_call_once, entries_are_seen};
@@ -40,13 +41,15 @@ pub enum Ending {
 
 /// Whatever a script's events are and whatever fails, the history that its transcript prints is one of an array of pages
 /// that starts as zeros, and holds each caller's answered calls once, in its order. It is exactly the entries that were
-/// seen, and a failure has its cause: the counts of its own call, and for a page-in its own failed read.
+/// seen, and a failure has its cause: the counts of its own call, and for a page-in its own failed read. After each front
+/// of the events a set bit means that the remote copy is the newest, and a lent slab has one owner.
 pub fn scripts_keep_the_headline()
     ensures { ScriptsKeepTheHeadline }
 {
     always_legal();
     each_call_once();
     entries_are_seen();
+    always_lent();
     events_in_range();
     lenders_may_lend();
     pages_are_whole();

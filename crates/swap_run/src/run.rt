@@ -10,7 +10,7 @@ ghost use Rattle.swap_run.specs.Printing.{world_in, HasRoomFor};
 use crate::check::{run_check, run_check_in_blocks};
 use crate::print::print_run;
 use crate::tell::tell;
-use crate::{Command, Ending};
+use crate::{Command, Ending, scripts_keep_the_headline};
 use std::alloc::Global;
 use swap_base::{EntryNo, LenderSpec, NoMemory};
 use swap_disk::MemDisk;
@@ -18,10 +18,8 @@ use swap_io::{BlockSink, LineBuf, Sink, Source, WholeRefused, read_whole};
 use swap_link::Harbor;
 use swap_record::{Op, Record};
 use swap_roundtrip::scripts_are_read_back;
-use swap_script::{
-    Script, TEXT_LIMIT, events_in_range, lenders_may_lend, pages_are_whole, read_script,
-};
-use swap_world::{World, always_legal, each_call_once, entries_are_seen};
+use swap_script::{Script, TEXT_LIMIT, read_script};
+use swap_world::World;
 
 // Whether an entry is of a call that failed.
 fn is_failed(op: Op) -> bool
@@ -130,12 +128,7 @@ fn run_script<S: Source, K: Sink>(alloc: Global, source: &mut S, out: &mut K) ->
     ensures ends { ScriptEnds (stream (S.left source.old) (S.left source.new) (S.faults source.old) (S.faults source.new)) (stream (K.taken out.old) (K.taken out.new) (K.faults out.old) (K.faults out.new)) result }
     ensures later { K.faults out.old ≤ K.faults out.new }
 {
-    always_legal();
-    each_call_once();
-    entries_are_seen();
-    events_in_range();
-    lenders_may_lend();
-    pages_are_whole();
+    scripts_keep_the_headline();
     scripts_are_read_back();
     match read_whole(alloc, source, TEXT_LIMIT) {
         Ok(text) => run_text(alloc, &text, out),
