@@ -1,10 +1,10 @@
 -- What a take of a disk in a file may be.
-use Rattle.std.proofs.Common.{◌≡◌, ℕ, ◌≤◌, Bool, false, List, [], ◌∷◌, ◌++◌, find, refl, sym, ap, ◌∙◌, subst, arith, Option, None, Some, MatchOption, inl, inr}
+use Rattle.std.proofs.Common.{◌≡◌, ℕ, ◌≤◌, false, List, [], ◌∷◌, ◌++◌, find, refl, sym, ap, ◌∙◌, arith, None, Some, inl, inr}
 use Rattle.swap_io.specs.Causes.{Rose}
 use Rattle.swap_base.specs.Sizes.{Sizes}
 use Rattle.swap_base.specs.declared.DiskWhich.{DiskWhich}
 use Rattle.swap_disk.specs.declared.DiskDone.{DiskDone}
-use Rattle.swap_disk.specs.Disk.{Flight, Taken, is_flight_of, without, which_of, page_of}
+use Rattle.swap_disk.specs.Disk.{Flight, is_flight_of, without, which_of, page_of}
 use Rattle.swap_disk.specs.Follows.{found_is}
 use Rattle.swap_disk.specs.Port.{TakeDone, Follows, taken_by}
 use Rattle.swap_file.specs.declared.worker.Done.{Done}

@@ -10,7 +10,7 @@ use std::fs::{File, Files};
 use std::marker::Model;
 use std::sync::Wait;
 use std::thread;
-use std::thread::{JoinHandle, Threads};
+use std::thread::Threads;
 use swap_base::{Caller, DiskWhich, Geometry, Page};
 use swap_disk::{DiskDone, DiskPort};
 use swap_ends::{Bell, End, SharedBell};
@@ -23,11 +23,11 @@ pub enum NotOpened {
 }
 
 /// A disk in a file, which a thread reads and writes. Its calls push to and pop from queues, and take no memory; none waits
-/// for the file. Where it is dropped the thread is told to stop, does what is left, and is joined.
+/// for the file. Where it is dropped the thread is told to stop and does what is left, and the drop waits for its end.
 ///
 /// It doesn't tell its blocks. An operation that failed, or couldn't be handed to the thread, is a fault of the `take` that
 /// ends it. What comes back and names no operation in flight is dropped by the `take` that sees it.
-pub struct FileDisk<R: Wait + Threads + Copy> {
+pub struct FileDisk<R: Wait + Copy> {
     rt: R,
     geometry: Geometry,
     flights: Flights,
@@ -36,10 +36,10 @@ pub struct FileDisk<R: Wait + Threads + Copy> {
     orders: End<Order>,
     dones: End<Done>,
     bell: SharedBell,
-    worker: JoinHandle<()>,
+    gone: SharedBell,
 }
 
-impl<R: Wait + Threads + Copy> Model for FileDisk<R> {
+impl<R: Wait + Copy> Model for FileDisk<R> {
     ghost use Rattle.std.specs.Prelude.{◌≡◌, ◌<◌, ◌^◌};
     ghost use Rattle.swap_file.specs.Files.{FilePort, file_port};
 
@@ -50,7 +50,7 @@ impl<R: Wait + Threads + Copy> Model for FileDisk<R> {
     ghost invariant = { λ d. (d.flights.queue ≡ d.geometry.queue) × (d.flights.callers ≡ d.geometry.callers) × (d.faults < 2 ^ 64) };
 }
 
-impl<R: Wait + Threads + Copy> Drop for FileDisk<R> {
+impl<R: Wait + Copy> Drop for FileDisk<R> {
     fn drop(self) {
         let FileDisk {
             rt,
@@ -61,10 +61,18 @@ impl<R: Wait + Threads + Copy> Drop for FileDisk<R> {
             orders: _,
             dones: _,
             bell,
-            worker,
+            gone,
         } = self;
         bell.stop();
-        worker.join(&rt)
+        gone.wait_for_stop(&rt);
+    }
+}
+
+/// A bell, twice.
+fn bells(alloc: Global) -> Result<(SharedBell, SharedBell), NotOpened> {
+    match Bell::pair(alloc) {
+        Ok(bells) => Ok(bells),
+        Err(_) => Err(NotOpened::NoMemory),
     }
 }
 
@@ -129,14 +137,17 @@ where
         };
         let (orders, to_do) = pair(alloc, room + 1)?;
         let (dones, given) = pair(alloc, room + 1)?;
-        let Ok((bell, theirs)) = Bell::pair(alloc) else {
-            return Err(NotOpened::NoMemory);
-        };
+        let (bell, theirs) = bells(alloc)?;
+        let (gone, going) = bells(alloc)?;
         let length = u64::from(geometry.pages()).saturating_mul(u64::from(page_bytes));
         let file = make_file(&rt, path, length)?;
-        let Ok(worker) = thread::spawn(&rt, move || work(&rt, &file, to_do, given, &theirs)) else {
-            return Err(NotOpened::Failed);
+        let worker = move || {
+            work(&rt, file, to_do, given, &theirs);
+            going.stop();
         };
+        if thread::spawn(&rt, worker).is_err() {
+            return Err(NotOpened::Failed);
+        }
         Ok(FileDisk {
             rt,
             geometry: *geometry,
@@ -146,12 +157,12 @@ where
             orders,
             dones,
             bell,
-            worker,
+            gone,
         })
     }
 }
 
-impl<R: Wait + Threads + Copy> FileDisk<R> {
+impl<R: Wait + Copy> FileDisk<R> {
     /// Hands an order to the thread in a spare buffer, which gets these bytes if there are some; whether the thread has it.
     fn order(&mut self, which: DiskWhich, page: Page, fill: Option<&[u8]>) -> bool
         ensures { self.new ≡ self.old }
@@ -242,7 +253,7 @@ fn is_filled(buffer: &mut Vec<u8>, fill: Option<&[u8]>) -> bool {
     true
 }
 
-impl<R: Wait + Threads + Copy> DiskPort for FileDisk<R> {
+impl<R: Wait + Copy> DiskPort for FileDisk<R> {
     ghost use Rattle.swap_file.specs.Files.{Moves};
 
     ghost means = { λ d. d.port };

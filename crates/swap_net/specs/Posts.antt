@@ -1,9 +1,8 @@
 -- A fabric over sockets, as what came of each lender's link. It tells nothing of what is kept or owed.
-use Rattle.std.specs.Prelude.{◌≡◌, ℕ, Bool, true, false, ◌==◌, List, [], ◌∷◌, ◌++◌, ◌⊎◌, length, slice_set, slice_get, Option, None, Some}
+use Rattle.std.specs.Prelude.{◌≡◌, ℕ, Bool, true, false, ◌==◌, List, [], ◌∷◌, ◌++◌, ◌⊎◌, slice_set, slice_get, Option, None, Some}
 use Rattle.swap_base.specs.declared.Link.{Link}
 use Rattle.swap_wire.specs.Fabric.{FabricOf, FabricCall, FabricAnswer, Take, Handed, Brought, NothingCame, LinkLost, TakenFits}
 use Rattle.swap_net.specs.declared.post.Arrival.{Arrival}
-use Rattle.swap_net.specs.declared.post.Item.TheVariants as item_is
 
 -- the link that stands at the device's end, and what came from the reader, oldest first
 pub record PostState : Type 0 where

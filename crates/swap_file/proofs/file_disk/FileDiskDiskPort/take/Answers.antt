@@ -1,4 +1,4 @@
-use Rattle.std.proofs.Common.{◌≡◌, ℕ, List, [], ◌∷◌, ◌++◌, refl, sym, ap, ◌∙◌, subst, Option, None, Some, MatchOption}
+use Rattle.std.proofs.Common.{◌≡◌, ℕ, List, [], ◌∷◌, ◌++◌, sym, ◌∙◌, subst, Option, None, Some, MatchOption}
 use Rattle.swap_disk.specs.declared.DiskDone.{DiskDone}
 use Rattle.swap_disk.specs.Disk.{Flight, without}
 use Rattle.swap_disk.specs.Port.{TakeDone, taken_by}

@@ -1,5 +1,4 @@
-use Rattle.std.proofs.Common.{◌≡◌, List, [], ◌∷◌, ◌++◌, sym, ap, ◌∙◌, subst, Option, None, Some, MatchOption}
-use Rattle.swap_base.specs.declared.Link.{Link}
+use Rattle.std.proofs.Common.{◌≡◌, List, [], ◌∷◌, ◌++◌, sym, subst, Option, None, MatchOption}
 use Rattle.swap_wire.specs.Fabric.{NothingCame, LinkLost, Brought, parcel_of}
 use Rattle.swap_net.specs.declared.post.Arrival.{Arrival}
 use Rattle.swap_net.specs.Posts.{PostState, Looked}
