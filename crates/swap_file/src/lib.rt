@@ -7,3 +7,6 @@ mod worker;
 
 pub use file_disk::{FileDisk, NotOpened};
 pub use worker::Done;
+
+#[cfg(test)]
+mod tests;
