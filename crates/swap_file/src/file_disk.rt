@@ -92,14 +92,19 @@ fn make_buffers(alloc: Global, count: usize, page_bytes: usize) -> Result<Vec<Ve
     Ok(buffers)
 }
 
-/// The file at a path, made anew with so many zeros.
-fn make_file<R: Files<File = File>>(rt: &R, path: &str, length: u64) -> Result<File, NotOpened> {
+/// The file at a path, made anew, of the geometry's size and with zeros.
+pub fn make_file<R: Files<File = File>>(
+    rt: &R,
+    path: &str,
+    geometry: &Geometry,
+) -> Result<File, NotOpened> {
     let mut options = File::options();
     options.read(true).write(true).create(true).truncate(true);
     let Ok(file) = options.open(rt, path) else {
         return Err(NotOpened::Failed);
     };
-    match file.set_len(length) {
+    let page_bytes = u64::from(geometry.page_bytes());
+    match file.set_len(u64::from(geometry.pages()).saturating_mul(page_bytes)) {
         Ok(()) => Ok(file),
         Err(_) => Err(NotOpened::Failed),
     }
@@ -118,13 +123,28 @@ fn pair<T: Drop>(alloc: Global, room: usize) -> Result<(End<T>, End<T>), NotOpen
 
 impl<R> FileDisk<R>
 where
-    R: Wait + Threads + Files<File = File> + Copy + Send + 'static,
+    R: Wait + Threads + Copy + Send + 'static,
 {
     /// Makes the file anew, of the geometry's size and with zeros, and its thread and all buffers.
     pub fn open(
         rt: R,
         alloc: Global,
         path: &str,
+        geometry: &Geometry,
+    ) -> Result<FileDisk<R>, NotOpened>
+    where
+        R: Files<File = File>,
+        ensures { IfOk result (λ d. d ≡ file_port geometry.now [] 0 []) }
+    {
+        let file = make_file(&rt, path, geometry)?;
+        FileDisk::over(rt, alloc, file, geometry)
+    }
+
+    /// A disk over a file of the geometry's size, as `make_file` makes it: its thread and all buffers.
+    pub fn over(
+        rt: R,
+        alloc: Global,
+        file: File,
         geometry: &Geometry,
     ) -> Result<FileDisk<R>, NotOpened>
         ensures { IfOk result (λ d. d ≡ file_port geometry.now [] 0 []) }
@@ -139,8 +159,6 @@ where
         let (dones, given) = pair(alloc, room + 1)?;
         let (bell, theirs) = bells(alloc)?;
         let (gone, going) = bells(alloc)?;
-        let length = u64::from(geometry.pages()).saturating_mul(u64::from(page_bytes));
-        let file = make_file(&rt, path, length)?;
         let worker = move || {
             work(&rt, file, to_do, given, &theirs);
             going.stop();
