@@ -1,4 +1,4 @@
-ghost use Rattle.std.specs.Prelude.{◌≡◌, ℕ, ◌<◌, ◌≤◌, ◌^◌, List, length, false, [], Some, IfOk, MatchOption};
+ghost use Rattle.std.specs.Prelude.{◌≡◌, ℕ, ◌<◌, ◌≤◌, ◌^◌, List, length, true, false, [], Some, IfOk, MatchOption};
 ghost use Rattle.swap_io.specs.Causes.{Rose};
 ghost use Rattle.swap_disk.specs.Port.{TakeDone, taken_by};
 ghost use Rattle.swap_file.specs.Files.{file_port, Moves};
@@ -236,6 +236,8 @@ impl<R: Wait + Copy> FileDisk<R> {
     /// Hands over what came back of a page: its bytes are copied to the buffer.
     fn hand_over(&mut self, page: Page, done: Done, buf: &mut [u8]) -> DiskDone
         ensures done { (result.which ≡ done.which) × (result.page ≡ page) }
+        ensures ok { result.ok ≡ true → done.ok ≡ true }
+        ensures filled { result.ok ≡ true → buf.new ≡ done.bytes.items }
         ensures port { self.new ≡ file_port self.old.port.sizes self.old.port.flights self.new.port.faults self.old.came }
         ensures later { self.old.port.faults ≤ self.new.port.faults }
         ensures cause { result.ok ≡ false → Rose self.old.port.faults self.new.port.faults }
