@@ -145,9 +145,9 @@ impl<R: Wait + Copy> Post<R> {
         Sent::Sent
     }
 
-    /// What arrived first, if something of the link that stands did.
+    /// What arrived first, if something of the link that stands did. A message whose bytes don't fill the buffer ends the link.
     pub(crate) fn take(&mut self, page: &mut [u8]) -> Took
-        ensures looked { Looked self.old (handed result page.new) self.new }
+        ensures looked { Looked (length page.old) self.old (handed result page.new) self.new }
         ensures page { length page.new ≡ length page.old }
     {
         let Some(link) = self.link else {
@@ -165,16 +165,15 @@ impl<R: Wait + Copy> Post<R> {
             item,
             page: bytes,
         } = arrival;
-        if bytes.len() == page.len() {
-            page.copy_from_slice(&bytes);
-        }
-        give_back(&self.rt, &mut self.pages, &self.reader, bytes);
-        match item {
-            Item::Got(msg) => Took::Got(msg),
-            Item::End => {
-                self.link = None;
-                Took::Lost
+        if let Item::Got(msg) = item {
+            if bytes.len() == page.len() {
+                page.copy_from_slice(&bytes);
+                give_back(&self.rt, &mut self.pages, &self.reader, bytes);
+                return Took::Got(msg);
             }
         }
+        give_back(&self.rt, &mut self.pages, &self.reader, bytes);
+        self.link = None;
+        Took::Lost
     }
 }
