@@ -45,4 +45,15 @@ impl Bell {
     pub fn wait<R: Wait>(&self, rt: &R) {
         self.parker.park(rt);
     }
+
+    /// Sleeps until it is told to stop. One thread alone may wait.
+    pub fn wait_for_stop<R: Wait>(&self, rt: &R) {
+        for _ in rt.forever() {
+            if self.has_stopped() {
+                return;
+            }
+            self.wait(rt);
+        }
+        unreachable!()
+    }
 }

@@ -1,10 +1,10 @@
 -- An operation is found where it is kept, and leaves.
-use Rattle.std.proofs.Common.{◌≡◌, ℕ, zero, suc, ◌<◌, ◌≤◌, Bool, true, false, cond, not, List, [], ◌∷◌, length, get_or, remove, find, position, nat_lt, ◌+◌, refl, sym, ap, ◌∙◌, arith, Option, None, Some, ⊎_elim}
+use Rattle.std.proofs.Common.{◌≡◌, ℕ, zero, suc, ◌<◌, ◌≤◌, Bool, true, false, cond, not, List, [], ◌∷◌, length, get_or, remove, find, position, nat_lt, ◌+◌, refl, sym, ap, ◌∙◌, arith, None, Some, ⊎_elim}
 use Rattle.std.proofs.lemmas.Bool.{cases_Bool, cond-true, cond-false, ltb-false}
 use Rattle.std.specs.List.{position_or_len}
 use Rattle.std.proofs.lemmas.List.Quantifiers.{position-Some}
 use Rattle.swap_base.specs.declared.DiskWhich.{DiskWhich}
-use Rattle.swap_disk.specs.Disk.{Flight, is_flight_of, without}
+use Rattle.swap_disk.specs.Disk.{is_flight_of, without}
 use Rattle.swap_file.specs.declared.flights.Flying.{Flying}
 use Rattle.swap_file.specs.Flights.{flight_of, is_flying, flights_of}
 

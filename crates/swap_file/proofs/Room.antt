@@ -1,5 +1,5 @@
 -- No more operations are in flight than writes and callers that there may be.
-use Rattle.std.proofs.Common.{◌≡◌, ℕ, zero, suc, ◌+◌, ◌<◌, ◌≤◌, Bool, true, false, cond, nat_lt, nat_eq, List, [], ◌∷◌, ◌++◌, length, find, count_by, refl, sym, ap, ◌∙◌, subst, arith, Option, None, Some, ⊎_elim, eq-eqb, lt-ltb, le-ltb, eqb-true}
+use Rattle.std.proofs.Common.{◌≡◌, ℕ, zero, suc, ◌+◌, ◌<◌, ◌≤◌, Bool, true, false, cond, nat_lt, nat_eq, List, [], ◌∷◌, ◌++◌, length, find, count_by, refl, sym, ap, ◌∙◌, subst, arith, None, Some, ⊎_elim, eq-eqb, lt-ltb, le-ltb, eqb-true}
 use Rattle.std.specs.List.{AllByRecursion}
 use Rattle.std.proofs.lemmas.Bool.{cases_Bool, cases_eq, cases_lt, cond-true, cond-false}
 use Rattle.std.proofs.lemmas.List.Sums.{sum_by-cons, sum_by-append}
@@ -7,7 +7,7 @@ use Rattle.swap_base.specs.declared.Caller.{Caller}
 use Rattle.swap_base.specs.declared.DiskWhich.{DiskWhich}
 use Rattle.swap_base.specs.declared.DiskWhich.TheVariants as which
 use Rattle.swap_disk.specs.Disk.{Flight, Write, Read, is_flight_of, without}
-use Rattle.swap_disk.specs.Port.{writes_in, is_write, IsFree}
+use Rattle.swap_disk.specs.Port.{writes_in, is_write}
 use Rattle.swap_file.specs.Flights.{Roster, MayStart, started, IsKnown, Holds}
 
 abbrev one : Bool → ℕ

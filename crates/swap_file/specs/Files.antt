@@ -1,7 +1,7 @@
 -- A disk in a file, as its port and what has come back from the thread that reads and writes.
-use Rattle.std.specs.Prelude.{◌≡◌, ℕ, false, List, [], ◌∷◌, ◌++◌, ◌⊎◌, find, Option, None, Some}
+use Rattle.std.specs.Prelude.{◌≡◌, ℕ, true, false, List, [], ◌∷◌, ◌++◌, ◌⊎◌, find, Option, None, Some}
 use Rattle.swap_base.specs.Sizes.{Sizes}
-use Rattle.swap_disk.specs.Disk.{Flight, Taken, is_flight_of}
+use Rattle.swap_disk.specs.Disk.{Flight, Taken, is_flight_of, bytes_given}
 use Rattle.swap_disk.specs.Port.{Port, DiskCall, DiskAnswer, StartWrite, StartRead, TakeDone, LetFinish, Follows}
 use Rattle.swap_file.specs.declared.worker.Done.{Done}
 
@@ -22,11 +22,13 @@ pub record Strange (before now : FilePort) : Type 0 where
   pub came : now.came ≡ before.came ++ item ∷ []
   pub stranger : find (is_flight_of item.which) before.port.flights ≡ None
 
--- the item that came is the one that is handed over
+-- the item that came is the one that is handed over: it is ok only where the item is, and its bytes are the item's
 pub record Came (before : FilePort) (taken : Taken) (now : FilePort) : Type 0 where
   pub item : Done
   pub came : now.came ≡ before.came ++ item ∷ []
   pub names : taken.done.which ≡ item.which
+  pub ok : taken.done.ok ≡ true → item.ok ≡ true
+  pub bytes : taken.bytes ≡ bytes_given taken.done.which taken.done.ok item.bytes.items
 
 -- an operation failed as it couldn't be handed to the thread
 pub record Unsent (before : FilePort) (taken : Taken) (now : FilePort) : Type 0 where

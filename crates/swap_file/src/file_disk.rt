@@ -1,4 +1,4 @@
-ghost use Rattle.std.specs.Prelude.{◌≡◌, ℕ, ◌<◌, ◌≤◌, ◌^◌, List, length, false, [], Some, IfOk, MatchOption};
+ghost use Rattle.std.specs.Prelude.{◌≡◌, ℕ, ◌<◌, ◌≤◌, ◌^◌, List, length, true, false, [], Some, IfOk, MatchOption};
 ghost use Rattle.swap_io.specs.Causes.{Rose};
 ghost use Rattle.swap_disk.specs.Port.{TakeDone, taken_by};
 ghost use Rattle.swap_file.specs.Files.{file_port, Moves};
@@ -10,7 +10,7 @@ use std::fs::{File, Files};
 use std::marker::Model;
 use std::sync::Wait;
 use std::thread;
-use std::thread::{JoinHandle, Threads};
+use std::thread::Threads;
 use swap_base::{Caller, DiskWhich, Geometry, Page};
 use swap_disk::{DiskDone, DiskPort};
 use swap_ends::{Bell, End, SharedBell};
@@ -23,11 +23,11 @@ pub enum NotOpened {
 }
 
 /// A disk in a file, which a thread reads and writes. Its calls push to and pop from queues, and take no memory; none waits
-/// for the file. Where it is dropped the thread is told to stop, does what is left, and is joined.
+/// for the file. Where it is dropped the thread is told to stop and does what is left, and the drop waits for its end.
 ///
 /// It doesn't tell its blocks. An operation that failed, or couldn't be handed to the thread, is a fault of the `take` that
 /// ends it. What comes back and names no operation in flight is dropped by the `take` that sees it.
-pub struct FileDisk<R: Wait + Threads + Copy> {
+pub struct FileDisk<R: Wait + Copy> {
     rt: R,
     geometry: Geometry,
     flights: Flights,
@@ -36,10 +36,10 @@ pub struct FileDisk<R: Wait + Threads + Copy> {
     orders: End<Order>,
     dones: End<Done>,
     bell: SharedBell,
-    worker: JoinHandle<()>,
+    gone: SharedBell,
 }
 
-impl<R: Wait + Threads + Copy> Model for FileDisk<R> {
+impl<R: Wait + Copy> Model for FileDisk<R> {
     ghost use Rattle.std.specs.Prelude.{◌≡◌, ◌<◌, ◌^◌};
     ghost use Rattle.swap_file.specs.Files.{FilePort, file_port};
 
@@ -50,7 +50,7 @@ impl<R: Wait + Threads + Copy> Model for FileDisk<R> {
     ghost invariant = { λ d. (d.flights.queue ≡ d.geometry.queue) × (d.flights.callers ≡ d.geometry.callers) × (d.faults < 2 ^ 64) };
 }
 
-impl<R: Wait + Threads + Copy> Drop for FileDisk<R> {
+impl<R: Wait + Copy> Drop for FileDisk<R> {
     fn drop(self) {
         let FileDisk {
             rt,
@@ -61,10 +61,18 @@ impl<R: Wait + Threads + Copy> Drop for FileDisk<R> {
             orders: _,
             dones: _,
             bell,
-            worker,
+            gone,
         } = self;
         bell.stop();
-        worker.join(&rt)
+        gone.wait_for_stop(&rt);
+    }
+}
+
+/// A bell, twice.
+fn bells(alloc: Global) -> Result<(SharedBell, SharedBell), NotOpened> {
+    match Bell::pair(alloc) {
+        Ok(bells) => Ok(bells),
+        Err(_) => Err(NotOpened::NoMemory),
     }
 }
 
@@ -84,14 +92,19 @@ fn make_buffers(alloc: Global, count: usize, page_bytes: usize) -> Result<Vec<Ve
     Ok(buffers)
 }
 
-/// The file at a path, made anew with so many zeros.
-fn make_file<R: Files<File = File>>(rt: &R, path: &str, length: u64) -> Result<File, NotOpened> {
+/// The file at a path, made anew, of the geometry's size and with zeros.
+pub fn make_file<R: Files<File = File>>(
+    rt: &R,
+    path: &str,
+    geometry: &Geometry,
+) -> Result<File, NotOpened> {
     let mut options = File::options();
     options.read(true).write(true).create(true).truncate(true);
     let Ok(file) = options.open(rt, path) else {
         return Err(NotOpened::Failed);
     };
-    match file.set_len(length) {
+    let page_bytes = u64::from(geometry.page_bytes());
+    match file.set_len(u64::from(geometry.pages()).saturating_mul(page_bytes)) {
         Ok(()) => Ok(file),
         Err(_) => Err(NotOpened::Failed),
     }
@@ -110,13 +123,28 @@ fn pair<T: Drop>(alloc: Global, room: usize) -> Result<(End<T>, End<T>), NotOpen
 
 impl<R> FileDisk<R>
 where
-    R: Wait + Threads + Files<File = File> + Copy + Send + 'static,
+    R: Wait + Threads + Copy + Send + 'static,
 {
     /// Makes the file anew, of the geometry's size and with zeros, and its thread and all buffers.
     pub fn open(
         rt: R,
         alloc: Global,
         path: &str,
+        geometry: &Geometry,
+    ) -> Result<FileDisk<R>, NotOpened>
+    where
+        R: Files<File = File>,
+        ensures { IfOk result (λ d. d ≡ file_port geometry.now [] 0 []) }
+    {
+        let file = make_file(&rt, path, geometry)?;
+        FileDisk::over(rt, alloc, file, geometry)
+    }
+
+    /// A disk over a file of the geometry's size, as `make_file` makes it: its thread and all buffers.
+    pub fn over(
+        rt: R,
+        alloc: Global,
+        file: File,
         geometry: &Geometry,
     ) -> Result<FileDisk<R>, NotOpened>
         ensures { IfOk result (λ d. d ≡ file_port geometry.now [] 0 []) }
@@ -129,14 +157,15 @@ where
         };
         let (orders, to_do) = pair(alloc, room + 1)?;
         let (dones, given) = pair(alloc, room + 1)?;
-        let Ok((bell, theirs)) = Bell::pair(alloc) else {
-            return Err(NotOpened::NoMemory);
+        let (bell, theirs) = bells(alloc)?;
+        let (gone, going) = bells(alloc)?;
+        let worker = move || {
+            work(&rt, file, to_do, given, &theirs);
+            going.stop();
         };
-        let length = u64::from(geometry.pages()).saturating_mul(u64::from(page_bytes));
-        let file = make_file(&rt, path, length)?;
-        let Ok(worker) = thread::spawn(&rt, move || work(&rt, &file, to_do, given, &theirs)) else {
+        if thread::spawn(&rt, worker).is_err() {
             return Err(NotOpened::Failed);
-        };
+        }
         Ok(FileDisk {
             rt,
             geometry: *geometry,
@@ -146,12 +175,12 @@ where
             orders,
             dones,
             bell,
-            worker,
+            gone,
         })
     }
 }
 
-impl<R: Wait + Threads + Copy> FileDisk<R> {
+impl<R: Wait + Copy> FileDisk<R> {
     /// Hands an order to the thread in a spare buffer, which gets these bytes if there are some; whether the thread has it.
     fn order(&mut self, which: DiskWhich, page: Page, fill: Option<&[u8]>) -> bool
         ensures { self.new ≡ self.old }
@@ -207,6 +236,8 @@ impl<R: Wait + Threads + Copy> FileDisk<R> {
     /// Hands over what came back of a page: its bytes are copied to the buffer.
     fn hand_over(&mut self, page: Page, done: Done, buf: &mut [u8]) -> DiskDone
         ensures done { (result.which ≡ done.which) × (result.page ≡ page) }
+        ensures ok { result.ok ≡ true → done.ok ≡ true }
+        ensures filled { result.ok ≡ true → buf.new ≡ done.bytes.items }
         ensures port { self.new ≡ file_port self.old.port.sizes self.old.port.flights self.new.port.faults self.old.came }
         ensures later { self.old.port.faults ≤ self.new.port.faults }
         ensures cause { result.ok ≡ false → Rose self.old.port.faults self.new.port.faults }
@@ -242,7 +273,7 @@ fn is_filled(buffer: &mut Vec<u8>, fill: Option<&[u8]>) -> bool {
     true
 }
 
-impl<R: Wait + Threads + Copy> DiskPort for FileDisk<R> {
+impl<R: Wait + Copy> DiskPort for FileDisk<R> {
     ghost use Rattle.swap_file.specs.Files.{Moves};
 
     ghost means = { λ d. d.port };

@@ -5,5 +5,8 @@ mod file_disk;
 mod flights;
 mod worker;
 
-pub use file_disk::{FileDisk, NotOpened};
+pub use file_disk::{FileDisk, NotOpened, make_file};
 pub use worker::Done;
+
+#[cfg(test)]
+mod tests;

@@ -39,14 +39,14 @@ fn carry_out(file: &File, order: Order) -> Done {
 /// Carries out orders one after another, until it is told to stop and none is left.
 pub(crate) fn work<R: Wait>(
     rt: &R,
-    file: &File,
+    file: File,
     mut orders: End<Order>,
     mut dones: End<Done>,
     bell: &Bell,
 ) {
     for _ in rt.forever() {
         match orders.pop(rt) {
-            Some(order) => hand_back(rt, &mut dones, bell, carry_out(file, order)),
+            Some(order) => hand_back(rt, &mut dones, bell, carry_out(&file, order)),
             None => {
                 if bell.has_stopped() {
                     return;

@@ -1,8 +1,9 @@
 -- A fabric over sockets, as what came of each lender's link. It tells nothing of what is kept or owed.
 use Rattle.std.specs.Prelude.{◌≡◌, ℕ, Bool, true, false, ◌==◌, List, [], ◌∷◌, ◌++◌, ◌⊎◌, length, slice_set, slice_get, Option, None, Some}
 use Rattle.swap_base.specs.declared.Link.{Link}
-use Rattle.swap_wire.specs.Fabric.{FabricOf, FabricCall, FabricAnswer, Take, Handed, Brought, NothingCame, LinkLost, TakenFits}
+use Rattle.swap_wire.specs.Fabric.{FabricOf, FabricCall, FabricAnswer, Take, Handed, Brought, NothingCame, LinkLost, TakenFits, parcel_of}
 use Rattle.swap_net.specs.declared.post.Arrival.{Arrival}
+use Rattle.swap_net.specs.declared.post.Item.{Item}
 use Rattle.swap_net.specs.declared.post.Item.TheVariants as item_is
 
 -- the link that stands at the device's end, and what came from the reader, oldest first
@@ -25,16 +26,26 @@ pub record Older (before now : PostState) : Type 0 where
   pub came : now.came ≡ before.came ++ item ∷ []
   pub older : stands_as before.link item.link ≡ false
 
--- a message of the link that stands
-pub record CameBy (before : PostState) (handed : Handed) (now : PostState) : Type 0 where
+-- an item with these bytes is handed over as what it is: a message with its page, or the end of its link. A message whose
+-- bytes aren't as many as a page has ends the link
+abbrev pub HandsOver : ℕ → Item → List ℕ → Handed → Type 0
+HandsOver page_bytes (item_is.Got m) bytes (Brought p) = p ≡ parcel_of m bytes
+HandsOver page_bytes (item_is.Got m) bytes LinkLost = length bytes ≡ page_bytes → ⊥
+HandsOver page_bytes item_is.End bytes LinkLost = Unit {0}
+HandsOver page_bytes item_is.End bytes (Brought p) = ⊥
+HandsOver page_bytes item bytes NothingCame = ⊥
+
+-- an item of the link that stands is handed over
+pub record CameBy (page_bytes : ℕ) (before : PostState) (handed : Handed) (now : PostState) : Type 0 where
   pub item : Arrival
   pub came : now.came ≡ before.came ++ item ∷ []
   pub link : stands_as before.link item.link ≡ true
+  pub hands : HandsOver page_bytes item.item item.page.items handed
 
-abbrev pub Looked : PostState → Handed → PostState → Type 0
-Looked before (Brought p) now = CameBy before (Brought p) now
-Looked before NothingCame now = (before.link ≡ None) ⊎ ((now.came ≡ before.came) ⊎ Older before now)
-Looked before LinkLost now = CameBy before LinkLost now
+abbrev pub Looked : ℕ → PostState → Handed → PostState → Type 0
+Looked page_bytes before (Brought p) now = CameBy page_bytes before (Brought p) now
+Looked page_bytes before NothingCame now = (before.link ≡ None) ⊎ ((now.came ≡ before.came) ⊎ Older before now)
+Looked page_bytes before LinkLost now = CameBy page_bytes before LinkLost now
 
 -- only that post changed
 pub record TookAt (f : Mesh) (n : ℕ) (handed : Handed) (g : Mesh) : Type 0 where
@@ -42,7 +53,7 @@ pub record TookAt (f : Mesh) (n : ℕ) (handed : Handed) (g : Mesh) : Type 0 whe
   pub at : slice_get f.posts n ≡ Some before
   pub now : PostState
   pub posts : g.posts ≡ slice_set f.posts n now
-  pub looked : Looked before handed now
+  pub looked : Looked f.is_of.sizes.page_bytes before handed now
 
 abbrev pub Tells : Mesh → (c : FabricCall) → FabricAnswer c → Mesh → Type 0
 Tells f (Take lender) answer g = TookAt f lender.0 answer g

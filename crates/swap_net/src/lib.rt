@@ -10,3 +10,6 @@ mod writer;
 pub use opening::NotOpened;
 pub use post::{Arrival, Item};
 pub use socket_fabric::SocketFabric;
+
+#[cfg(test)]
+mod tests;

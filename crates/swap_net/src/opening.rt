@@ -76,13 +76,19 @@ fn start_writer<R>(
     address: SocketAddr,
     desk: writer::Desk,
     bells: (SharedBell, SharedBell),
+    ends: (SharedBell, SharedBell),
 ) -> Result<Worker<R>, NotOpened>
 where
     R: Wait + Threads + Net<Stream = TcpStream, Listener = TcpListener> + Copy + Send + 'static,
 {
     let (mine, theirs) = bells;
-    match thread::spawn(&rt, move || writer::write(&rt, address, desk, &theirs)) {
-        Ok(thread) => Ok(Worker::new(rt, mine, thread)),
+    let (gone, going) = ends;
+    let writer = move || {
+        writer::write(&rt, address, desk, &theirs);
+        going.stop();
+    };
+    match thread::spawn(&rt, writer) {
+        Ok(_) => Ok(Worker::new(rt, mine, gone)),
         Err(_) => Err(NotOpened::Failed),
     }
 }
@@ -91,13 +97,19 @@ fn start_reader<R>(
     rt: R,
     desk: reader::Desk,
     bells: (SharedBell, SharedBell),
+    ends: (SharedBell, SharedBell),
 ) -> Result<Worker<R>, NotOpened>
 where
     R: Wait + Threads + Copy + Send + 'static,
 {
     let (mine, theirs) = bells;
-    match thread::spawn(&rt, move || reader::read(&rt, desk, &theirs)) {
-        Ok(thread) => Ok(Worker::new(rt, mine, thread)),
+    let (gone, going) = ends;
+    let reader = move || {
+        reader::read(&rt, desk, &theirs);
+        going.stop();
+    };
+    match thread::spawn(&rt, reader) {
+        Ok(_) => Ok(Worker::new(rt, mine, gone)),
         Err(_) => Err(NotOpened::Failed),
     }
 }
@@ -134,7 +146,7 @@ where
         streams,
         reader: ringing,
     };
-    let writer = start_writer(rt, address, desk, for_writer)?;
+    let writer = start_writer(rt, address, desk, for_writer, bells(alloc)?)?;
     let desk = reader::Desk {
         streams: opened,
         arrivals: came,
@@ -142,7 +154,7 @@ where
         page_bytes,
         alloc,
     };
-    let reader = start_reader(rt, desk, for_reader)?;
+    let reader = start_reader(rt, desk, for_reader, bells(alloc)?)?;
     Ok(Post {
         rt,
         link: None,

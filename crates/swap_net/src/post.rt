@@ -4,7 +4,6 @@ ghost use Rattle.swap_net.specs.Posts.{Looked, stands_as};
 
 use std::marker::Model;
 use std::sync::Wait;
-use std::thread::{JoinHandle, Threads};
 use swap_base::Link;
 use swap_ends::{End, SharedBell};
 use swap_wire::{FrameBuf, Msg, Sent, Took, encode};
@@ -32,16 +31,16 @@ pub struct Arrival {
     pub(crate) page: Vec<u8>,
 }
 
-/// A thread, and the bell that it waits by.
-pub(crate) struct Worker<R: Threads + Copy> {
+/// A thread: the bell that it waits by, and the one that it stops as it ends.
+pub(crate) struct Worker<R: Wait + Copy> {
     rt: R,
     bell: SharedBell,
-    thread: JoinHandle<()>,
+    gone: SharedBell,
 }
 
-impl<R: Threads + Copy> Worker<R> {
-    pub(crate) fn new(rt: R, bell: SharedBell, thread: JoinHandle<()>) -> Worker<R> {
-        Worker { rt, bell, thread }
+impl<R: Wait + Copy> Worker<R> {
+    pub(crate) fn new(rt: R, bell: SharedBell, gone: SharedBell) -> Worker<R> {
+        Worker { rt, bell, gone }
     }
 
     pub(crate) fn ring(&self) {
@@ -54,11 +53,11 @@ impl<R: Threads + Copy> Worker<R> {
     }
 }
 
-impl<R: Threads + Copy> Drop for Worker<R> {
+impl<R: Wait + Copy> Drop for Worker<R> {
     fn drop(self) {
-        let Worker { rt, bell, thread } = self;
+        let Worker { rt, bell, gone } = self;
         bell.stop();
-        thread.join(&rt)
+        gone.wait_for_stop(&rt);
     }
 }
 
@@ -69,19 +68,14 @@ fn is_same(link: Link, other: Link) -> bool
 }
 
 /// A buffer is the reader's again.
-fn give_back<R: Wait + Threads + Copy>(
-    rt: &R,
-    pages: &mut End<Vec<u8>>,
-    reader: &Worker<R>,
-    page: Vec<u8>,
-) {
+fn give_back<R: Wait + Copy>(rt: &R, pages: &mut End<Vec<u8>>, reader: &Worker<R>, page: Vec<u8>) {
     let _ = pages.push(rt, page);
     reader.ring();
 }
 
 /// The device's end of the link to one lender, and its queues. Where it is dropped, its threads end the link and stop.
 #[derive(Drop)]
-pub(crate) struct Post<R: Wait + Threads + Copy> {
+pub(crate) struct Post<R: Wait + Copy> {
     pub(crate) rt: R,
     pub(crate) link: Option<Link>,
     pub(crate) orders: End<Order>,
@@ -92,7 +86,7 @@ pub(crate) struct Post<R: Wait + Threads + Copy> {
     pub(crate) reader: Worker<R>,
 }
 
-impl<R: Wait + Threads + Copy> Model for Post<R> {
+impl<R: Wait + Copy> Model for Post<R> {
     ghost use Rattle.swap_net.specs.Posts.{PostState};
 
     ghost Value = { PostState };
@@ -100,7 +94,7 @@ impl<R: Wait + Threads + Copy> Model for Post<R> {
     ghost view = { λ p. record { link = p.link; came = p.arrivals } };
 }
 
-impl<R: Wait + Threads + Copy> Post<R> {
+impl<R: Wait + Copy> Post<R> {
     /// Tells both threads to stop.
     pub(crate) fn stop(&self) {
         self.writer.stop();
@@ -151,9 +145,9 @@ impl<R: Wait + Threads + Copy> Post<R> {
         Sent::Sent
     }
 
-    /// What arrived first, if something of the link that stands did.
+    /// What arrived first, if something of the link that stands did. A message whose bytes don't fill the buffer ends the link.
     pub(crate) fn take(&mut self, page: &mut [u8]) -> Took
-        ensures looked { Looked self.old (handed result page.new) self.new }
+        ensures looked { Looked (length page.old) self.old (handed result page.new) self.new }
         ensures page { length page.new ≡ length page.old }
     {
         let Some(link) = self.link else {
@@ -171,16 +165,15 @@ impl<R: Wait + Threads + Copy> Post<R> {
             item,
             page: bytes,
         } = arrival;
-        if bytes.len() == page.len() {
-            page.copy_from_slice(&bytes);
-        }
-        give_back(&self.rt, &mut self.pages, &self.reader, bytes);
-        match item {
-            Item::Got(msg) => Took::Got(msg),
-            Item::End => {
-                self.link = None;
-                Took::Lost
+        if let Item::Got(msg) = item {
+            if bytes.len() == page.len() {
+                page.copy_from_slice(&bytes);
+                give_back(&self.rt, &mut self.pages, &self.reader, bytes);
+                return Took::Got(msg);
             }
         }
+        give_back(&self.rt, &mut self.pages, &self.reader, bytes);
+        self.link = None;
+        Took::Lost
     }
 }

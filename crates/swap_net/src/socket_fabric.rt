@@ -12,16 +12,16 @@ use swap_base::{Geometry, Lender, Link};
 use swap_wire::{Fabric, Gave, Hosted, Msg, Sent, Took};
 
 /// Links to lenders over TCP, with two threads for each lender. Its calls push to and pop from queues, and take no memory;
-/// none waits for a peer. Where it is dropped its threads end the links, are told to stop, and are joined.
+/// none waits for a peer. Where it is dropped its threads are told to stop and end the links, and the drop waits for their end.
 ///
 /// It tells nothing of pages. A full queue to a peer and bytes that are no frame end the link. What arrived on an older link
 /// is dropped by the `take` that sees it.
-pub struct SocketFabric<R: Wait + Threads + Copy> {
+pub struct SocketFabric<R: Wait + Copy> {
     geometry: Geometry,
     posts: Vec<Post<R>>,
 }
 
-impl<R: Wait + Threads + Copy> Model for SocketFabric<R> {
+impl<R: Wait + Copy> Model for SocketFabric<R> {
     ghost use Rattle.std.specs.Prelude.{length};
     ghost use Rattle.swap_net.specs.Posts.{Mesh};
 
@@ -32,7 +32,7 @@ impl<R: Wait + Threads + Copy> Model for SocketFabric<R> {
     ghost invariant = { λ f. Unit {0} };
 }
 
-impl<R: Wait + Threads + Copy> Drop for SocketFabric<R> {
+impl<R: Wait + Copy> Drop for SocketFabric<R> {
     fn drop(self) {
         let SocketFabric { geometry: _, posts } = self;
         for post in posts.iter() {
@@ -42,7 +42,7 @@ impl<R: Wait + Threads + Copy> Drop for SocketFabric<R> {
     }
 }
 
-impl<R: Wait + Threads + Copy> Fabric for SocketFabric<R> {
+impl<R: Wait + Copy> Fabric for SocketFabric<R> {
     ghost use Rattle.std.specs.Prelude.{◌≡◌};
     ghost use Rattle.swap_net.specs.Posts.{Moves};
 

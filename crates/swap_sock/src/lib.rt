@@ -9,7 +9,7 @@ mod memory;
 
 pub use address::Address;
 pub use host::{Door, Host, HostFault, LinkEnd};
-pub use memory::{MemDoor, MemHost};
+pub use memory::{Counts, MemDoor, MemHost};
 
 /// Texts and their addresses, computed over the definition.
 pub fn rows()

@@ -10,16 +10,17 @@ use swap_disk::MemDisk;
 use swap_io::{MemSink, MemSource};
 use swap_link::Harbor;
 
-/// How many were asked for, given and got back.
+/// How many of one kind were asked for, given and got back. Each count stops at 2^64 - 1.
 #[derive(Clone, Copy, Debug, PartialEq, Eq)]
-pub(crate) struct Counts {
-    pub(crate) asked: u64,
-    pub(crate) gave: u64,
-    pub(crate) back: u64,
+pub struct Counts {
+    pub asked: u64,
+    pub gave: u64,
+    pub back: u64,
 }
 
 impl Counts {
-    pub(crate) fn none() -> Counts
+    /// None of either.
+    pub fn none() -> Counts
         ensures { result ≡ record { asked = 0; gave = 0; back = 0 } }
     {
         Counts {
@@ -29,19 +30,22 @@ impl Counts {
         }
     }
 
-    pub(crate) fn ask(&mut self)
+    /// One more was asked for.
+    pub fn ask(&mut self)
         ensures { self.new ≡ record self.old { asked = raised self.old.asked } }
     {
         self.asked = self.asked.saturating_add(1);
     }
 
-    pub(crate) fn give(&mut self)
+    /// One more was given.
+    pub fn give(&mut self)
         ensures { self.new ≡ record self.old { gave = raised self.old.gave } }
     {
         self.gave = self.gave.saturating_add(1);
     }
 
-    pub(crate) fn take_back(&mut self)
+    /// One more came back.
+    pub fn take_back(&mut self)
         ensures { self.new ≡ record self.old { back = raised self.old.back } }
     {
         self.back = self.back.saturating_add(1);

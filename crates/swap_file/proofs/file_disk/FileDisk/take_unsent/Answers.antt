@@ -1,4 +1,4 @@
-use Rattle.std.proofs.Common.{◌≡◌, ℕ, false, List, refl, sym, ap, ◌∙◌, subst, Option, None, Some}
+use Rattle.std.proofs.Common.{ℕ, false, List, refl, sym, ap, ◌∙◌, subst, Option, Some}
 use Rattle.swap_base.specs.declared.Page.{Page}
 use Rattle.swap_disk.specs.declared.DiskDone.{DiskDone}
 use Rattle.swap_disk.specs.Disk.{Flight, without}

@@ -1,4 +1,4 @@
-use Rattle.std.proofs.Common.{◌≡◌, ℕ, List, [], ◌∷◌, ◌++◌, refl, sym, ap, ◌∙◌, subst, Option, None, Some, MatchOption}
+use Rattle.std.proofs.Common.{◌≡◌, ℕ, List, [], ◌∷◌, ◌++◌, sym, ◌∙◌, subst, Option, None, Some, MatchOption}
 use Rattle.swap_disk.specs.declared.DiskDone.{DiskDone}
 use Rattle.swap_disk.specs.Disk.{Flight, without}
 use Rattle.swap_disk.specs.Port.{TakeDone, taken_by}
@@ -42,4 +42,4 @@ returns g c =
     (subst (λ (r : Roster). Moves c.args.self.now TakeDone T (F r.flights c.pop.new.self)) (sym left.1)
     (subst (λ cs. Moves c.args.self.now TakeDone T (F (without x.which c.self.inside.flights.flights) cs)) (sym came)
     (subst (λ (d : FilePort). Moves d TakeDone T (F (without x.which c.self.inside.flights.flights) (c.self.inside.dones ++ x ∷ []))) (c.self.view_is ∙ c.in_default.ensures [])
-    (ends c.self.inside.geometry c.self.inside.flights.flights c.self.inside.faults c.self.inside.dones x c.in_ok-flying.flying c.hand_over.result n c.hand_over.new.buf left.0 c.hand_over.ensures.done.0 (c.hand_over.ensures.done.1 ∙ c.page.ensures) c.hand_over.ensures.later c.hand_over.ensures.cause))))
+    (ends c.self.inside.geometry c.self.inside.flights.flights c.self.inside.faults c.self.inside.dones x c.in_ok-flying.flying c.hand_over.result n c.hand_over.new.buf left.0 c.hand_over.ensures.done.0 (c.hand_over.ensures.done.1 ∙ c.page.ensures) c.hand_over.ensures.later c.hand_over.ensures.cause c.hand_over.ensures.ok c.hand_over.ensures.filled))))

@@ -1,4 +1,4 @@
-use Rattle.std.proofs.Common.{◌≡◌, ◌≤◌, List, position, refl, sym, ap, ◌∙◌, subst, arith, Option, None, Some}
+use Rattle.std.proofs.Common.{◌≡◌, List, position, refl, sym, ap, ◌∙◌, subst, arith, Option, None, Some}
 use Rattle.swap_disk.specs.Disk.{Flight}
 use Rattle.swap_file.specs.declared.flights.Flying.{Flying}
 use Rattle.swap_file.specs.Flights.{Roster, is_flying, flights_of, Leaves, Holds}

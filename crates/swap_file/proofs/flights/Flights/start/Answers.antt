@@ -1,7 +1,6 @@
-use Rattle.std.proofs.Common.{◌≡◌, ◌≤◌, List, [], ◌∷◌, ◌++◌, length, map, sym, ap, ◌∙◌, subst, arith}
+use Rattle.std.proofs.Common.{◌≡◌, List, [], ◌∷◌, ◌++◌, sym, ap, ◌∙◌, subst, arith}
 use Rattle.std.proofs.lemmas.List.{length-map, map-append}
 use Rattle.swap_disk.specs.Disk.{Flight}
-use Rattle.swap_file.specs.declared.flights.Flying.{Flying}
 use Rattle.swap_file.specs.Flights.{Roster, flight_of, flights_of, MayStart, Holds}
 use Rattle.swap_file.proofs.Room.{has_room, holds_started}
 use Rattle.swap_file.proofs.flights.Flights.start.Goals as goal

@@ -1,0 +1,10 @@
+//! A host over files and sockets: disks in files, links to lenders and doors over TCP.
+#![tactic(auto)]
+
+mod opener;
+mod real_host;
+
+pub use real_host::RealHost;
+
+#[cfg(test)]
+mod tests;
