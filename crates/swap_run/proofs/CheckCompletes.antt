@@ -1,21 +1,19 @@
 -- How a check ends where nothing fails.
-use Rattle.std.proofs.Common.{◌≡◌, ℕ, suc, ◌-◌, ◌≤◌, ◌⊎◌, List, [], ◌++◌, length, take, drop, replicate, refl, sym, ap, ◌∙◌, subst, inl, inr, arith, Option, None, Some, Result, Ok, Err}
+use Rattle.std.proofs.Common.{◌≡◌, ℕ, suc, ◌-◌, List, ◌++◌, length, take, drop, replicate, refl, sym, ap, ◌∙◌, subst, inl, inr, arith, None, Some, Ok, Err}
 use Rattle.std.proofs.lemmas.List.{take-append-drop}
 use Rattle.swap_record.specs.History.{History, IsOrdered, IsFaithful, IsLegal}
 use Rattle.swap_record.specs.Laws.{OrderedPasses, FaithfulPasses}
 use Rattle.swap_record.specs.Book.{Book}
-use Rattle.swap_record.specs.Judging.{Judges, oldest, IsLegalBook}
+use Rattle.swap_record.specs.Judging.{Judges}
 use Rattle.swap_record.specs.declared.Verdict.{Verdict}
 use Rattle.swap_record.specs.declared.Verdict.TheVariants as verdict
 use Rattle.swap_base.specs.declared.EntryNo.{EntryNo}
 use Rattle.swap_script.specs.declared.ScriptRefused.{ScriptRefused}
-use Rattle.swap_script.specs.declared.TheConstants.{TEXT_LIMIT}
 use Rattle.swap_transcript.specs.Transcripts.{Transcript, transcript}
 use Rattle.swap_transcript.specs.Verdicts.{book_of}
-use Rattle.swap_run.specs.declared.Ending.{Ending}
 use Rattle.swap_run.specs.declared.Ending.TheVariants as ending
-use Rattle.swap_run.specs.Clause.{Stream, Failed, Judged, Checked, CheckEnds}
-use Rattle.swap_run.specs.Checks.{IsLegalTranscript, ChecksTranscripts, ChecksRefuse}
+use Rattle.swap_run.specs.Clause.{Stream, Checked}
+use Rattle.swap_run.specs.Checks.{ChecksTranscripts, ChecksRefuse}
 use Rattle.swap_run.proofs.ReadText.{read_whole_is, read_length}
 
 -- a history that is legal was so before its later entries

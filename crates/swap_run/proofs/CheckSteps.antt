@@ -1,8 +1,8 @@
 -- How a check ends, from its steps.
-use Rattle.std.proofs.Common.{◌≡◌, ℕ, ◌+◌, ◌≤◌, List, [], ◌++◌, length, refl, sym, ap, ◌∙◌, subst, arith, Option, None, Some, Result, Ok, Err, inl, inr}
-use Rattle.std.specs.Io.KnownBytes.{Appends, Keeps, append_known}
+use Rattle.std.proofs.Common.{◌≡◌, ℕ, ◌≤◌, List, [], length, refl, sym, ap, ◌∙◌, subst, arith, Option, Result, Ok, Err, inl, inr}
+use Rattle.std.specs.Io.KnownBytes.{Appends, append_known}
 use Rattle.std.proofs.KnownBytes.{Appends-kept}
-use Rattle.swap_io.specs.Causes.{Rose, AppendsFront, WasReadWhole}
+use Rattle.swap_io.specs.Causes.{WasReadWhole}
 use Rattle.swap_io.specs.Gathered.{Gathered, gathered}
 use Rattle.swap_record.specs.declared.Verdict.{Verdict}
 use Rattle.swap_record.specs.declared.Verdict.TheVariants as verdict

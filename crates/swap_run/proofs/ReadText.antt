@@ -1,5 +1,5 @@
 -- What was read of a text that is told.
-use Rattle.std.proofs.Common.{◌≡◌, ℕ, ◌+◌, ◌≤◌, List, ◌++◌, length, refl, sym, ap, ◌∙◌, arith, length-append, append-nil, Option, None, Some}
+use Rattle.std.proofs.Common.{◌≡◌, ℕ, ◌+◌, ◌≤◌, List, ◌++◌, length, sym, ap, ◌∙◌, arith, length-append, append-nil, Option, None, Some}
 use Rattle.swap_io.specs.Causes.{WasRead, WasReadWhole}
 
 pub read_whole_is : (before now : Option (List ℕ)) (told text : List ℕ) → before ≡ Some told → WasReadWhole before now text → told ≡ text

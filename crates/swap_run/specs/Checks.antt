@@ -1,5 +1,5 @@
 -- A check, step by step: what is read of a source, and what is written of a verdict.
-use Rattle.std.specs.Prelude.{◌≡◌, ℕ, ◌≤◌, ◌⊎◌, List, length, Option, Some, Result, Ok, Err}
+use Rattle.std.specs.Prelude.{◌≡◌, ℕ, ◌≤◌, ◌⊎◌, List, length, Some, Result, Ok, Err}
 use Rattle.std.specs.Io.KnownBytes.{Appends}
 use Rattle.swap_base.specs.declared.EntryNo.{EntryNo}
 use Rattle.swap_io.specs.Causes.{AppendsFront}

@@ -1,6 +1,5 @@
 -- Each other ending is ruled out by its cause.
-use Rattle.std.proofs.Common.{◌≡◌, ℕ, ◌+◌, ◌≤◌, ◌⊎◌, List, ◌++◌, length, refl, sym, ap, ◌∙◌, subst, inl, inr, arith, length-append, append-nil, Option, None, Some, Ok, Err}
-use Rattle.swap_io.specs.Causes.{WasRead, WasReadWhole}
+use Rattle.std.proofs.Common.{◌≡◌, ℕ, ◌≤◌, ◌⊎◌, List, length, refl, sym, subst, inl, inr, arith, Some, Ok, Err}
 use Rattle.swap_script.specs.declared.ScriptRefused.{ScriptRefused}
 use Rattle.swap_script.specs.Reading.{script}
 use Rattle.swap_script.specs.Reading as reading

@@ -1,4 +1,4 @@
-use Rattle.std.proofs.Common.{ap, length, ◌++◌, [], decimal, arith, length-append}
+use Rattle.std.proofs.Common.{ap, length, decimal, arith, length-append}
 use Rattle.swap_record.proofs.Spelled.{digits_within}
 use Rattle.swap_run.proofs.check.put_line.Goals as goal
 
