@@ -8,3 +8,4 @@ pub mod Refused
 pub mod CheckSteps
 pub mod CheckCompletes
 pub mod ReadText
+pub mod DrillEnds

@@ -1,5 +1,5 @@
 -- What a call of the program promises: how it ends, and what it then read and wrote.
-use Rattle.std.specs.Prelude.{◌≡◌, ℕ, ◌<◌, ◌≤◌, ◌⊎◌, Bool, true, false, if◌then◌else◌, List, [], ◌∷◌, length, Option, None, Some, Result, Ok, Err, codes}
+use Rattle.std.specs.Prelude.{◌≡◌, ℕ, ◌<◌, ◌≤◌, ◌⊎◌, Bool, true, false, nat_le, if◌then◌else◌, List, [], ◌∷◌, length, Option, None, Some, Result, Ok, Err, codes}
 use Rattle.std.specs.Io.KnownBytes.{Appends, Keeps}
 use Rattle.swap_io.specs.Causes.{Rose, WasRead, WasReadWhole, AppendsFront}
 use Rattle.swap_script.specs.declared.ScriptRefused.{ScriptRefused}
@@ -16,15 +16,33 @@ use Rattle.swap_transcript.specs.Transcripts as transcripts
 use Rattle.swap_transcript.specs.Verdicts.{IsJudged}
 use Rattle.swap_roundtrip.specs.Numbers.{NumbersFit}
 use Rattle.swap_roundtrip.specs.Back.{start_of, IsReadBack}
+use Rattle.swap_io.specs.Words.{number as number_of}
+use Rattle.swap_world.specs.World.{history}
+use Rattle.swap_drill.specs.Drill.{drill_world}
+use Rattle.swap_drill.specs.Laws.{KeepsHeadline}
+use Rattle.swap_drill.specs.Text.{drill_text}
+use Rattle.swap_drill.specs.declared.TheConstants.{MOST_CALLS}
 use Rattle.swap_run.specs.Judging.{verdict_line}
 use Rattle.swap_run.specs.declared.Command.{Command}
-use Rattle.swap_run.specs.declared.Command.TheVariants.{RunScript, CheckTranscript}
+use Rattle.swap_run.specs.declared.Command.TheVariants.{RunScript, CheckTranscript, RunDrill}
 use Rattle.swap_run.specs.declared.Ending.{Ending}
 use Rattle.swap_run.specs.declared.Ending.TheVariants as ending
 use Rattle.swap_run.specs.Run.{history_of, transcript_of, has_failed, IsHeadline}
 
+-- a drill has as many calls as it may
+abbrev pub drill_of : Option ℕ → Option ℕ → Option Command
+drill_of (Some number) (Some calls) = if nat_le calls MOST_CALLS then Some (RunDrill number calls) else None
+drill_of _ _ = None
+
+abbrev pub text_command : List ℕ → Option Command
+text_command word = if is_word (codes "script") word then Some RunScript else (if is_word (codes "check") word then Some CheckTranscript else None)
+
+abbrev pub drill_command : List ℕ → List ℕ → List ℕ → Option Command
+drill_command word number calls = if is_word (codes "drill") word then drill_of (number_of number) (number_of calls) else None
+
 abbrev pub command_of : List (List ℕ) → Option Command
-command_of (word ∷ []) = if is_word (codes "script") word then Some RunScript else (if is_word (codes "check") word then Some CheckTranscript else None)
+command_of (word ∷ []) = text_command word
+command_of (word ∷ number ∷ calls ∷ []) = drill_command word number calls
 command_of _ = None
 
 -- a source, or a sink, over a call: the bytes left or taken, where they are told, and its count of faults
@@ -162,12 +180,32 @@ CheckEnds source out ending.NoMemory = TookNothing out
 CheckEnds source out ending.HostFailed = ⊥
 CheckEnds source out ending.TooLong = ReadTooMuch source × TookNothing out
 
+-- a drill ran: out took its summary, and nothing else; a call failed or none did; and the headline holds of it
+pub record RanDrill (number calls : ℕ) (out : Stream) (with_fault : Bool) : Type 0 where
+  pub wrote : Appends out.before out.now (drill_text number calls)
+  pub fault : has_failed (history (drill_world number calls)) ≡ with_fault
+  pub headline : KeepsHeadline number calls
+
+-- what holds where a drill ends so
+abbrev pub DrillEnds : ℕ → ℕ → Stream → Ending → Type 0
+DrillEnds number calls out ending.Done = RanDrill number calls out false
+DrillEnds number calls out ending.Faulted = RanDrill number calls out true
+DrillEnds number calls out ending.WriteFailed = AppendsFront out.before out.now (drill_text number calls) × Failed out
+DrillEnds number calls out ending.NoMemory = TookNothing out
+DrillEnds number calls out _ = ⊥
+
 -- words that are no form are answered by Usage, and by nothing else
 abbrev pub Ends : Option Command → Stream → Stream → Ending → Type 0
 Ends None source out ending.Usage = TookNothing source × TookNothing out
 Ends None source out _ = ⊥
 Ends (Some RunScript) source out end = ScriptEnds source out end
 Ends (Some CheckTranscript) source out end = CheckEnds source out end
+Ends (Some (RunDrill number calls)) source out end = TookNothing source × DrillEnds number calls out end
+
+-- a drill has no more calls than it may
+abbrev pub MayRun : Option Command → Type 0
+MayRun (Some (RunDrill number calls)) = calls ≤ MOST_CALLS
+MayRun _ = Unit {0}
 
 -- the status and the words on err
 abbrev pub status_of : Ending → ℕ
@@ -211,3 +249,8 @@ abbrev pub Completes : Type 0
 Completes =
     (source out : Stream) (end : Ending) (text : List ℕ) (s : reading.Script) → Ends (Some RunScript) source out end → source.before ≡ Some text → length text ≤ TEXT_LIMIT → reading.script text ≡ Ok s → ¬ Failed source → ¬ Failed out
     → (end ≡ ending.Done) ⊎ ((end ≡ ending.Faulted) ⊎ (end ≡ ending.NoMemory))
+
+-- Where its output doesn't fail, a drill ends with its summary, or for want of memory.
+abbrev pub DrillsComplete : Type 0
+DrillsComplete =
+    (source out : Stream) (end : Ending) (number calls : ℕ) → Ends (Some (RunDrill number calls)) source out end → ¬ Failed out → (end ≡ ending.Done) ⊎ ((end ≡ ending.Faulted) ⊎ (end ≡ ending.NoMemory))

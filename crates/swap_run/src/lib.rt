@@ -2,16 +2,18 @@
 #![tactic(auto)]
 
 ghost use Rattle.swap_run.specs.Checks.{ChecksTranscripts, ChecksRefuse};
-ghost use Rattle.swap_run.specs.Clause.{Completes};
+ghost use Rattle.swap_run.specs.Clause.{Completes, DrillsComplete};
 ghost use Rattle.swap_run.specs.Rows.{QueueRows, DiskRows, LenderRows, LinkRows, HotSlabIsPlacedByARound, RefusedRows};
 ghost use Rattle.swap_run.specs.Run.{FailsWithTheDisk, ScriptsKeepTheHeadline};
 
 mod check;
+mod drilling;
 mod print;
 mod run;
 mod tell;
 
 pub use run::{run_lab, run_lab_in_blocks};
+pub use swap_drill::{DrillSummary, drill};
 use swap_newest::always_lent;
 use swap_record::passes_to_prefixes;
 use swap_script::{ScriptRefused, events_in_range, lenders_may_lend, pages_are_whole};
@@ -22,6 +24,7 @@ use swap_world::{always_legal, each_call_once, entries_are_seen};
 pub enum Command {
     RunScript,
     CheckTranscript,
+    RunDrill { number: u64, calls: u32 },
 }
 
 /// How a call of the program ends.
@@ -80,6 +83,11 @@ pub fn checks_complete()
 {
     passes_to_prefixes();
 }
+
+/// A drill whose `out` doesn't fail ends with its summary, or for want of memory.
+pub fn drills_complete()
+    ensures { DrillsComplete }
+{}
 
 /// Scripts and their transcripts, byte by byte, and texts that are refused.
 pub fn rows()

@@ -1,20 +1,23 @@
 ghost use Rattle.std.specs.Prelude.{◌≡◌, ◌≤◌, length, map, All, true, [], IfOk, OnErr, Err};
+ghost use Rattle.swap_io.specs.Words.{number as number_of};
 ghost use Rattle.swap_record.specs.History.{History};
 ghost use Rattle.swap_script.specs.Reading.{script as script_of, IsWithinLimits};
 ghost use Rattle.swap_world.specs.World.{start};
-ghost use Rattle.swap_run.specs.Clause.{Ends, EndsWith, stream, command_of, TextEnds, LabEnds, ScriptEnds, status_of};
+ghost use Rattle.swap_run.specs.Clause.{Ends, EndsWith, MayRun, stream, command_of, drill_command, drill_of, text_command, TextEnds, LabEnds, ScriptEnds, status_of};
 ghost use Rattle.swap_run.specs.Blocks.{is_whole, HandsOn, IsFresh};
 ghost use Rattle.swap_run.specs.Run.{has_failed, is_failed};
 ghost use Rattle.swap_run.specs.Printing.{world_in, HasRoomFor};
 
 use crate::check::{run_check, run_check_in_blocks};
+use crate::drilling::{run_drill, run_drill_in_blocks};
 use crate::print::print_run;
 use crate::tell::tell;
 use crate::{Command, Ending, scripts_keep_the_headline};
 use std::alloc::Global;
 use swap_base::{EntryNo, LenderSpec, NoMemory};
 use swap_disk::MemDisk;
-use swap_io::{BlockSink, LineBuf, Sink, Source, WholeRefused, read_whole};
+use swap_drill::MOST_CALLS;
+use swap_io::{BlockSink, LineBuf, Sink, Source, WholeRefused, number, read_whole};
 use swap_link::Harbor;
 use swap_record::{Op, Record};
 use swap_roundtrip::scripts_are_read_back;
@@ -138,13 +141,50 @@ fn run_script<S: Source, K: Sink>(alloc: Global, source: &mut S, out: &mut K) ->
     }
 }
 
+// The drill of these two words, if they are numbers and it may have so many calls.
+fn drill_of(number_word: &str, calls_word: &str) -> Option<Command>
+    ensures { result ≡ drill_of (number_of number_word.now) (number_of calls_word.now) }
+{
+    let of_drill = number(number_word.as_bytes())?;
+    let calls = number(calls_word.as_bytes())?;
+    if calls > u64::from(MOST_CALLS) {
+        return None;
+    }
+    Some(Command::RunDrill {
+        number: of_drill,
+        calls: calls as u32,
+    })
+}
+
+// What one word alone asks for.
+fn text_command(word: &str) -> Option<Command>
+    ensures { result ≡ text_command word.now }
+{
+    match word {
+        "script" => Some(Command::RunScript),
+        "check" => Some(Command::CheckTranscript),
+        _ => None,
+    }
+}
+
+// What three words ask for.
+fn drill_command(word: &str, number: &str, calls: &str) -> Option<Command>
+    ensures { result ≡ drill_command word.now number.now calls.now }
+{
+    if word == "drill" {
+        drill_of(number, calls)
+    } else {
+        None
+    }
+}
+
 // What the words of the program ask for, if they are a form of words.
 fn command_of(words: &[&str]) -> Option<Command>
     ensures { result ≡ command_of (map (λ word. word.now) words.now) }
 {
     match words {
-        [word] if *word == "script" => Some(Command::RunScript),
-        [word] if *word == "check" => Some(Command::CheckTranscript),
+        [word] => text_command(word),
+        [word, number, calls] => drill_command(word, number, calls),
         _ => None,
     }
 }
@@ -174,19 +214,22 @@ fn run_command<S: Source, K: Sink>(
     source: &mut S,
     out: &mut K,
 ) -> Ending
+    requires { MayRun command }
     ensures { Ends command (stream (S.left source.old) (S.left source.new) (S.faults source.old) (S.faults source.new)) (stream (K.taken out.old) (K.taken out.new) (K.faults out.old) (K.faults out.new)) result }
 {
     match command {
         None => Ending::Usage,
         Some(Command::RunScript) => run_script(alloc, source, out),
         Some(Command::CheckTranscript) => run_check(alloc, source, out),
+        Some(Command::RunDrill { number, calls }) => run_drill(alloc, number, calls, out),
     }
 }
 
-/// The top call for the commands that work on a text. `script` reads a script from `source`, runs it, and writes its
-/// transcript to `out`; `check` reads a transcript, judges it, and writes the verdict. Reading a whole transcript of
-/// `script` back gives the history that its events reached. The answer is the program's status; what went wrong is told
-/// to `err`, whose own failures change nothing. Each status has its cause in the clause.
+/// The top call for the commands that wait for nobody. `script` reads a script from `source`, runs it, and writes its
+/// transcript to `out`, which read back gives the history that its events reached; `check` reads a transcript, judges it,
+/// and writes the verdict; `drill` reads nothing, makes the events of a number, and writes the summary. The answer is the
+/// program's status; what went wrong is told to `err`, whose own failures change nothing. Each status has its cause in the
+/// clause.
 pub fn run_lab<S: Source, K: Sink, E: Sink>(
     alloc: Global,
     words: &[&str],
@@ -242,6 +285,7 @@ fn run_command_in_blocks<S: Source, K: Sink + Drop>(
     source: &mut S,
     out: &mut BlockSink<K>,
 ) -> Ending
+    requires may { MayRun command }
     requires held { out.old.held ≡ [] }
     requires fresh { IsFresh out.old.handed }
     ensures { Ends command (stream (S.left source.old) (S.left source.new) (S.faults source.old) (S.faults source.new)) (stream out.old.handed out.new.handed out.old.faults out.new.faults) result }
@@ -250,6 +294,9 @@ fn run_command_in_blocks<S: Source, K: Sink + Drop>(
         None => Ending::Usage,
         Some(Command::RunScript) => run_script_in_blocks(alloc, source, out),
         Some(Command::CheckTranscript) => run_check_in_blocks(alloc, source, out),
+        Some(Command::RunDrill { number, calls }) => {
+            run_drill_in_blocks(alloc, number, calls, out)
+        }
     }
 }
 

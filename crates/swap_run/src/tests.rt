@@ -837,6 +837,10 @@ fn other_words_are_told_the_usage(rt: HostRuntime) -> Result<(), Fail> {
         ("a capital", ["Script"].as_slice()),
         ("a space", ["script "].as_slice()),
         ("another", ["play"].as_slice()),
+        ("no calls", ["drill", "7"].as_slice()),
+        ("too many calls", ["drill", "7", "100001"].as_slice()),
+        ("a leading zero", ["drill", "07", "1"].as_slice()),
+        ("a word more", ["drill", "7", "1", "1"].as_slice()),
     ] {
         let ran = run(rt.alloc(), words, PAGED, NONE)?;
         judge(&rt, name, &ran, ("", usage, 2))?;
@@ -973,4 +977,19 @@ fn a_check_tells_its_streams_failures(rt: HostRuntime) -> Result<(), Fail> {
         &ran,
         ("", "usage: remswap script|check|drill|play|lend\n", 2),
     )
+}
+
+#[test]
+fn a_drill_prints_its_summary(rt: HostRuntime) -> Result<(), Fail> {
+    let words = ["drill", "7", "0"];
+    let summary = "drill 7 0\n\
+                   entries 0 out 0 in 0 fault 0\n\
+                   from zero 0 queue 0 disk 0 lender 0\n\
+                   busy 0 waiting 0\n\
+                   rounds 0 mapped 0\n\
+                   end 0\n";
+    let ran = run(rt.alloc(), &words, PAGED, NONE)?;
+    judge(&rt, "drill_without_calls", &ran, (summary, "", 0))?;
+    let ran = run(rt.alloc(), &words, PAGED, Failing { out: 0, ..NONE })?;
+    judge(&rt, "write 0", &ran, ("", "write failed\n", 4))
 }
