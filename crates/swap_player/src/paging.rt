@@ -5,6 +5,7 @@ ghost use Rattle.swap_calls.specs.Calls.{call_of, is_idle};
 ghost use Rattle.swap_world.specs.Runs.{StandsIn};
 ghost use Rattle.swap_board.specs.Boards.{IsCall, IsOfIdle};
 ghost use Rattle.swap_turn.specs.Standing.{IsFreeOf};
+ghost use Rattle.swap_player.specs.Seen.{IsWell};
 ghost use Rattle.swap_player.specs.Turns.{ended_of, IsEnded, IsOpen, IsSpentAs, caller_of, Ends, Turns, Gives};
 
 use std::sync::Wait;
@@ -14,8 +15,10 @@ use swap_calls::CallState;
 use swap_device::DeviceCore;
 use swap_disk::DiskPort;
 use swap_record::{Entry, Op, Record};
+use swap_table::ports_promise;
 use swap_turn::{Pass, TurnLock};
 use swap_wire::{Event, Fabric, Seen};
+use swap_world::over_any_ports;
 
 /// Why a paging call gives no page, or took none.
 #[derive(Clone, Copy, Debug, PartialEq, Eq)]
@@ -191,6 +194,35 @@ fn step<D: DiskPort, F: Fabric, N: Naming<D, F>>(
     }
 }
 
+// The history of a board is ordered, and legal as far as its ports tell.
+fn holds<D: DiskPort, F: Fabric, N: Naming<D, F>>(board: &Board<D, F, N>)
+    ensures { IsWell D.DiskPort F.Fabric N.named.sizes board.now.world.core.device.history }
+{
+    board.is_named();
+    board.world().reached();
+    ports_promise::<D, F>();
+    over_any_ports::<D, F>();
+}
+
+// A step of a call, with what is known of the history after it.
+fn take_step<D: DiskPort, F: Fabric, N: Naming<D, F>>(
+    board: &mut Board<D, F, N>,
+    is_first: bool,
+    event: &Event,
+    page: &mut [u8],
+) -> Option<Ended>
+    requires call { IsCall event.now }
+    requires range { IsInRange N.named.sizes N.named.lenders event.now }
+    requires page { length page.old ≡ N.named.sizes.page_bytes }
+    ensures ends { Ends N.named.calls N.named.sizes.callers event.now page.old result board.old.world.core.device.history board.new.world.core.device.history }
+    ensures gives { Gives result board.new.world.core.device.history page.old page.new }
+    ensures well { IsWell D.DiskPort F.Fabric N.named.sizes board.new.world.core.device.history }
+{
+    let ended = step(board, is_first, event, page);
+    holds(board);
+    ended
+}
+
 /// One turn of a call.
 pub(crate) fn turn<D: DiskPort + Drop, F: Fabric + Drop, N: Naming<D, F>, R: Wait>(
     rt: &R,
@@ -208,9 +240,10 @@ pub(crate) fn turn<D: DiskPort + Drop, F: Fabric + Drop, N: Naming<D, F>, R: Wai
     ensures pass { IsFreeOf lock.now pass.new × (pass.new.number ≡ pass.old.number) }
     ensures turns { Turns N.named.calls N.named.sizes.callers event.now page.old result pass.old pass.new }
     ensures gives { Gives result pass.new.seen page.old page.new }
+    ensures well { IsWell D.DiskPort F.Fabric N.named.sizes pass.new.seen }
 {
     let mut taken = lock.take(rt, pass);
-    let ended = step(taken.value(), is_first, event, page);
+    let ended = take_step(taken.value(), is_first, event, page);
     lock.give(pass, taken);
     ended
 }

@@ -8,6 +8,7 @@ ghost use Rattle.swap_turn.specs.Standing.{IsFreeOf, newcomer};
 ghost use Rattle.swap_turn.specs.Turns.{entries_of, numbers_from};
 ghost use Rattle.swap_board.specs.Boards.{IsCall, AreOperators};
 ghost use Rattle.swap_board.specs.Works.{IsPoint};
+ghost use Rattle.swap_player.specs.Seen.{IsWellBy};
 ghost use Rattle.swap_player.specs.Turns.{caller_of, Looked, Pages, PagesAs, GivesBy};
 
 use crate::paging::{Ended, SwapFault, turn};
@@ -138,6 +139,7 @@ impl<D: DiskPort + Drop, F: Fabric + Drop, N: Naming<D, F>> Swap<D, F, N> {
         ensures pass { IsFreeOf self.now pass.new × (pass.new.number ≡ pass.old.number) }
         ensures pages { Pages N.named.calls N.named.sizes.callers event.now page.old result pass.old pass.new }
         ensures gives { GivesBy result.answer pass.new.seen page.old page.new }
+        ensures well { IsWellBy D.DiskPort F.Fabric N.named.sizes result.answer pass.new.seen }
     {
         let mut is_first = true;
         'steps: for _ in rt.forever() {
@@ -167,6 +169,7 @@ impl<D: DiskPort + Drop, F: Fabric + Drop, N: Naming<D, F>> Swap<D, F, N> {
         ensures pass { IsFreeOf self.now pass.new × (pass.new.number ≡ pass.old.number) }
         ensures pages { PagesAs N.named.calls N.named.sizes.callers (Event.PageIn (record { 0 = pass.old.number }) page) buf.old result pass.old pass.new }
         ensures gives { GivesBy result pass.new.seen buf.old buf.new }
+        ensures well { IsWellBy D.DiskPort F.Fabric N.named.sizes result pass.new.seen }
     {
         let caller = Caller(pass.number());
         let ended = self.call(rt, pass, &Event::PageIn { caller, page }, buf, gate);
@@ -191,6 +194,7 @@ impl<D: DiskPort + Drop, F: Fabric + Drop, N: Naming<D, F>> Swap<D, F, N> {
         requires bytes { length bytes.now ≡ N.named.sizes.page_bytes }
         ensures pass { IsFreeOf self.now pass.new × (pass.new.number ≡ pass.old.number) }
         ensures pages { PagesAs N.named.calls N.named.sizes.callers (Event.PageOut (record { 0 = pass.old.number }) page) bytes.now result pass.old pass.new }
+        ensures well { IsWellBy D.DiskPort F.Fabric N.named.sizes result pass.new.seen }
     {
         let Ok(mut buf) = bytes.to_vec(alloc) else {
             return Err(SwapFault::NoMemory);
@@ -211,6 +215,7 @@ impl<D: DiskPort + Drop, F: Fabric + Drop, N: Naming<D, F>> Swap<D, F, N> {
 }
 
 impl<D: DiskPort + Drop, F: Fabric + Drop, N: Naming<D, F>> Swap<D, F, N> {
+    ghost use Rattle.swap_player.specs.Seen.{IsWellBy};
     ghost use Rattle.swap_player.specs.Turns.{IsPlayed};
 
     /// A world under its lock, in which every caller is idle, and a pass for each number below `seats`, ascending. Pass c
