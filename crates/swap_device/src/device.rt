@@ -4,7 +4,7 @@ ghost use Rattle.swap_queue.specs.Queue.{copies};
 ghost use Rattle.swap_disk.specs.Disk.{bytes_given};
 ghost use Rattle.swap_disk.specs.Port.{LetFinish};
 ghost use Rattle.swap_wire.specs.Fabric.{parcel_of, Give, Cut, Crash, Host, FabricOf};
-ghost use Rattle.swap_calls.specs.Calls.{state_of, is_idle};
+ghost use Rattle.swap_calls.specs.Calls.{call_of, state_of, is_idle, keeps_page};
 ghost use Rattle.swap_slabs.specs.Slabs as slabs;
 ghost use Rattle.swap_slabs.specs.declared.TheConstants.{MOST_LENDERS};
 ghost use Rattle.swap_rings.specs.Rings as rings;
@@ -264,6 +264,15 @@ impl<D: DiskPort, F: Fabric> DeviceCore<D, F> {
         ensures { result ≡ state_of self.now.device.calls caller }
     {
         self.machine.state.call(caller)
+    }
+
+    /// The page kept for a caller's call: the one that waits for room, or the one that came.
+    pub fn kept(&self, caller: Caller) -> &[u8]
+        requires caller { caller.0 < self.now.device.sizes.callers }
+        requires kept { keeps_page (state_of self.now.device.calls caller) ≡ true }
+        ensures { result.now ≡ (call_of self.now.device.calls caller).bytes }
+    {
+        self.machine.state.kept(caller)
     }
 
     /// How many copies the write-behind queue has, of both kinds.

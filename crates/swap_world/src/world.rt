@@ -127,6 +127,13 @@ impl<D: DiskPort, F: Fabric> World<D, F> {
         let _len = self.log.len();
     }
 
+    /// How many lenders there are.
+    pub fn lenders(&self) -> u32
+        ensures { result ≡ self.now.core.device.lenders }
+    {
+        self.lenders
+    }
+
     /// The device.
     pub fn device(&self) -> &DeviceCore<D, F>
         ensures { result.now ≡ self.now.core }

@@ -1,0 +1,8 @@
+//! Calls from threads over one world in the lock of turns.
+#![tactic(auto)]
+
+mod paging;
+mod swap;
+
+pub use paging::{Ended, SwapFault};
+pub use swap::{Gate, Pumped, Swap};
