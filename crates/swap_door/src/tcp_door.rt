@@ -1,5 +1,6 @@
 ghost use Rattle.std.specs.Prelude.{◌≡◌, ◌≤◌, IfOk, Err};
 ghost use Rattle.swap_io.specs.Causes.{Rose};
+ghost use Rattle.swap_door.specs.SocketAddresses.{IsAddressOf};
 ghost use Rattle.swap_sock.specs.declared.host.HostFault.TheVariants as fault;
 
 use crate::{TcpSink, TcpSource};
@@ -13,7 +14,9 @@ use swap_sock::{Address, Door, HostFault, LinkEnd};
 const WRITE_SECONDS: u64 = 10;
 
 /// The same address for the system.
-pub fn socket_address(address: &Address) -> SocketAddr {
+pub fn socket_address(address: &Address) -> SocketAddr
+    ensures { IsAddressOf address.now result }
+{
     let Address { a, b, c, d, port } = *address;
     SocketAddr::V4(SocketAddrV4::new(Ipv4Addr::new(a, b, c, d), port))
 }
