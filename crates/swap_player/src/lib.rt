@@ -4,5 +4,8 @@
 mod paging;
 mod swap;
 
-pub use paging::{Ended, SwapFault};
+pub use paging::SwapFault;
 pub use swap::{Gate, Pumped, Swap};
+
+#[cfg(test)]
+mod tests;
