@@ -18,3 +18,9 @@ pub mod InTurn
 pub mod Notices
 pub mod Turned
 pub mod Lies
+pub mod Allowed
+pub mod Serving
+pub mod Noticing
+pub mod Served
+pub mod Granted
+pub mod Gives

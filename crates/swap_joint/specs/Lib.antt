@@ -10,3 +10,4 @@ pub mod Owned
 pub mod Sends
 pub mod Turn
 pub mod Lies
+pub mod Allowed
