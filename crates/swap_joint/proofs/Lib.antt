@@ -24,3 +24,4 @@ pub mod Noticing
 pub mod Served
 pub mod Granted
 pub mod Gives
+pub mod Fronts
