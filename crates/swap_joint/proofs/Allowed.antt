@@ -22,6 +22,7 @@ use Rattle.swap_link.specs.Lane.{Lane, appended}
 use Rattle.swap_joint.specs.Seats.{is_done}
 use Rattle.swap_joint.specs.Stored.{gives_back}
 use Rattle.swap_joint.specs.Allowed.{is_evict, is_ask, is_rate, is_refusal, is_hello, NamedOnce, BorrowsFree, NoHello, Greets, IsToLender, AreToLender, Allows}
+use Rattle.swap_joint.specs.Left.{borrows}
 use Rattle.swap_joint.proofs.Lanes.{by_append}
 use Rattle.swap_joint.proofs.Pairs.{all-front}
 use Rattle.swap_joint.proofs.Turns.{any_last, any-append}
@@ -48,10 +49,6 @@ named_last names (p ∷ ps) q once other =
     rest false b e = e
 
 -- borrows of slabs without a slot
-
-abbrev pub borrows : Slab → Msg → Bool
-borrows t (msg.Borrow slab) = slab.0 == t.0
-borrows t _ = false
 
 pub free_map : (slots slots' : List SlotState) (G H : Lease → Type 0) (ps : List Parcel) → ((t : Slab) (i : ℕ) (n : Link) (k : Lease) (e : Bool) → list_any (λ (q : Parcel). borrows t q.msg) ps ≡ true → slot_in slots' i ≡ Held n t k e → ((e' : Bool) × (slot_in slots i ≡ Held n t k e')) × (G k → H k)) → BorrowsFree slots G ps → BorrowsFree slots' H ps
 free_map slots slots' G H [] each h = tt

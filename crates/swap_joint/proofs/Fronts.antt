@@ -50,11 +50,11 @@ pub place_within : (s : Sizes) (p : Page) → p.0 < pages_of s → place_of s p.
 place_within s p within = mod-lt p.0 (pages_some s p.0 within)
 
 -- what doesn't greet comes from a link that has greeted, and what greets from one that hasn't
-greeted_before : (s : Sizes) (b ended : Bool) (q : Parcel) (ps : List Parcel) → is_hello q.msg ≡ false → Greets s b ended (q ∷ ps) → b ≡ true
+pub greeted_before : (s : Sizes) (b ended : Bool) (q : Parcel) (ps : List Parcel) → is_hello q.msg ≡ false → Greets s b ended (q ∷ ps) → b ≡ true
 greeted_before s true ended q ps plain h = refl
 greeted_before s false ended q ps plain h = absurd (both_ways (is_hello q.msg) plain (ap (λ (p : Parcel). is_hello p.msg) h.0))
 
-greets_first : (s : Sizes) (b ended : Bool) (q : Parcel) (ps : List Parcel) → is_hello q.msg ≡ true → Greets s b ended (q ∷ ps) → (b ≡ false) × (q ≡ hello s)
+pub greets_first : (s : Sizes) (b ended : Bool) (q : Parcel) (ps : List Parcel) → is_hello q.msg ≡ true → Greets s b ended (q ∷ ps) → (b ≡ false) × (q ≡ hello s)
 greets_first s true ended q ps is h = absurd (both_ways (is_hello q.msg) (or_first (is_hello q.msg) _ h) is)
   where
     or_first : (a b : Bool) → (a || b) ≡ false → a ≡ false

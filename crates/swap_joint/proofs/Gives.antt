@@ -43,7 +43,7 @@ use Rattle.swap_joint.specs.Pairs.{Pairwise}
 use Rattle.swap_joint.specs.Lenders.{IsReached}
 use Rattle.swap_joint.specs.Turn.{AsksUntold, Lodges}
 use Rattle.swap_joint.specs.Allowed.{is_hello, is_rate, borrows_in, refuses_in, rates_in, is_borrow, is_refusal, Waits, IsToLender, Allows, Allowed}
-use Rattle.swap_joint.proofs.Allowed.{borrows}
+use Rattle.swap_joint.specs.Left.{borrows}
 use Rattle.swap_joint.proofs.Serving.{HeldOf, slot_found}
 use Rattle.swap_joint.proofs.Pairs.{filter-first, pairs-first, all-back}
 use Rattle.swap_joint.proofs.Lenders.{are_owned}
@@ -56,7 +56,7 @@ own_link : (n : Link) (b : Lane) (q : Parcel) → posted n b n q ≡ appended b 
 own_link n b q = cond-true (n.0 == n.0) (appended b q) b (eq-eqb n.0 n.0 refl)
 
 -- a slot of which no test holds is free
-lowest_free : (slots : List SlotState) → slot_in slots (first_where is_free slots) ≡ Free
+pub lowest_free : (slots : List SlotState) → slot_in slots (first_where is_free slots) ≡ Free
 lowest_free slots = elim (cases_lt (first_where is_free slots) (length slots)) [
   | inl within ↦ free_is _ (passes_at_first is_free slots Free within)
   | inr past ↦ get_or_past slots (first_where is_free slots) Free past
@@ -67,12 +67,12 @@ lowest_free slots = elim (cases_lt (first_where is_free slots) (length slots)) [
     free_is (Held n t k e) is = cc
 
 -- what a served message wants of the device
-pub record Wants (states : List SlabState) (ring : List Request) (l : LenderNo) (table : Lender) (n : Link) (come : List Parcel) (q : Parcel) (ps : List Parcel) : Type 0 where
+pub record Wants (states : List SlabState) (ring : List Request) (l : LenderNo) (table : Lender) (n : Link) (come : List Parcel) (ended : Bool) (q : Parcel) (ps : List Parcel) : Type 0 where
   pub hello : has_greeted (hello table n).lender n ≡ true
-  pub borrow : (t : Slab) → q.msg ≡ msg.Borrow t → (borrows_in t ring ≡ true) × (refuses_in t come ≡ false) × (list_any (λ (p : Parcel). borrows t p.msg) ps ≡ false)
+  pub borrow : (t : Slab) → q.msg ≡ msg.Borrow t → ((borrows_in t ring ≡ true) ⊎ (ended ≡ true)) × (refuses_in t come ≡ false) × (list_any (λ (p : Parcel). borrows t p.msg) ps ≡ false)
   pub done : (j : Lease) → q.msg ≡ msg.Done j → (u : Slab) → has_lease l j (state_of states u) ≡ false
 
-front_true : (a b : Bool) → a ≡ true → (a || b) ≡ true
+pub front_true : (a b : Bool) → a ≡ true → (a || b) ≡ true
 front_true true b e = refl
 front_true false b e = cc
 
@@ -80,10 +80,10 @@ untold_answered : (o : Option Round) (slot value : ℕ) (slots : List SlotState)
 untold_answered None slot value slots h = tt
 untold_answered (Some r) slot value slots h = h
 
-draining_leased : (l : LenderNo) (j : Lease) (x : SlabState) (f : ℕ) → x ≡ Draining l j f → has_lease l j x ≡ true
+pub draining_leased : (l : LenderNo) (j : Lease) (x : SlabState) (f : ℕ) → x ≡ Draining l j f → has_lease l j x ≡ true
 draining_leased l j x f is = ap (has_lease l j) is ∙ and_from (l.0 == l.0) (j.0 == j.0) (eq-eqb l.0 l.0 refl) (eq-eqb j.0 j.0 refl)
 
-module _ (s : Sizes) (states : List SlabState) (ring : List Request) (l : LenderNo) (table : Lender) (n : Link) (b : Lane) (ended : Bool) (q : Parcel) (ps : List Parcel) (sound : IsSound table) (held : HeldOf table n) (untold : AsksUntold table.round table.slots) (wants : Wants states ring l table n b.parcels q ps) (h : Allows s states ring l table n b.parcels ended (q ∷ ps)) where
+module _ (s : Sizes) (states : List SlabState) (ring : List Request) (l : LenderNo) (table : Lender) (n : Link) (b : Lane) (ended : Bool) (q : Parcel) (ps : List Parcel) (sound : IsSound table) (held : HeldOf table n) (untold : AsksUntold table.round table.slots) (wants : Wants states ring l table n b.parcels ended q ps) (h : Allows s states ring l table n b.parcels ended (q ∷ ps)) where
   pub serve_by : (m : Msg) (page : List ℕ) → q.msg ≡ m → Allows s states ring l (serve table n m page).lender n (forwarded n b (serve table n m page).parcels).parcels ended ps
   serve_by (msg.Hello version page_bytes pages_per_slab) page is = allows_greeted s states ring l table n b.parcels ended q ps (ap is_hello is) (λ k. ap (is_done k) is) wants.hello h
   serve_by (msg.Query t) page is =
@@ -130,11 +130,11 @@ module _ (s : Sizes) (states : List SlabState) (ring : List Request) (l : Lender
 
 -- what the ring says of borrows
 
-or_false : (a b : Bool) → a ≡ false → b ≡ false → (a || b) ≡ false
+pub or_false : (a b : Bool) → a ≡ false → b ≡ false → (a || b) ≡ false
 or_false true b x y = cc
 or_false false b x y = y
 
-any_back : {X : Type 0} (p : X → Bool) (xs ys : List X) → list_any p ys ≡ true → list_any p (xs ++ ys) ≡ true
+pub any_back : {X : Type 0} (p : X → Bool) (xs ys : List X) → list_any p ys ≡ true → list_any p (xs ++ ys) ≡ true
 any_back p [] ys e = e
 any_back p (x ∷ xs) ys e = go (p x) (any_back p xs ys e)
   where
@@ -151,7 +151,7 @@ any_front p (x ∷ xs) ys e = go (p x) e (any_front p xs ys)
     go false e more = more e
 
 -- no message of a list passes a test where none of their requests does
-pairs_none : (P : Parcel → Request → Type 0) (test select : Parcel → Bool) (tests : Request → Bool) (ps : List Parcel) (rs : List Request) → ((p : Parcel) (r : Request) → P p r → test p ≡ true → tests r ≡ true) → ((p : Parcel) → test p ≡ true → select p ≡ true) → Pairwise P (filter select ps) rs → list_any tests rs ≡ false → list_any test ps ≡ false
+pub pairs_none : (P : Parcel → Request → Type 0) (test select : Parcel → Bool) (tests : Request → Bool) (ps : List Parcel) (rs : List Request) → ((p : Parcel) (r : Request) → P p r → test p ≡ true → tests r ≡ true) → ((p : Parcel) → test p ≡ true → select p ≡ true) → Pairwise P (filter select ps) rs → list_any tests rs ≡ false → list_any test ps ≡ false
 pairs_none P test select tests [] rs each sub h none = refl
 pairs_none P test select tests (p ∷ ps) rs each sub h none = go (select p) refl rs h none (λ rs h none. pairs_none P test select tests ps rs each sub h none)
   where
@@ -160,7 +160,7 @@ pairs_none P test select tests (p ∷ ps) rs each sub h none = go (select p) ref
     go true e (r ∷ rs) h none more = or_false (test p) _ (false_from_ne_true _ (λ t. both_ways (tests r) (or_parts (tests r) (list_any tests rs) none).0 (each p r h.0 t))) (more rs h.1 (or_parts (tests r) (list_any tests rs) none).1)
     go false e rs h none more = or_false (test p) _ (false_from_ne_true _ (λ t. both_ways (select p) e (sub p t))) (more rs h none)
 
-none_before : (t : Slab) (xs ys : List Request) → AreInOrder (xs ++ request.Borrow t ∷ ys) → list_any (is_borrow t) xs ≡ false
+pub none_before : (t : Slab) (xs ys : List Request) → AreInOrder (xs ++ request.Borrow t ∷ ys) → list_any (is_borrow t) xs ≡ false
 none_before t [] ys h = refl
 none_before t (x ∷ xs) ys h = or_false (is_borrow t x) _ (apart x (all-back (MayPrecede x) xs (request.Borrow t ∷ ys) h.0).0) (none_before t xs ys h.1)
   where
@@ -170,7 +170,7 @@ none_before t (x ∷ xs) ys h = or_false (is_borrow t x) _ (apart x (all-back (M
     apart (request.Write p e) may = refl
     apart (request.Read c p) may = refl
 
-none_after : (t : Slab) (ys : List Request) → AllByRecursion (MayPrecede (request.Borrow t)) ys → list_any (is_borrow t) ys ≡ false
+pub none_after : (t : Slab) (ys : List Request) → AllByRecursion (MayPrecede (request.Borrow t)) ys → list_any (is_borrow t) ys ≡ false
 none_after t [] h = refl
 none_after t (y ∷ ys) h = or_false (is_borrow t y) _ (apart y h.0) (none_after t ys h.1)
   where
@@ -180,12 +180,12 @@ none_after t (y ∷ ys) h = or_false (is_borrow t y) _ (apart y h.0) (none_after
     apart (request.Write p e) may = refl
     apart (request.Read c p) may = refl
 
-order_back : (xs ys : List Request) → AreInOrder (xs ++ ys) → AreInOrder ys
+pub order_back : (xs ys : List Request) → AreInOrder (xs ++ ys) → AreInOrder ys
 order_back [] ys h = h
 order_back (x ∷ xs) ys h = order_back xs ys h.1
 
 -- the request of a Borrow
-is_for_borrow : (s : Sizes) (H : History) (states : List SlabState) (l : LenderNo) (q : Parcel) (x : Request) (t : Slab) → q.msg ≡ msg.Borrow t → Carries s H states l q x → x ≡ request.Borrow t
+pub is_for_borrow : (s : Sizes) (H : History) (states : List SlabState) (l : LenderNo) (q : Parcel) (x : Request) (t : Slab) → q.msg ≡ msg.Borrow t → Carries s H states l q x → x ≡ request.Borrow t
 is_for_borrow s H states l q (request.Query u) t is h = absurd (clash (sym is ∙ ap (λ (p : Parcel). p.msg) h))
   where
     clash : msg.Borrow t ≡ msg.Query u → ⊥
@@ -203,7 +203,7 @@ is_for_borrow s H states l q (request.Read c p) t is h = absurd (clash (sym is �
     clash : msg.Borrow t ≡ msg.Read h.0 (place_of s p.0) → ⊥
     clash e = cc
 
-borrow_of : (t : Slab) (m : Msg) → borrows t m ≡ true → m ≡ msg.Borrow t
+pub borrow_of : (t : Slab) (m : Msg) → borrows t m ≡ true → m ≡ msg.Borrow t
 borrow_of t (msg.Borrow u) e = ap (λ (i : ℕ). msg.Borrow (record { 0 = i })) (eqb-true u.0 t.0 e)
 borrow_of t _ e = cc
 
@@ -242,7 +242,7 @@ borrow_wants d l c q ps t joined ordered front is =
     any_first : {X : Type 0} (p : X → Bool) (xs ys : List X) → list_any p (xs ++ ys) ≡ false → list_any p xs ≡ false
     any_first p xs ys e = false_from_ne_true _ (λ t. both_ways (list_any p (xs ++ ys)) e (any_front p xs ys t))
 
-opened_by : (b : Bool) (P : Type 0) → b ≡ false → Unless b P → P
+pub opened_by : (b : Bool) (P : Type 0) → b ≡ false → Unless b P → P
 opened_by true P e h = cc
 opened_by false P e h = h
 
@@ -259,9 +259,9 @@ allowed_given d l c sound untold lodges greeted joined ordered h = cond_both c.l
         let A : List Parcel → Type 0 = λ out. Allows d.sizes d.remote.slabs (ring_of d.remote.links l) l c.lender c.number c.to_device.parcels c.to_lender.ended out in
         let now : Allows d.sizes d.remote.slabs (ring_of d.remote.links l) l c.lender c.number c.to_device.parcels c.to_lender.ended (q ∷ ps) = subst A (append-nil c.to_lender.parcels ∙ front) (opened_by c.lender_gone (A (c.to_lender.parcels ++ [])) stands h) in
         let stored = opened_by c.lender_gone _ stands joined.stored in
-        let wants : Wants d.remote.slabs (ring_of d.remote.links l) l c.lender c.number c.to_device.parcels q ps = record {
+        let wants : Wants d.remote.slabs (ring_of d.remote.links l) l c.lender c.number c.to_device.parcels c.to_lender.ended q ps = record {
           hello = greeted stands;
-          borrow = λ t is. borrow_wants d l c q ps t joined ordered front is;
+          borrow = λ t is. (let w = borrow_wants d l c q ps t joined ordered front is in (inl w.0, w.1, w.2));
           done = λ j is. (stored.given j (ap (gives_back j) front ∙ front_true (is_done j q.msg) _ (ap (is_done j) is ∙ eq-eqb j.0 j.0 refl))).unleased;
         } in
         stands_so c.lender_gone _

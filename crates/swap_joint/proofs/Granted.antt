@@ -38,7 +38,8 @@ use Rattle.swap_joint.specs.Allowed.{is_evict, is_ask, is_rate, is_refusal, is_h
 use Rattle.swap_joint.proofs.Serves.{any-rest}
 use Rattle.swap_joint.proofs.InTurn.{Differ}
 use Rattle.swap_joint.proofs.Notices.{differ_of, due_asked}
-use Rattle.swap_joint.proofs.Allowed.{borrows, free_map}
+use Rattle.swap_joint.specs.Left.{borrows}
+use Rattle.swap_joint.proofs.Allowed.{free_map}
 use Rattle.swap_joint.proofs.Serving.{HeldOf, same_slot, kept_marked, was_marked, marked_told, still_waits, not_ready}
 use Rattle.swap_joint.proofs.Noticing.{Named, IsNotified, told_named, told_once}
 use Rattle.swap_joint.proofs.Served.{or_parts}
@@ -47,7 +48,7 @@ abbrev lease_in : SlotState → ℕ
 lease_in Free = 0
 lease_in (Held n t k e) = k.0
 
-one_lease : (slots : List SlotState) (i j : ℕ) (m n : Link) (t u : Slab) (k o : Lease) (e f : Bool) → i ≡ j → slot_in slots i ≡ Held m t k e → slot_in slots j ≡ Held n u o f → k.0 ≡ o.0
+pub one_lease : (slots : List SlotState) (i j : ℕ) (m n : Link) (t u : Slab) (k o : Lease) (e f : Bool) → i ≡ j → slot_in slots i ≡ Held m t k e → slot_in slots j ≡ Held n u o f → k.0 ≡ o.0
 one_lease xs i j m n t u k o e f same a b = ap lease_in (sym a ∙ ap (λ x. slot_in xs x) same ∙ b)
 
 abbrev told_in : SlotState → Bool
@@ -289,7 +290,7 @@ set_is (s ∷ ss) zero (suc x) y = inr refl
 set_is (s ∷ ss) (suc i) zero y = inr refl
 set_is (s ∷ ss) (suc i) (suc x) y = elim (set_is ss i x y) [ inl here ↦ inl (ap suc here.0, here.1) | inr there ↦ inr there ]
 
-set_stays : (xs : List SlotState) (i x : ℕ) (y : SlotState) (m : Link) (t : Slab) (k : Lease) (e : Bool) → slot_in xs i ≡ Free → slot_in xs x ≡ Held m t k e → slot_in (set xs i y) x ≡ Held m t k e
+pub set_stays : (xs : List SlotState) (i x : ℕ) (y : SlotState) (m : Link) (t : Slab) (k : Lease) (e : Bool) → slot_in xs i ≡ Free → slot_in xs x ≡ Held m t k e → slot_in (set xs i y) x ≡ Held m t k e
 set_stays xs i x y m t k e is held = elim (set_is xs i x y) [
   | inl here ↦ absurd (free_held (sym is ∙ ap (λ z. slot_in xs z) (sym here.0) ∙ held))
   | inr there ↦ there ∙ held
@@ -306,7 +307,7 @@ held_slab : (m n : Link) (t u : Slab) (j k : Lease) (e f : Bool) → Held m t j 
 held_slab m n t u j k e f is = cc
 
 module _ (s : Sizes) (states : List SlabState) (ring : List Request) (l : LenderNo) (table : Lender) (n : Link) (come : List Parcel) (ended : Bool) (out : List Parcel) where
-  pub allows_granted : (i : ℕ) (m : Link) (t : Slab) (j : Lease) (contents : List (List (List ℕ))) (next : ℕ) → slot_in table.slots i ≡ Free → borrows_in t ring ≡ true → refuses_in t come ≡ false → list_any (λ (p : Parcel). borrows t p.msg) out ≡ false → Allows s states ring l table n come ended out
+  pub allows_granted : (i : ℕ) (m : Link) (t : Slab) (j : Lease) (contents : List (List (List ℕ))) (next : ℕ) → slot_in table.slots i ≡ Free → (borrows_in t ring ≡ true) ⊎ (ended ≡ true) → refuses_in t come ≡ false → list_any (λ (p : Parcel). borrows t p.msg) out ≡ false → Allows s states ring l table n come ended out
       → Allows s states ring l (record table { slots = set table.slots i (Held m t j false); contents = contents; next_lease = next }) n come ended out
   allows_granted i m t j contents next is asked_ refused_not borrowed_not h = record {
     told = λ k e. still k (h.told k e);
@@ -322,7 +323,7 @@ module _ (s : Sizes) (states : List SlabState) (ring : List Request) (l : Lender
     rate_once = h.rate_once;
     one = h.one;
     home = λ x y u k e held. elim (set_is table.slots i x (Held m t j false)) [
-      | inl here ↦ inr (inl (subst (λ z. borrows_in z ring ≡ true) (held_slab m y t u j k false e (sym here.1 ∙ held)) asked_))
+      | inl here ↦ elim asked_ [ inl stands ↦ inr (inl (subst (λ z. borrows_in z ring ≡ true) (held_slab m y t u j k false e (sym here.1 ∙ held)) stands)) | inr over ↦ inr (inr (inr over)) ]
       | inr there ↦ h.home x y u k e (sym there ∙ held)
     ];
     refused = λ x y u k e come_ held. elim (set_is table.slots i x (Held m t j false)) [

@@ -25,3 +25,5 @@ pub mod Served
 pub mod Granted
 pub mod Gives
 pub mod Fronts
+pub mod Lefts
+pub mod LeftGives

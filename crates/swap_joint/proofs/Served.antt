@@ -39,7 +39,7 @@ use Rattle.swap_joint.proofs.Turns.{any_last}
 use Rattle.swap_joint.proofs.Serves.{any-rest}
 use Rattle.swap_joint.proofs.InTurn.{Differ}
 use Rattle.swap_joint.proofs.Notices.{differ_of, due_asked}
-use Rattle.swap_joint.proofs.Allowed.{borrows, named_last, free_map}
+use Rattle.swap_joint.proofs.Allowed.{named_last, free_map}
 use Rattle.swap_joint.proofs.Serving.{HeldOf, same_slot, IsAt, slot_found, kept_marked, was_marked, marked_told, still_waits, not_ready}
 use Rattle.swap_joint.proofs.Noticing.{Named, IsNotified, told_named, told_once}
 

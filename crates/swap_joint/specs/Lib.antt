@@ -11,3 +11,4 @@ pub mod Sends
 pub mod Turn
 pub mod Lies
 pub mod Allowed
+pub mod Left
