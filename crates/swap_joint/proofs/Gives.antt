@@ -142,7 +142,7 @@ any_back p (x ∷ xs) ys e = go (p x) (any_back p xs ys e)
     go true e = refl
     go false e = e
 
-any_front : {X : Type 0} (p : X → Bool) (xs ys : List X) → list_any p xs ≡ true → list_any p (xs ++ ys) ≡ true
+pub any_front : {X : Type 0} (p : X → Bool) (xs ys : List X) → list_any p xs ≡ true → list_any p (xs ++ ys) ≡ true
 any_front p [] ys e = cc
 any_front p (x ∷ xs) ys e = go (p x) e (any_front p xs ys)
   where

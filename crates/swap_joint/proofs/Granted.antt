@@ -283,7 +283,7 @@ module _ (s : Sizes) (states : List SlabState) (ring : List Request) (l : Lender
 
 -- a slot is lent
 
-set_is : (xs : List SlotState) (i x : ℕ) (y : SlotState) → ((x ≡ i) × (slot_in (set xs i y) x ≡ y)) ⊎ (slot_in (set xs i y) x ≡ slot_in xs x)
+pub set_is : (xs : List SlotState) (i x : ℕ) (y : SlotState) → ((x ≡ i) × (slot_in (set xs i y) x ≡ y)) ⊎ (slot_in (set xs i y) x ≡ slot_in xs x)
 set_is [] i x y = inr refl
 set_is (s ∷ ss) zero zero y = inl (refl, refl)
 set_is (s ∷ ss) zero (suc x) y = inr refl

@@ -27,3 +27,5 @@ pub mod Gives
 pub mod Fronts
 pub mod Lefts
 pub mod LeftGives
+pub mod Greeted
+pub mod Leaving

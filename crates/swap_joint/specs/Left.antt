@@ -63,5 +63,5 @@ IsLeft d [] l = is_up d.remote.links l ≡ false
 IsLeft d (Says m q ∷ owed) l = is_up d.remote.links l ≡ false
 IsLeft d (Ends m ∷ owed) l = (is_up d.remote.links l ≡ false) ⊎ (l.0 ≡ m.0)
 
-abbrev pub AllLeft : ℕ → Device → Harbor → List Owed → Type 0
-AllLeft n d h owed = (l : Lender) → l.0 < n → IsLeft d owed l → Left d.sizes l (channel_of h l)
+abbrev pub AllLeft : Sizes → ℕ → Device → Harbor → List Owed → Type 0
+AllLeft s n d h owed = (l : Lender) → l.0 < n → IsLeft d owed l → Left s l (channel_of h l)
