@@ -122,7 +122,7 @@ module _ (s : Sizes) (l : LenderNo) (table : Lender) (n : Link) (q : Parcel) (ps
 abbrev nothing_comes : Lane
 nothing_comes = empty_lane true 0 0
 
-left_at : (s : Sizes) (l : LenderNo) (c : Channel) → c.lender_gone ≡ false → Left s l c → Allows s [] [] l c.lender c.number [] true c.to_lender.parcels × Orderly c.lender.slots s.pages_per_slab c.to_lender.parcels
+pub left_at : (s : Sizes) (l : LenderNo) (c : Channel) → c.lender_gone ≡ false → Left s l c → Allows s [] [] l c.lender c.number [] true c.to_lender.parcels × Orderly c.lender.slots s.pages_per_slab c.to_lender.parcels
 left_at s l c stands h = opened_by c.lender_gone _ stands h
 
 -- the lender takes the first message, or its end leaves

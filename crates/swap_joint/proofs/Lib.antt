@@ -29,3 +29,4 @@ pub mod Lefts
 pub mod LeftGives
 pub mod Greeted
 pub mod Leaving
+pub mod Fair
