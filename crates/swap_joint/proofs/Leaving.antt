@@ -36,6 +36,7 @@ use Rattle.swap_joint.proofs.Joins.{ServesAt, lost_down, not_down}
 use Rattle.swap_joint.proofs.Sends.{raised_up}
 use Rattle.swap_joint.proofs.Moves as joint
 use Rattle.swap_joint.proofs.Turned.{sent_up, back_remote, written_links}
+use Rattle.swap_joint.proofs.Lenders.{made_at}
 use Rattle.swap_joint.proofs.Lefts.{left_of}
 use Rattle.swap_joint.proofs.LeftGives.{left_given, left_cut, left_crashed, left_hosted}
 
@@ -192,3 +193,9 @@ module _ {D : Type 0} (disk : DiskMeaning D) (follows : FollowsItsMoves disk) (l
   each_left x asked y k k' f f' (breaks_off {d = d} {l = l} {r = r}) (by_fabric moved) before all = λ m inside off. through o.sizes f f' (End l) r moved m
       (λ same. let at : Left o.sizes l (channel_of f l) = named f l m (sym same) (all m inside (inr same)) in at) (λ other. all m inside (inl (sym (lost_same d l m other) ∙ off)))
   each_left x asked y k k' f f' (far {d = d} {c = c} {r = r} one) (by_fabric moved) before all = far_leaves d k f f' c r one before.0.0 before.0.1.0 all moved
+
+-- no link of lenders as they are made stands
+pub new_left : (s : Sizes) (n : ℕ) (d : Device) (h : Harbor) → harbor.IsFresh h (record { sizes = s; lenders = n }) → AllLeft s n d h []
+new_left s n d h fresh l within off =
+    let there : l.0 < length h.channels = subst (λ (o : FabricOf). l.0 < o.lenders) (sym fresh.is) within in
+    subst (λ ch. Left s l ch) (sym (made_at h (record { sizes = s; lenders = n }) fresh l there)) tt

@@ -426,7 +426,7 @@ made_reached h o made l within =
     let is = All-get_or (λ c. c ≡ new_channel h.sizes c.lender.lending.spec) h.channels l.0 (no_channel h.sizes) within made.channels in
     record { lending = lending_for h.sizes (channel_of h l).lender.lending.spec; calls = []; is = ap (λ (c : Channel). c.lender) is }
 
-made_at : (h : Harbor) (o : FabricOf) → IsFresh h o → (l : LenderNo) → l.0 < length h.channels → channel_of h l ≡ new_channel h.sizes (channel_of h l).lender.lending.spec
+pub made_at : (h : Harbor) (o : FabricOf) → IsFresh h o → (l : LenderNo) → l.0 < length h.channels → channel_of h l ≡ new_channel h.sizes (channel_of h l).lender.lending.spec
 made_at h o made l within = All-get_or (λ c. c ≡ new_channel h.sizes c.lender.lending.spec) h.channels l.0 (no_channel h.sizes) within made.channels
 
 made_sound : (h : Harbor) (o : FabricOf) → IsFresh h o → AreSound h

@@ -30,3 +30,8 @@ pub mod LeftGives
 pub mod Greeted
 pub mod Leaving
 pub mod Fair
+pub mod Allows
+pub mod Takings
+pub mod AllowedLinks
+pub mod AllowedHears
+pub mod Allowing
