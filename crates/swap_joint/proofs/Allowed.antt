@@ -1,7 +1,7 @@
 -- What may be sent stays so: lists that are cut, popped, and appended to.
-use Rattle.std.proofs.Common.{◌≡◌, ℕ, ◌+◌, ◌<◌, ◌≤◌, ◌⊎◌, inl, inr, Bool, true, false, cond, ◌==◌, ◌||◌, ◌&&◌, zero, suc, List, [], ◌∷◌, ◌++◌, take, length, refl, sym, ap, ◌∙◌, subst, arith, eq-eqb, Option, None, Some}
+use Rattle.std.proofs.Common.{◌≡◌, ℕ, ◌⊎◌, inl, inr, Bool, true, false, ◌||◌, zero, suc, List, [], ◌∷◌, ◌++◌, take, length, refl, sym, ap, ◌∙◌, subst, eq-eqb}
 use Rattle.std.specs.List.{list_any, AllByRecursion}
-use Rattle.std.proofs.lemmas.Bool.{cond_both, both_ways, false_from_ne_true, cases_lt}
+use Rattle.std.proofs.lemmas.Bool.{both_ways}
 use Rattle.swap_base.specs.declared.Slab.{Slab}
 use Rattle.swap_base.specs.declared.Link.{Link}
 use Rattle.swap_base.specs.declared.Lender.{Lender}
@@ -16,16 +16,13 @@ use Rattle.swap_lender.specs.declared.SlotState.{SlotState}
 use Rattle.swap_lender.specs.declared.SlotState.TheVariants.{Held}
 use Rattle.swap_lender.specs.Lender as lender
 use Rattle.swap_lender.specs.Lender.{slot_in, has_greeted}
-use Rattle.swap_table.specs.Device.{hello}
-use Rattle.swap_table.proofs.Lists.{All-append}
 use Rattle.swap_link.specs.Lane.{Lane, appended}
 use Rattle.swap_joint.specs.Seats.{is_done}
 use Rattle.swap_joint.specs.Stored.{gives_back}
-use Rattle.swap_joint.specs.Allowed.{is_evict, is_ask, is_rate, is_refusal, is_hello, NamedOnce, BorrowsFree, NoHello, Greets, IsToLender, AreToLender, Allows}
+use Rattle.swap_joint.specs.Allowed.{is_evict, is_ask, is_rate, is_refusal, is_hello, NamedOnce, BorrowsFree, NoHello, Greets, IsToLender, Allows}
 use Rattle.swap_joint.specs.Left.{borrows}
 use Rattle.swap_joint.proofs.Lanes.{by_append}
-use Rattle.swap_joint.proofs.Pairs.{all-front}
-use Rattle.swap_joint.proofs.Turns.{any_last, any-append}
+use Rattle.swap_joint.proofs.Turns.{any-append}
 use Rattle.swap_joint.proofs.Serves.{any-rest, any-take, none-take}
 
 -- lists that name each lease once

@@ -163,7 +163,7 @@ module _ (n : ℕ) (d : Device) (h g : Harbor) (l : Lender) (q : Parcel) (all : 
 
   -- a request for a page came back
   settled_heard : (bits : List Bool) (cs : Calls) (p : Page) (j : Lease) (x : Request) (rest : List Request) → ring_of d.remote.links l ≡ x ∷ rest → ((t : Slab) → borrows_in t (x ∷ rest) ≡ borrows_in t rest) → has_lease l j (state_for d.sizes d.remote.slabs p) ≡ true
-    → AllowedOwing n (record d { remote = record { bits = bits; slabs = slabs.settled d.remote.slabs (slab_for d.sizes p); links = rings.answered d.remote.links l }; calls = cs }) g (words l (settled_word d p))
+      → AllowedOwing n (record d { remote = record { bits = bits; slabs = slabs.settled d.remote.slabs (slab_for d.sizes p); links = rings.answered d.remote.links l }; calls = cs }) g (words l (settled_word d p))
   settled_heard bits cs p j x rest is plain at =
       heard_via (record d { remote = record { bits = bits; slabs = slabs.settled d.remote.slabs (slab_for d.sizes p); links = rings.answered d.remote.links l }; calls = cs }) (settled_word d p) refl
       (λ m other. sees_parts m d (slabs.settled d.remote.slabs (slab_for d.sizes p)) bits (rings.answered d.remote.links l) cs

@@ -220,9 +220,9 @@ allowed_sent d e l c q sizes holds rings_ is frees awaited h =
           free = λ t i m k told borrows held. elim (a.home i m t k told held) [
             | inl at ↦ absurd (both_ways (has_lease l k (state_of d.remote.slabs t)) (local_lease l k (state_of d.remote.slabs t) (frees t borrows)) at)
             | inr rest ↦ elim rest [
-                | inl asked ↦ absurd (both_ways (slabs.is_local (state_of d.remote.slabs t)) (ap slabs.is_local (borrow_awaited d.sizes d.history d.calls d.remote.slabs l t (ring_of d.remote.links l) awaited asked)) (frees t borrows))
-                | inr later ↦ elim later [ inl back ↦ back | inr over ↦ absurd (both_ways c.to_lender.ended open_ over) ]
-              ]
+              | inl asked ↦ absurd (both_ways (slabs.is_local (state_of d.remote.slabs t)) (ap slabs.is_local (borrow_awaited d.sizes d.history d.calls d.remote.slabs l t (ring_of d.remote.links l) awaited asked)) (frees t borrows))
+              | inr later ↦ elim later [ inl back ↦ back | inr over ↦ absurd (both_ways c.to_lender.ended open_ over) ]
+            ]
           ];
         })
         (allows_on d.sizes d.remote.slabs e.remote.slabs (ring_of d.remote.links l) (ring_of e.remote.links l) l c.lender c.number c.to_device.parcels c.to_lender.ended c.to_lender.parcels holds rings_ a)

@@ -42,16 +42,13 @@ use Rattle.swap_table.proofs.Sends.{sent-other}
 use Rattle.swap_lender.specs.declared.SlotState.TheVariants.{Held}
 use Rattle.swap_lender.specs.Lender as lender
 use Rattle.swap_lender.specs.Lender.{slot_in, has_greeted}
-use Rattle.swap_lender.specs.Table.{host}
 use Rattle.swap_lender.specs.Calls.{tenant}
-use Rattle.swap_link.specs.Fits.{IsSound}
-use Rattle.swap_link.specs.Channel.{Channel, given, connected, delivered}
+use Rattle.swap_link.specs.Channel.{Channel, given, connected}
 use Rattle.swap_link.specs.Harbor as harbor
 use Rattle.swap_link.specs.Harbor.{Harbor, channel_of}
-use Rattle.swap_joint.specs.Turn.{Lodges}
 use Rattle.swap_joint.specs.Stored.{AllJoined}
-use Rattle.swap_joint.specs.Lenders.{IsReached, AreSound}
-use Rattle.swap_joint.specs.Allowed.{borrows_in, Allows, Allowed, AllAllowed, AllowedOwing, IsKnown, AllKnown, Greets}
+use Rattle.swap_joint.specs.Lenders.{AreSound}
+use Rattle.swap_joint.specs.Allowed.{borrows_in, Allows, Allowed, AllAllowed, AllowedOwing, IsKnown, Greets}
 use Rattle.swap_joint.proofs.Harbors.{harbor_meaning}
 use Rattle.swap_joint.proofs.Lenders.{connected_none, connected_fresh, greeted_known}
 use Rattle.swap_joint.proofs.Joins as joins

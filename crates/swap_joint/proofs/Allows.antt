@@ -163,9 +163,9 @@ allows_more s states ring l table n come ended out q may h = record {
   home = λ i m t k e held. elim (h.home i m t k e held) [
     | inl at ↦ inl at
     | inr rest ↦ elim rest [
-        | inl asked ↦ inr (inl asked)
-        | inr later ↦ elim later [ inl back ↦ inr (inr (inl (any-more (λ (p : Parcel). is_done k p.msg) out q back))) | inr over ↦ inr (inr (inr over)) ]
-      ]
+      | inl asked ↦ inr (inl asked)
+      | inr later ↦ elim later [ inl back ↦ inr (inr (inl (any-more (λ (p : Parcel). is_done k p.msg) out q back))) | inr over ↦ inr (inr (inr over)) ]
+    ]
   ];
   refused = h.refused;
   free = free_last table.slots (λ k. ⊥) out q h.free (λ t i m k e is held. inr (may.free t i m k e is held));

@@ -1,8 +1,8 @@
 -- What may be sent stays so as a lender serves the first message under way to it.
-use Rattle.std.proofs.Common.{◌≡◌, ℕ, ◌+◌, ◌<◌, ◌⊎◌, inl, inr, Bool, true, false, cond, ◌==◌, ◌||◌, ◌&&◌, zero, suc, List, [], ◌∷◌, ◌++◌, length, get_or, set, refl, sym, ap, ◌∙◌, subst, eq-eqb, append-nil, Option, None, Some}
+use Rattle.std.proofs.Common.{◌≡◌, ℕ, ◌+◌, ◌⊎◌, inl, inr, Bool, true, false, cond, ◌==◌, ◌||◌, List, [], ◌∷◌, ◌++◌, length, set, refl, sym, ap, ◌∙◌, subst, eq-eqb, append-nil, Option, None, Some}
 use Rattle.std.specs.Prelude.{option_map, is_none}
 use Rattle.std.specs.List.{list_any, filter, AllByRecursion}
-use Rattle.std.proofs.lemmas.Bool.{cond_both, cond-true, both_ways, false_from_ne_true, cases_lt, cases_eq, eqb-true, and_from, and_parts}
+use Rattle.std.proofs.lemmas.Bool.{cond_both, cond-true, both_ways, false_from_ne_true, cases_lt, eqb-true, and_from, and_parts}
 use Rattle.std.proofs.lemmas.List.Sums.{passes_at_first}
 use Rattle.std.proofs.lemmas.List.{get_or_past}
 use Rattle.swap_base.specs.declared.Slab.{Slab}
@@ -28,11 +28,11 @@ use Rattle.swap_rings.specs.declared.Request.TheVariants as request
 use Rattle.swap_lender.specs.declared.SlotState.{SlotState}
 use Rattle.swap_lender.specs.declared.SlotState.TheVariants.{Free, Held}
 use Rattle.swap_lender.specs.Lender.{Lender, slot_in, slot_of, has_greeted, first_where, is_free, lends, free, page_in, with_page, blank}
-use Rattle.swap_lender.specs.Table.{Turn, serve, hello, lend, settle_with, due, may_send, opens, asked, to_evict, measured, host, open_round}
+use Rattle.swap_lender.specs.Table.{Turn, serve, hello, lend, due, may_send, opens, asked, to_evict, measured, host}
 use Rattle.swap_lender.specs.Calls.{tenant}
 use Rattle.swap_link.specs.Fits.{IsSound}
 use Rattle.swap_link.specs.Lane.{Lane, appended}
-use Rattle.swap_link.specs.Channel.{Channel, posted, forwarded, delivered, given, given_from, served, abandoned}
+use Rattle.swap_link.specs.Channel.{Channel, posted, forwarded, delivered, given, given_from}
 use Rattle.swap_link.specs.Keeping.{Unless}
 use Rattle.swap_link.specs.KeepLaws.{took-served, unless}
 use Rattle.swap_joint.specs.Seats.{is_done}
@@ -42,7 +42,7 @@ use Rattle.swap_joint.specs.Brought.{Replied, Asked}
 use Rattle.swap_joint.specs.Pairs.{Pairwise}
 use Rattle.swap_joint.specs.Lenders.{IsReached}
 use Rattle.swap_joint.specs.Turn.{AsksUntold, Lodges}
-use Rattle.swap_joint.specs.Allowed.{is_hello, is_rate, borrows_in, refuses_in, rates_in, is_borrow, is_refusal, Waits, IsToLender, Allows, Allowed}
+use Rattle.swap_joint.specs.Allowed.{is_hello, is_rate, borrows_in, refuses_in, is_borrow, is_refusal, Waits, IsToLender, Allows, Allowed}
 use Rattle.swap_joint.specs.Left.{borrows}
 use Rattle.swap_joint.proofs.Serving.{HeldOf, slot_found}
 use Rattle.swap_joint.proofs.Pairs.{filter-first, pairs-first, all-back}
@@ -232,8 +232,7 @@ borrow_wants d l c q ps t joined ordered front is =
     let ring : ring_of d.remote.links l ≡ (o.answered ++ o.unheard) ++ (request.Borrow t ∷ (f.rest ++ o.dropped)) = o.in_four ∙ ap (λ xs. (o.answered ++ o.unheard) ++ (xs ++ o.dropped)) way in
     let there : AreInOrder ((o.answered ++ o.unheard) ++ (request.Borrow t ∷ (f.rest ++ o.dropped))) = subst AreInOrder ring ordered in
     let before : list_any (is_borrow t) (o.answered ++ o.unheard) ≡ false = none_before t (o.answered ++ o.unheard) (f.rest ++ o.dropped) there in
-    let after : list_any (is_borrow t) (f.rest ++ o.dropped) ≡ false = none_after t (f.rest ++ o.dropped) (order_back (o.answered ++ o.unheard) _ there).0 in
-    (
+    let after : list_any (is_borrow t) (f.rest ++ o.dropped) ≡ false = none_after t (f.rest ++ o.dropped) (order_back (o.answered ++ o.unheard) _ there).0 in (
       ap (borrows_in t) ring ∙ any_back (is_borrow t) (o.answered ++ o.unheard) _ (ap (λ b. b || list_any (is_borrow t) (f.rest ++ o.dropped)) (eq-eqb t.0 t.0 refl)),
       pairs_none R (λ p. is_refusal t p.msg) replies_by (is_borrow t) c.to_device.parcels o.answered (λ p r h e. refusal_answers d.sizes d.remote.slabs l p r t (refusal_of t p.msg e) h.0) (λ p e. ap is_reply (refusal_of t p.msg e)) o.replies (any_first (is_borrow t) o.answered o.unheard before),
       pairs_none A (λ p. borrows t p.msg) asks_by (is_borrow t) ps f.rest (λ p r h e. ap (is_borrow t) (is_for_borrow d.sizes d.history d.remote.slabs l p r t (borrow_of t p.msg e) h.0) ∙ eq-eqb t.0 t.0 refl) (λ p e. ap is_request (borrow_of t p.msg e)) f.there (any_first (is_borrow t) f.rest o.dropped after),

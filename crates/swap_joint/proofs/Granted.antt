@@ -1,9 +1,9 @@
 -- What may be sent stays so as a lease is given back, a rate is told, a slab is borrowed, and a host is measured.
-use Rattle.std.proofs.Common.{◌≡◌, ℕ, ◌+◌, ◌<◌, ◌≤◌, ◌⊎◌, ◌^◌, inl, inr, Bool, true, false, cond, ◌==◌, ◌||◌, ◌&&◌, zero, suc, List, [], ◌∷◌, ◌++◌, length, get_or, set, take, refl, sym, ap, ◌∙◌, subst, arith, eqb, eq-eqb, Option, None, Some, get_or-set_same, get_or-set_other, bit_or}
-use Rattle.std.specs.Prelude.{option_map, is_none, not, nat_lt}
-use Rattle.std.specs.List.{list_any, filter, range_with_len}
+use Rattle.std.proofs.Common.{◌≡◌, ℕ, ◌<◌, ◌⊎◌, ◌^◌, inl, inr, Bool, true, false, ◌||◌, ◌&&◌, zero, suc, List, [], ◌∷◌, set, take, refl, sym, ap, ◌∙◌, subst, arith, eqb, eq-eqb, Option, None, Some}
+use Rattle.std.specs.Prelude.{option_map, not}
+use Rattle.std.specs.List.{list_any}
 use Rattle.std.proofs.lemmas.Nat.{or_lt, pow_below}
-use Rattle.std.proofs.lemmas.Bool.{cond_both, both_ways, false_from_ne_true, cases_lt, cases_eq, eqb-true}
+use Rattle.std.proofs.lemmas.Bool.{both_ways, false_from_ne_true, cases_lt, eqb-true}
 use Rattle.std.proofs.lemmas.List.Sorted.{list_any-IsPermutation}
 use Rattle.swap_base.specs.declared.Slab.{Slab}
 use Rattle.swap_base.specs.declared.Link.{Link}
@@ -12,13 +12,13 @@ use Rattle.swap_base.specs.declared.Lease.{Lease}
 use Rattle.swap_base.specs.Sizes.{Sizes}
 use Rattle.swap_wire.specs.declared.Msg.{Msg}
 use Rattle.swap_wire.specs.declared.Msg.TheVariants as msg
-use Rattle.swap_wire.specs.Fabric.{Parcel, parcel_of}
-use Rattle.swap_choice.specs.Slots.{has, slots, set_of}
+use Rattle.swap_wire.specs.Fabric.{Parcel}
+use Rattle.swap_choice.specs.Slots.{has, slots}
 use Rattle.swap_choice.specs.Picks.{picks}
 use Rattle.swap_choice.proofs.PicksLemmas.{IsPermutation-picks}
 use Rattle.swap_choice.proofs.Ranks.{has-set_of, any-filter-out}
 use Rattle.swap_choice.proofs.Chosen.{has-zero}
-use Rattle.swap_evict.specs.Rounds.{Round, opened, answer, waits_for, ready}
+use Rattle.swap_evict.specs.Rounds.{Round, opened, answer, waits_for}
 use Rattle.swap_slabs.specs.Slabs.{has_lease, state_of}
 use Rattle.swap_slabs.specs.declared.SlabState.{SlabState}
 use Rattle.swap_slabs.specs.declared.SlabState.TheVariants.{Draining}
@@ -26,22 +26,21 @@ use Rattle.swap_rings.specs.declared.Request.{Request}
 use Rattle.swap_lender.specs.declared.SlotState.{SlotState}
 use Rattle.swap_lender.specs.declared.SlotState.TheVariants.{Free, Held}
 use Rattle.swap_lender.specs.declared.Notice.TheVariants as notice
-use Rattle.swap_lender.specs.Lender.{Lender, slot_in, slot_of, has_greeted, first_where, is_free, is_staying, is_evicting, lends}
-use Rattle.swap_lender.specs.Table.{Turn, settle_with, due, marked, told, message_of, lend, staying, to_ask, to_evict, asked, opens, open_round, measured, host}
+use Rattle.swap_lender.specs.Lender.{Lender, slot_in, has_greeted, is_staying, is_evicting}
+use Rattle.swap_lender.specs.Table.{settle_with, due, marked, told, message_of, staying, to_ask, asked}
 use Rattle.swap_link.specs.Fits.{IsSound}
-use Rattle.swap_link.specs.Lane.{Lane, appended}
+use Rattle.swap_link.specs.Lane.{Lane}
 use Rattle.swap_link.specs.Channel.{forwarded}
 use Rattle.swap_joint.specs.Seats.{is_done}
 use Rattle.swap_joint.specs.Stored.{gives_back}
 use Rattle.swap_joint.specs.Turn.{AsksUntold}
-use Rattle.swap_joint.specs.Allowed.{is_evict, is_ask, is_rate, is_refusal, is_hello, evicts_in, asks_in, rates_in, refuses_in, borrows_in, NamedOnce, HasSlot, Waits, BorrowsFree, Greets, Allows}
+use Rattle.swap_joint.specs.Allowed.{is_evict, is_ask, is_rate, is_refusal, is_hello, rates_in, refuses_in, borrows_in, HasSlot, Waits, Greets, Allows}
 use Rattle.swap_joint.proofs.Serves.{any-rest}
-use Rattle.swap_joint.proofs.InTurn.{Differ}
 use Rattle.swap_joint.proofs.Notices.{differ_of, due_asked}
 use Rattle.swap_joint.specs.Left.{borrows}
 use Rattle.swap_joint.proofs.Allowed.{free_map}
-use Rattle.swap_joint.proofs.Serving.{HeldOf, same_slot, kept_marked, was_marked, marked_told, still_waits, not_ready}
-use Rattle.swap_joint.proofs.Noticing.{Named, IsNotified, told_named, told_once}
+use Rattle.swap_joint.proofs.Serving.{same_slot, kept_marked, was_marked, marked_told, still_waits, not_ready}
+use Rattle.swap_joint.proofs.Noticing.{IsNotified, told_named, told_once}
 use Rattle.swap_joint.proofs.Served.{or_parts}
 
 abbrev lease_in : SlotState → ℕ
@@ -111,12 +110,12 @@ module _ (s : Sizes) (states : List SlabState) (ring : List Request) (l : Lender
         elim (h.home x y u k e was.1) [
           | inl leased ↦ inl leased
           | inr rest ↦ elim rest [
-              | inl asked_ ↦ inr (inl asked_)
-              | inr later ↦ elim later [
-                  | inl back ↦ either_done k q ps back (λ here. absurd (was.0 (same_slot table sound x i y m u t k j e true was.1 at (sym (done_is k q.msg j is here))))) (λ there. inr (inr (inl there)))
-                  | inr over ↦ inr (inr (inr over))
-                ]
+            | inl asked_ ↦ inr (inl asked_)
+            | inr later ↦ elim later [
+              | inl back ↦ either_done k q ps back (λ here. absurd (was.0 (same_slot table sound x i y m u t k j e true was.1 at (sym (done_is k q.msg j is here))))) (λ there. inr (inr (inl there)))
+              | inr over ↦ inr (inr (inr over))
             ]
+          ]
         ]);
     refused = λ x y u k e come_ held. h.refused x y u k e come_ (freed_was table.slots i x y u k e held).1;
     free = free_map table.slots (set table.slots i Free) (λ k. ⊥ ⊎ (is_done k q.msg ≡ true)) (λ k. ⊥) ps
@@ -182,12 +181,12 @@ module _ (s : Sizes) (states : List SlabState) (ring : List Request) (l : Lender
     home = λ x y u k e held. elim (h.home x y u k e held) [
       | inl leased ↦ inl leased
       | inr rest ↦ elim rest [
-          | inl asked_ ↦ inr (inl asked_)
-          | inr later ↦ elim later [
-              | inl back ↦ either_done k q ps back (λ here. absurd (both_ways (is_done k q.msg) (ap (is_done k) is) here)) (λ there. inr (inr (inl there)))
-              | inr over ↦ inr (inr (inr over))
-            ]
+        | inl asked_ ↦ inr (inl asked_)
+        | inr later ↦ elim later [
+          | inl back ↦ either_done k q ps back (λ here. absurd (both_ways (is_done k q.msg) (ap (is_done k) is) here)) (λ there. inr (inr (inl there)))
+          | inr over ↦ inr (inr (inr over))
         ]
+      ]
     ];
     refused = h.refused;
     free = free_map table.slots table.slots (λ k. ⊥ ⊎ (is_done k q.msg ≡ true)) (λ k. ⊥) ps (λ u x y k e _ held. ((e, held), λ given. elim given [ inl none ↦ none | inr here ↦ both_ways (is_done k q.msg) (ap (is_done k) is) here ])) h.free.1;
@@ -367,7 +366,7 @@ unfolding slots
 asked_low table word i e = elim (cases_lt i 64) [
   | inl within ↦ within
   | inr past ↦ absurd (both_ways (list_any (λ x. eqb i x) (slots (staying table))) (any-filter-out (has (staying table)) 0 64 i (inr past))
-    (list_any-IsPermutation (λ x. eqb i x) (slots (staying table)) (picks word (slots (staying table))) (IsPermutation-picks word (slots (staying table))) ∙ any_of_take (to_ask table) (picks word (slots (staying table))) (has-set_of (take (to_ask table) (picks word (slots (staying table)))) i ∙ e)))
+      (list_any-IsPermutation (λ x. eqb i x) (slots (staying table)) (picks word (slots (staying table))) (IsPermutation-picks word (slots (staying table))) ∙ any_of_take (to_ask table) (picks word (slots (staying table))) (has-set_of (take (to_ask table) (picks word (slots (staying table)))) i ∙ e)))
 ]
   where
     any_of_take : (m : ℕ) (xs : List ℕ) → list_any (λ x. eqb i x) (take m xs) ≡ true → list_any (λ x. eqb i x) xs ≡ true

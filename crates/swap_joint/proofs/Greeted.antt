@@ -1,6 +1,6 @@
 -- Slots are held for links that have greeted.
-use Rattle.std.proofs.Common.{◌≡◌, ℕ, ◌⊎◌, inl, inr, Bool, true, false, cond, ◌==◌, ◌||◌, ◌&&◌, zero, suc, List, [], ◌∷◌, ◌++◌, map, set, refl, sym, ap, ◌∙◌, subst, eq-eqb, Option, None, Some}
-use Rattle.std.specs.Prelude.{not, filter, option_map, replicate}
+use Rattle.std.proofs.Common.{◌≡◌, ℕ, inl, inr, Bool, true, false, cond, ◌==◌, ◌||◌, zero, suc, List, [], ◌∷◌, map, refl, sym, ap, ◌∙◌, subst, eq-eqb, Option, None, Some}
+use Rattle.std.specs.Prelude.{not, option_map, replicate}
 use Rattle.std.specs.List.{list_any}
 use Rattle.std.proofs.lemmas.Bool.{cond_both, both_ways, eqb-true, and_parts, and_from}
 use Rattle.swap_base.specs.declared.Slab.{Slab}
@@ -13,7 +13,7 @@ use Rattle.swap_lender.specs.declared.SlotState.TheVariants.{Free, Held}
 use Rattle.swap_lender.specs.declared.Peer.{Peer}
 use Rattle.swap_lender.specs.Lender.{Lender, fresh, slot_in, slot_of, has_greeted, is_greeted, is_peer, is_of, first_where, is_free, lends, is_for}
 use Rattle.swap_lender.specs.Table.{Turn, serve, took, may_send, greet_peer, settle_with, due, freed, left, without_peer, has_room, arrive, gone, restart, host, measured, opens}
-use Rattle.swap_lender.specs.Calls.{Call, Arrive, Took, Host as Hosts, Gone, Restart, run, step}
+use Rattle.swap_lender.specs.Calls.{Call, Arrive, Took, Host as Hosts, Gone, Restart, run}
 use Rattle.swap_evict.specs.Rounds.{answer}
 use Rattle.swap_joint.specs.Lenders.{IsReached}
 use Rattle.swap_joint.proofs.Lenders.{EachKeeps}

@@ -1,5 +1,5 @@
 -- Each move of a device leaves what is under way on the links that it has lost such that it may be sent.
-use Rattle.std.proofs.Common.{◌≡◌, ℕ, ◌<◌, ◌≤◌, ◌⊎◌, inl, inr, Bool, true, false, List, [], ◌∷◌, length, refl, sym, ap, ◌∙◌, subst, arith, Option, None, Some}
+use Rattle.std.proofs.Common.{◌≡◌, ℕ, ◌<◌, inl, inr, Bool, true, false, List, [], ◌∷◌, length, refl, sym, ap, ◌∙◌, subst, arith, Option, None, Some}
 use Rattle.std.proofs.lemmas.Bool.{cond_both, cases_eq, both_ways}
 use Rattle.swap_base.specs.declared.Lender.{Lender}
 use Rattle.swap_base.specs.Sizes.{Sizes}
@@ -9,30 +9,27 @@ use Rattle.swap_wire.specs.declared.fabric.Sent.TheVariants as sent_is
 use Rattle.swap_wire.specs.Fabric.{Parcel, Handed, Brought, NothingCame, LinkLost, FabricOf, FabricCall, Connect, Send, Take, End, Give, Cut, Crash, Host, FabricAnswer}
 use Rattle.swap_rings.specs.Rings.{LinkState, is_up, ring_of, link_of}
 use Rattle.swap_rings.specs.Rings as rings
-use Rattle.swap_rings.specs.declared.Request.{Request}
 use Rattle.swap_remote.specs.Remote as remote
 use Rattle.swap_remote.specs.Remote.{Remote}
-use Rattle.swap_queue.specs.Queue as queue
 use Rattle.swap_table.specs.Device as device
 use Rattle.swap_table.specs.Device.{Device, Heard, of_device, lost, raised, next_link}
 use Rattle.swap_table.specs.Goes.{stay, by_disk, by_fabric, EachKeepsWhere}
-use Rattle.swap_table.specs.Moves.{Within, of_sizes, Speaker, Owed, Says, words, Sends, write, read, borrow, query, query_too, Hears, roomy, lent, refused, written, brought, asked_rate, told_to_go, IsFar, far_give, far_cut, far_crash, far_host, Move, enters, gives, faults, waits_for_room, rates_change, lets_go, gives_up, starts, waits_for_disk, takes, lets_finish, sends, finds_down, raises, speaks, speaks_to_nobody, hears, hears_nothing, loses, misunderstands, breaks_off, far}
+use Rattle.swap_table.specs.Moves.{Within, of_sizes, Speaker, words, Sends, write, read, borrow, query, query_too, Hears, roomy, lent, refused, written, brought, asked_rate, told_to_go, IsFar, far_give, far_cut, far_crash, far_host, Move, enters, gives, faults, waits_for_room, rates_change, lets_go, gives_up, starts, waits_for_disk, takes, lets_finish, sends, finds_down, raises, speaks, speaks_to_nobody, hears, hears_nothing, loses, misunderstands, breaks_off, far}
 use Rattle.swap_table.specs.Promises.{FollowsItsMoves, Promises}
-use Rattle.swap_table.specs.Serves.{Serves}
 use Rattle.swap_table.proofs.Keeps as keep
 use Rattle.swap_table.proofs.Links.{link-other}
-use Rattle.swap_table.proofs.Sends.{sent-same, sent-other}
+use Rattle.swap_table.proofs.Sends.{sent-same}
 use Rattle.swap_table.proofs.Replies.{answered-same, answered-other}
-use Rattle.swap_link.specs.Channel.{Channel, sent, taken, taken_from, closed, on_channel}
+use Rattle.swap_link.specs.Channel.{Channel, taken, taken_from, on_channel}
 use Rattle.swap_link.specs.Harbor as harbor
 use Rattle.swap_link.specs.Harbor.{Harbor, channel_of, lender_of, of_harbor}
 use Rattle.swap_link.specs.HarborLaws.{called, other_channel}
 use Rattle.swap_joint.specs.Lenders.{AreSound}
-use Rattle.swap_joint.specs.Stored.{AllJoined, Joined}
-use Rattle.swap_joint.specs.Allowed.{Allowed, AllAllowed, AllowedOwing, IsKnown}
-use Rattle.swap_joint.specs.Left.{Left, IsLeft, AllLeft}
+use Rattle.swap_joint.specs.Stored.{AllJoined}
+use Rattle.swap_joint.specs.Allowed.{AllAllowed, AllowedOwing, IsKnown}
+use Rattle.swap_joint.specs.Left.{Left, AllLeft}
 use Rattle.swap_joint.proofs.Harbors.{harbor_meaning}
-use Rattle.swap_joint.proofs.Joins.{ServesAt, lost_down, not_down}
+use Rattle.swap_joint.proofs.Joins.{ServesAt, not_down}
 use Rattle.swap_joint.proofs.Sends.{raised_up}
 use Rattle.swap_joint.proofs.Moves as joint
 use Rattle.swap_joint.proofs.Turned.{sent_up, back_remote, written_links}

@@ -1,8 +1,8 @@
 -- What is under way on a link that its device has lost, as its lender serves it.
-use Rattle.std.proofs.Common.{◌≡◌, ℕ, ◌+◌, ◌<◌, ◌⊎◌, inl, inr, Bool, true, false, cond, ◌==◌, ◌||◌, ◌&&◌, zero, suc, List, [], ◌∷◌, ◌++◌, take, length, get_or, set, refl, sym, ap, ◌∙◌, subst, eq-eqb, append-nil, lt-ltb, Option, None, Some}
+use Rattle.std.proofs.Common.{◌≡◌, ℕ, ◌+◌, ◌<◌, inr, Bool, true, false, ◌==◌, ◌||◌, ◌&&◌, zero, suc, List, [], ◌∷◌, take, length, set, refl, sym, ap, ◌∙◌, subst, eq-eqb, lt-ltb, Option, None, Some}
 use Rattle.std.specs.Prelude.{not, nat_lt, option_map, is_none}
 use Rattle.std.specs.List.{list_any, AllByRecursion}
-use Rattle.std.proofs.lemmas.Bool.{cond_both, both_ways, false_from_ne_true, eqb-true, and_parts, and_from}
+use Rattle.std.proofs.lemmas.Bool.{cond_both, both_ways, and_parts, and_from}
 use Rattle.swap_base.specs.declared.Slab.{Slab}
 use Rattle.swap_base.specs.declared.Link.{Link}
 use Rattle.swap_base.specs.declared.Lender.{Lender as LenderNo}
@@ -17,23 +17,22 @@ use Rattle.swap_evict.specs.Rounds.{Round, answer}
 use Rattle.swap_lender.specs.declared.SlotState.{SlotState}
 use Rattle.swap_lender.specs.declared.SlotState.TheVariants.{Free, Held}
 use Rattle.swap_lender.specs.Lender.{Lender, slot_in, slot_of, has_greeted, first_where, is_free, is_for, lends, holds}
-use Rattle.swap_lender.specs.Table.{Turn, serve, hello, settle_with, due, marked, mark_slot, may_send, may_hello, may_reach, opens, asked, to_evict, measured, host}
+use Rattle.swap_lender.specs.Table.{Turn, serve, settle_with, due, marked, mark_slot, may_send, may_hello, may_reach, opens, asked, to_evict, measured, host}
 use Rattle.swap_link.specs.Fits.{IsSound}
 use Rattle.swap_link.specs.Lane.{Lane, empty_lane}
-use Rattle.swap_link.specs.Channel.{Channel, delivered, given, given_from, severed, crashed, forwarded}
-use Rattle.swap_link.specs.Keeping.{Unless}
+use Rattle.swap_link.specs.Channel.{Channel, delivered, given, given_from, severed, crashed}
 use Rattle.swap_link.specs.KeepLaws.{unless, unless-map, took-served}
 use Rattle.swap_table.specs.Device.{hello as greeting}
 use Rattle.swap_joint.specs.Seats.{is_done}
 use Rattle.swap_joint.specs.Stored.{gives_back}
 use Rattle.swap_joint.specs.Turn.{AsksUntold, Lodges}
 use Rattle.swap_joint.specs.Lenders.{IsReached}
-use Rattle.swap_joint.specs.Allowed.{is_hello, is_rate, rates_in, HasSlot, Greets, IsToLender, Allows, IsKnown}
-use Rattle.swap_joint.specs.Left.{uses, borrows, HasHeld, IsReach, DoneLast, BorrowOnce, Orderly, Left}
+use Rattle.swap_joint.specs.Allowed.{is_hello, is_rate, rates_in, IsToLender, Allows, IsKnown}
+use Rattle.swap_joint.specs.Left.{uses, borrows, HasHeld, IsReach, Orderly, Left}
 use Rattle.swap_joint.proofs.Lenders.{are_owned, greeted_known}
 use Rattle.swap_joint.proofs.Notices.{asks_stay}
 use Rattle.swap_joint.proofs.Serves.{none-take}
-use Rattle.swap_joint.proofs.Served.{or_parts, allows_table}
+use Rattle.swap_joint.proofs.Served.{allows_table}
 use Rattle.swap_joint.proofs.Allowed.{allows_cut}
 use Rattle.swap_joint.proofs.Serving.{HeldOf, slot_found, done_allowed, rates_allowed, none_for}
 use Rattle.swap_joint.proofs.Granted.{one_lease, set_stays, freed_stays, allows_opened, asked_low}
@@ -137,8 +136,7 @@ left_given s l c sound untold lodges known h = cond_both c.lender_gone _ _ (λ (
           borrow = λ t is. (inr refl, refl, both.1.borrow_once.0 t (ap (borrows t) is ∙ eq-eqb t.0 t.0 refl));
           done = λ j is u. refl;
         } in
-        stands_so c.lender_gone _
-        (
+        stands_so c.lender_gone _ (
           allows_left s [] [] l (serve c.lender c.number q.msg q.page).lender c.number _ true ps (serve_by s [] [] l c.lender c.number nothing_comes true q ps sound (held_of c lodges) untold wants both.0 q.msg q.page refl),
           serve_orderly s l c.lender c.number q ps sound (held_of c lodges) both.0 both.1 q.msg q.page refl,
         )

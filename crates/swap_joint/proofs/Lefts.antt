@@ -1,16 +1,15 @@
 -- A link that its device has lost: what is under way to the lender may be sent all the same.
-use Rattle.std.proofs.Common.{◌≡◌, ℕ, ◌+◌, ◌<◌, ◌⊎◌, inl, inr, Bool, true, false, cond, ◌==◌, ◌||◌, ◌&&◌, zero, suc, List, [], ◌∷◌, ◌++◌, take, length, get_or, set, refl, sym, ap, ◌∙◌, subst, eq-eqb, append-nil}
+use Rattle.std.proofs.Common.{◌≡◌, ℕ, inr, Bool, true, false, cond, ◌==◌, ◌||◌, List, [], ◌∷◌, ◌++◌, refl, sym, ap, ◌∙◌, subst, eq-eqb, append-nil}
 use Rattle.std.specs.List.{list_any, filter, AllByRecursion}
-use Rattle.std.proofs.lemmas.Bool.{cond_both, both_ways, false_from_ne_true, eqb-true, and_parts}
-use Rattle.swap_base.specs.declared.Page.{Page}
+use Rattle.std.proofs.lemmas.Bool.{both_ways, eqb-true, and_parts}
 use Rattle.swap_base.specs.declared.Slab.{Slab}
 use Rattle.swap_base.specs.declared.Link.{Link}
 use Rattle.swap_base.specs.declared.Lender.{Lender as LenderNo}
 use Rattle.swap_base.specs.declared.Lease.{Lease}
-use Rattle.swap_base.specs.Sizes.{Sizes, place_of, pages_of}
+use Rattle.swap_base.specs.Sizes.{Sizes}
 use Rattle.swap_wire.specs.declared.Msg.{Msg}
 use Rattle.swap_wire.specs.declared.Msg.TheVariants as msg
-use Rattle.swap_wire.specs.Fabric.{Parcel, parcel_of}
+use Rattle.swap_wire.specs.Fabric.{Parcel}
 use Rattle.swap_slabs.specs.Slabs.{has_lease, state_of}
 use Rattle.swap_slabs.specs.declared.SlabState.{SlabState}
 use Rattle.swap_rings.specs.Rings.{ring_of}
@@ -22,10 +21,9 @@ use Rattle.swap_lender.specs.declared.SlotState.TheVariants.{Free, Held}
 use Rattle.swap_lender.specs.Lender as lender
 use Rattle.swap_lender.specs.Lender.{Lender, slot_in, slot_of}
 use Rattle.swap_link.specs.Channel.{Channel}
-use Rattle.swap_link.specs.Keeping.{Unless}
 use Rattle.swap_link.specs.KeepLaws.{unless}
 use Rattle.swap_link.specs.Slots.{found}
-use Rattle.swap_table.specs.Device.{Device, hello}
+use Rattle.swap_table.specs.Device.{Device}
 use Rattle.swap_table.specs.Serves.{AreInOrder, MayPrecede, IsAwaited}
 use Rattle.swap_joint.specs.Order.{is_request, asks_by, Carries}
 use Rattle.swap_joint.specs.Brought.{Asked}
@@ -38,7 +36,7 @@ use Rattle.swap_joint.proofs.Pairs.{all-front, all-back}
 use Rattle.swap_joint.proofs.Seats.{seat_within}
 use Rattle.swap_joint.proofs.Served.{or_parts}
 use Rattle.swap_joint.proofs.Fronts.{place_within}
-use Rattle.swap_joint.proofs.Gives.{opened_by, stands_so, or_false, front_true, pairs_none, none_after, order_back, is_for_borrow, borrow_of}
+use Rattle.swap_joint.proofs.Gives.{opened_by, stands_so, front_true, pairs_none, none_after, order_back, is_for_borrow, borrow_of}
 
 no_truth : {P : Type 0} → false ≡ true → P
 no_truth e = cc
@@ -182,8 +180,7 @@ module _ (d : Device) (l : LenderNo) (c : Channel) where
     where
       leaves : c.lender_gone ≡ false → Allows d.sizes [] [] l c.lender c.number [] true c.to_lender.parcels × Orderly c.lender.slots d.sizes.pages_per_slab c.to_lender.parcels
       leaves stands =
-          let all : Allows d.sizes d.remote.slabs (ring_of d.remote.links l) l c.lender c.number c.to_device.parcels c.to_lender.ended (c.to_lender.parcels ++ []) = opened_by c.lender_gone _ stands h in
-          (
+          let all : Allows d.sizes d.remote.slabs (ring_of d.remote.links l) l c.lender c.number c.to_device.parcels c.to_lender.ended (c.to_lender.parcels ++ []) = opened_by c.lender_gone _ stands h in (
             subst (λ out. Allows d.sizes [] [] l c.lender c.number [] true out) (append-nil c.to_lender.parcels) (allows_left d.sizes d.remote.slabs (ring_of d.remote.links l) l c.lender c.number c.to_device.parcels c.to_lender.ended (c.to_lender.parcels ++ []) all),
             orderly_of stands joined awaited ordered,
           )

@@ -156,7 +156,6 @@ abbrev pub ends_it : Gave → Bool
 ends_it (gave.Ended msg) = true
 ends_it _ = false
 
-
 module _ {D : Type 0} (disk_moves : D → (c : DiskCall) → DiskAnswer c → D → Type 0) where
   answered_by : {A B : Type 0} (f : A → B) (p : Prog A) (k k' : D) (h h' : Harbor) (b : B) → Along disk_moves harbor.Moves (answering f p) k h k' h' b → (a : A) × (b ≡ f a)
   answered_by f (Ret a) k k' h h' b along = (a, along.2)

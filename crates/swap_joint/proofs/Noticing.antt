@@ -1,12 +1,11 @@
 -- Which notices a lender adds, and that it names each lease once.
-use Rattle.std.proofs.Common.{◌≡◌, ℕ, ◌+◌, ◌<◌, ◌⊎◌, inl, inr, Bool, true, false, cond, ◌==◌, ◌||◌, ◌&&◌, zero, suc, List, [], ◌∷◌, ◌++◌, get_or, refl, sym, ap, ◌∙◌, subst, arith, eq-eqb}
+use Rattle.std.proofs.Common.{◌≡◌, ℕ, ◌+◌, ◌⊎◌, inl, inr, Bool, true, false, ◌==◌, suc, List, [], ◌∷◌, refl, sym, ap, ◌∙◌, subst, arith}
 use Rattle.std.specs.List.{list_any}
-use Rattle.std.proofs.lemmas.Bool.{cond_both, both_ways, false_from_ne_true, eqb-true}
+use Rattle.std.proofs.lemmas.Bool.{cond_both, both_ways, false_from_ne_true}
 use Rattle.swap_base.specs.declared.Slab.{Slab}
 use Rattle.swap_base.specs.declared.Link.{Link}
 use Rattle.swap_base.specs.declared.Lease.{Lease}
 use Rattle.swap_wire.specs.declared.Msg.{Msg}
-use Rattle.swap_wire.specs.declared.Msg.TheVariants as msg
 use Rattle.swap_wire.specs.Fabric.{Parcel, parcel_of}
 use Rattle.swap_choice.specs.Slots.{has}
 use Rattle.swap_lender.specs.declared.SlotState.{SlotState}
@@ -14,7 +13,7 @@ use Rattle.swap_lender.specs.declared.SlotState.TheVariants.{Free, Held}
 use Rattle.swap_lender.specs.declared.Notice.{Notice}
 use Rattle.swap_lender.specs.Lender.{slot_in}
 use Rattle.swap_lender.specs.Table.{message_of, tell_slot, told}
-use Rattle.swap_link.specs.Lane.{Lane, appended}
+use Rattle.swap_link.specs.Lane.{Lane}
 use Rattle.swap_link.specs.Channel.{posted, forwarded}
 use Rattle.swap_joint.specs.Allowed.{NamedOnce}
 use Rattle.swap_joint.proofs.InTurn.{Differ, forwarded_both, differ_rest}
@@ -57,9 +56,9 @@ told_named kind test n set from (s ∷ ss) b e = go (has set from) refl s refl (
         let q : Parcel = parcel_of (message_of kind k) (parcel_of (message_of kind k) []).page in
         elim (more (posted n b m q) e) [
           | inl here ↦ elim (posted_named test n m b q here) [
-              | inl was ↦ inl was
-              | inr one ↦ inr (record { at = 0; link = m; slab = t; lease = k; told_before = told_; inside = subst (λ i. has set i ≡ true) (omega arith) inside; held = is; passes = one })
-            ]
+            | inl was ↦ inl was
+            | inr one ↦ inr (record { at = 0; link = m; slab = t; lease = k; told_before = told_; inside = subst (λ i. has set i ≡ true) (omega arith) inside; held = is; passes = one })
+          ]
           | inr new ↦ inr (later kind test set from s ss new)
         ]
 

@@ -1,47 +1,28 @@
 -- What may be sent stays so as a lender serves a message, or measures its host.
-use Rattle.std.proofs.Common.{◌≡◌, ℕ, ◌+◌, ◌<◌, ◌≤◌, ◌⊎◌, ◌^◌, inl, inr, Bool, true, false, cond, ◌==◌, ◌||◌, ◌&&◌, zero, suc, List, [], ◌∷◌, ◌++◌, length, get_or, set, refl, sym, ap, ◌∙◌, subst, arith, eq-eqb, Option, None, Some, get_or-set_same, get_or-set_other, bit_or}
-use Rattle.std.specs.Prelude.{option_map}
-use Rattle.std.specs.List.{list_any, AllByRecursion}
-use Rattle.std.proofs.lemmas.Nat.{or_lt, pow_below}
-use Rattle.std.proofs.lemmas.Bool.{cond_both, both_ways, false_from_ne_true, cases_lt, cases_eq, eqb-true}
-use Rattle.std.proofs.lemmas.List.Sums.{passes_at_first}
-use Rattle.std.proofs.lemmas.List.{get_or_past}
+use Rattle.std.proofs.Common.{◌≡◌, ℕ, ◌⊎◌, inl, inr, Bool, true, false, ◌||◌, List, [], ◌∷◌, ◌++◌, refl, sym, ap, ◌∙◌, subst}
+use Rattle.std.specs.List.{list_any}
+use Rattle.std.proofs.lemmas.Bool.{both_ways}
 use Rattle.swap_base.specs.declared.Slab.{Slab}
 use Rattle.swap_base.specs.declared.Link.{Link}
 use Rattle.swap_base.specs.declared.Lender.{Lender as LenderNo}
 use Rattle.swap_base.specs.declared.Lease.{Lease}
 use Rattle.swap_base.specs.Sizes.{Sizes}
 use Rattle.swap_wire.specs.declared.Msg.{Msg}
-use Rattle.swap_wire.specs.declared.Msg.TheVariants as msg
-use Rattle.swap_wire.specs.Fabric.{Parcel, parcel_of}
-use Rattle.swap_choice.specs.Slots.{has}
-use Rattle.swap_evict.specs.Rounds.{Round, answer, waits_for, ready}
-use Rattle.swap_slabs.specs.Slabs.{has_lease, state_of}
+use Rattle.swap_wire.specs.Fabric.{Parcel}
 use Rattle.swap_slabs.specs.declared.SlabState.{SlabState}
-use Rattle.swap_slabs.specs.declared.SlabState.TheVariants.{Draining}
 use Rattle.swap_rings.specs.declared.Request.{Request}
 use Rattle.swap_lender.specs.declared.SlotState.{SlotState}
-use Rattle.swap_lender.specs.declared.SlotState.TheVariants.{Free, Held}
-use Rattle.swap_lender.specs.declared.Notice.TheVariants as notice
-use Rattle.swap_lender.specs.Lender.{Lender, slot_in, slot_of, has_greeted, first_where, is_free, lends, is_evicting}
-use Rattle.swap_lender.specs.Table.{Turn, serve, settle_with, due, marked, told, message_of, lend, done, hello as greet, may_send}
-use Rattle.swap_link.specs.Fits.{IsSound}
+use Rattle.swap_lender.specs.declared.SlotState.TheVariants.{Held}
+use Rattle.swap_lender.specs.Lender.{Lender, slot_in, has_greeted}
+use Rattle.swap_lender.specs.Table.{hello as greet}
 use Rattle.swap_link.specs.Lane.{Lane, appended}
-use Rattle.swap_link.specs.Channel.{forwarded}
-use Rattle.swap_table.specs.Device.{hello}
-use Rattle.swap_joint.specs.Order.{is_request}
 use Rattle.swap_joint.specs.Seats.{is_done}
 use Rattle.swap_joint.specs.Stored.{gives_back}
-use Rattle.swap_joint.specs.Turn.{AsksUntold}
-use Rattle.swap_joint.specs.Allowed.{is_evict, is_ask, is_rate, is_refusal, is_hello, evicts_in, asks_in, rates_in, refuses_in, borrows_in, NamedOnce, HasSlot, Waits, BorrowsFree, NoHello, Greets, IsToLender, AreToLender, Allows}
+use Rattle.swap_joint.specs.Allowed.{is_evict, is_ask, is_rate, is_refusal, is_hello, rates_in, HasSlot, Waits, BorrowsFree, NoHello, Greets, Allows}
 use Rattle.swap_joint.proofs.Lanes.{by_append}
 use Rattle.swap_joint.proofs.Turns.{any_last}
 use Rattle.swap_joint.proofs.Serves.{any-rest}
-use Rattle.swap_joint.proofs.InTurn.{Differ}
-use Rattle.swap_joint.proofs.Notices.{differ_of, due_asked}
 use Rattle.swap_joint.proofs.Allowed.{named_last, free_map}
-use Rattle.swap_joint.proofs.Serving.{HeldOf, same_slot, IsAt, slot_found, kept_marked, was_marked, marked_told, still_waits, not_ready}
-use Rattle.swap_joint.proofs.Noticing.{Named, IsNotified, told_named, told_once}
 
 pub or_parts : (a b : Bool) → (a || b) ≡ false → (a ≡ false) × (b ≡ false)
 or_parts true b e = cc
@@ -105,9 +86,9 @@ allows_popped s states ring l table n come ended q ps undone plain h = record {
   home = λ i m t k e held. elim (h.home i m t k e held) [
     | inl at ↦ inl at
     | inr rest ↦ elim rest [
-        | inl asked ↦ inr (inl asked)
-        | inr later ↦ elim later [ inl back ↦ inr (inr (inl (behind k (undone k) back))) | inr over ↦ inr (inr (inr over)) ]
-      ]
+      | inl asked ↦ inr (inl asked)
+      | inr later ↦ elim later [ inl back ↦ inr (inr (inl (behind k (undone k) back))) | inr over ↦ inr (inr (inr over)) ]
+    ]
   ];
   refused = h.refused;
   free = free_map table.slots table.slots (λ k. ⊥ ⊎ (is_done k q.msg ≡ true)) (λ k. ⊥) ps (λ t i m k e _ held. ((e, held), λ given. elim given [ inl none ↦ none | inr d ↦ both_ways (is_done k q.msg) (undone k) d ])) h.free.1;
@@ -171,9 +152,9 @@ allows_greeted s states ring l table n come ended q ps is undone greeted h =
       home = λ i m t k e held. elim (h.home i m t k e held) [
         | inl at ↦ inl at
         | inr rest ↦ elim rest [
-            | inl asked ↦ inr (inl asked)
-            | inr later ↦ elim later [ inl back ↦ inr (inr (inl (behind k (is_done k q.msg) (undone k) back))) | inr over ↦ inr (inr (inr over)) ]
-          ]
+          | inl asked ↦ inr (inl asked)
+          | inr later ↦ elim later [ inl back ↦ inr (inr (inl (behind k (is_done k q.msg) (undone k) back))) | inr over ↦ inr (inr (inr over)) ]
+        ]
       ];
       refused = h.refused;
       free = free_map table.slots table.slots (λ k. ⊥ ⊎ (is_done k q.msg ≡ true)) (λ k. ⊥) ps (λ t i m k e _ held. ((e, held), λ given. elim given [ inl none ↦ none | inr d ↦ both_ways (is_done k q.msg) (undone k) d ])) h.free.1;

@@ -1,37 +1,23 @@
 -- A lender serves what it may be sent, and what may be sent stays so.
-use Rattle.std.proofs.Common.{◌≡◌, ℕ, ◌+◌, ◌<◌, ◌≤◌, ◌⊎◌, ◌^◌, inl, inr, Bool, true, false, cond, ◌==◌, ◌||◌, ◌&&◌, not, nat_lt, lt-ltb, zero, suc, List, [], ◌∷◌, ◌++◌, length, get_or, set, refl, sym, ap, ◌∙◌, subst, arith, eq-eqb, bit_or, bit_and, Option, None, Some, get_or-set_same, get_or-set_other}
-use Rattle.std.specs.Prelude.{option_map, map}
-use Rattle.std.specs.Int.{bit_not, w64}
-use Rattle.std.specs.List.{list_any, AllByRecursion}
-use Rattle.std.proofs.lemmas.Bool.{cond_both, cond-true, cond-false, both_ways, false_from_ne_true, cases_lt, cases_eq, and_parts, and_from, eqb-true, ltb-true}
+use Rattle.std.proofs.Common.{◌≡◌, ℕ, ◌+◌, ◌<◌, ◌^◌, inl, inr, Bool, true, false, ◌==◌, ◌||◌, ◌&&◌, not, nat_lt, lt-ltb, zero, suc, List, [], ◌∷◌, length, get_or, refl, sym, ap, ◌∙◌, subst, arith, eq-eqb, bit_or, None, Some}
+use Rattle.std.specs.List.{list_any}
+use Rattle.std.proofs.lemmas.Bool.{cond-false, both_ways, false_from_ne_true, cases_lt, and_parts, and_from, eqb-true}
 use Rattle.std.proofs.lemmas.List.{get_or_past}
 use Rattle.std.proofs.lemmas.List.Sums.{position_or_len_is}
-use Rattle.std.proofs.lemmas.Nat.Bits.{bit_at_or, bit_at-lt, bit_at-pow_same, bit_at-pow_other}
-use Rattle.std.specs.Int.{bit_at}
+use Rattle.std.proofs.lemmas.Nat.Bits.{bit_at_or, bit_at-lt, bit_at-pow_other}
 use Rattle.swap_base.specs.declared.Slab.{Slab}
 use Rattle.swap_base.specs.declared.Link.{Link}
-use Rattle.swap_base.specs.declared.Lender.{Lender as LenderNo}
 use Rattle.swap_base.specs.declared.Lease.{Lease}
-use Rattle.swap_base.specs.Sizes.{Sizes}
-use Rattle.swap_wire.specs.declared.Msg.{Msg}
-use Rattle.swap_wire.specs.declared.Msg.TheVariants as msg
-use Rattle.swap_wire.specs.Fabric.{Parcel, parcel_of}
 use Rattle.swap_choice.specs.Slots.{has}
-use Rattle.swap_choice.proofs.SlotsLemmas.{has-beyond}
 use Rattle.swap_evict.specs.Rounds.{Round, answer, waits_for, waiting, ready}
 use Rattle.swap_evict.proofs.Bits.{has-waiting, no_slot}
-use Rattle.swap_slabs.specs.declared.SlabState.{SlabState}
-use Rattle.swap_slabs.specs.declared.SlabState.TheVariants.{Draining}
-use Rattle.swap_rings.specs.declared.Request.{Request}
 use Rattle.swap_lender.specs.declared.SlotState.{SlotState}
 use Rattle.swap_lender.specs.declared.SlotState.TheVariants.{Free, Held}
-use Rattle.swap_lender.specs.Lender.{Lender, slot_in, slot_of, holds, has_lease, has_greeted, first_where, is_free, is_for, is_evicting}
-use Rattle.swap_lender.specs.Table.{Turn, serve, settle_with, due, marked, mark_slot, lend, done, may_send, may_rates, may_done, may_borrow, may_reach, awaits}
+use Rattle.swap_lender.specs.Lender.{Lender, slot_in, slot_of, holds, has_lease, is_for, is_evicting}
+use Rattle.swap_lender.specs.Table.{marked, mark_slot, may_rates, may_done, awaits}
 use Rattle.swap_link.specs.Fits.{IsSound, lease_of, lease_at}
 use Rattle.swap_link.specs.Slots.{lease-has}
-use Rattle.swap_joint.specs.Seats.{is_done}
-use Rattle.swap_joint.specs.Stored.{gives_back}
-use Rattle.swap_joint.specs.Allowed.{HasSlot, Waits, Allows}
+use Rattle.swap_joint.specs.Allowed.{HasSlot, Waits}
 
 -- a lender whose held slots are all of one link
 abbrev pub HeldOf : Lender → Link → Type 0

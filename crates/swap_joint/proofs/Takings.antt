@@ -75,9 +75,9 @@ given_up s states ring ring' l table n come ended out t k only rings slot ungive
     (drains_by (λ u j. HasSlot table.slots j true × (evicts_in j come ≡ true → ⊥)) l states t Local (λ j f is. absurd (local_draining l j f is)) (λ u j f other is. (h.drains u j f is, λ come_now. h.before u j f come_now is)))
     (λ i m u j e held was. elim was [
       | inl at ↦
-        by_slab (λ u. has_lease l j (state_of states u) ≡ true → (has_lease l j (state_of (with_state states t Local) u) ≡ true) ⊎ (borrows_in u ring' ≡ true) ⊎ (gives_back j (out ++ done_parcel k ∷ []) ≡ true) ⊎ (ended ≡ true)) t u
-        (λ at. inr (inr (inl (any_end (λ (q : Parcel). is_done j q.msg) out (done_parcel k) (eq-eqb k.0 j.0 (only j at))))))
-        (λ other at. inl (ap (has_lease l j) (state-other states t u Local other) ∙ at)) at
+          by_slab (λ u. has_lease l j (state_of states u) ≡ true → (has_lease l j (state_of (with_state states t Local) u) ≡ true) ⊎ (borrows_in u ring' ≡ true) ⊎ (gives_back j (out ++ done_parcel k ∷ []) ≡ true) ⊎ (ended ≡ true)) t u
+          (λ at. inr (inr (inl (any_end (λ (q : Parcel). is_done j q.msg) out (done_parcel k) (eq-eqb k.0 j.0 (only j at))))))
+          (λ other at. inl (ap (has_lease l j) (state-other states t u Local other) ∙ at)) at
       | inr asked ↦ inr (inl (rings u asked))
     ])
     (allows_more s states ring l table n come ended out (done_parcel k) (may_give_back states ring l table n come ended out k slot ungiven untold greeted) h)
@@ -157,9 +157,9 @@ allows_lent s states ring rest l table n come ended out t k within borrows is on
     (λ i m u j e held was. elim was [
       | inl at ↦ inl (leased_set l states t (Mapped l k 0) (λ i own. absurd (both_ways (has_lease l i (state_of states t)) (ap (has_lease l i) borrows) own)) u j at)
       | inr asked ↦ elim (or_cases (t.0 == u.0) (borrows_in u rest) (sym (ap (borrows_in u) is) ∙ asked)) [
-          | inl same ↦ inl (here i m u j e held (ap (λ (o : ℕ). record { 0 = o }) (eqb-true t.0 u.0 same)))
-          | inr later ↦ inr (inl later)
-        ]
+        | inl same ↦ inl (here i m u j e held (ap (λ (o : ℕ). record { 0 = o }) (eqb-true t.0 u.0 same)))
+        | inr later ↦ inr (inl later)
+      ]
     ]) h)
   where
     mapped_drains : (j : Lease) (f : ℕ) → Mapped l k 0 ≡ Draining l j f → ⊥
@@ -179,7 +179,7 @@ allows_refused s states ring rest l table n come ended out t borrows is none h =
     (λ i m u j e held was. elim was [
       | inl at ↦ inl (leased_set l states t Local (λ i own. absurd (both_ways (has_lease l i (state_of states t)) (ap (has_lease l i) borrows) own)) u j at)
       | inr asked ↦ elim (or_cases (t.0 == u.0) (borrows_in u rest) (sym (ap (borrows_in u) is) ∙ asked)) [
-          | inl same ↦ (let at : t ≡ u = ap (λ (o : ℕ). record { 0 = o }) (eqb-true t.0 u.0 same) in absurd (none i m j e (held ∙ ap (λ (u : Slab). Held m u j e) (sym at))))
-          | inr later ↦ inr (inl later)
-        ]
+        | inl same ↦ (let at : t ≡ u = ap (λ (o : ℕ). record { 0 = o }) (eqb-true t.0 u.0 same) in absurd (none i m j e (held ∙ ap (λ (u : Slab). Held m u j e) (sym at))))
+        | inr later ↦ inr (inl later)
+      ]
     ]) h
