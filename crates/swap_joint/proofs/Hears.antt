@@ -256,7 +256,7 @@ lends_reply (msg.Refused slab) u k j e = absurd (neither (let F : Option (Slab �
     neither e = cc
 lends_reply _ u k j e = cc
 
-loan : (m : Msg) (v : Slab) (k : Lease) (u : Slab) (j : Lease) → borrow_reply m ≡ Some (v, Some k) → v.0 ≡ u.0 → k.0 ≡ j.0 → lends_slab u j m ≡ true
+pub loan : (m : Msg) (v : Slab) (k : Lease) (u : Slab) (j : Lease) → borrow_reply m ≡ Some (v, Some k) → v.0 ≡ u.0 → k.0 ≡ j.0 → lends_slab u j m ≡ true
 loan (msg.Lent slab lease) v k u j e slab_same lease_same = and_from (slab.0 == u.0) (lease.0 == j.0) (eq-eqb slab.0 u.0 ((let F : Option (Slab × Option Lease) → ℕ = slab_in in ap F e) ∙ slab_same)) (eq-eqb lease.0 j.0 ((let F : Option (Slab × Option Lease) → ℕ = lease_in in ap F e) ∙ lease_same))
   where
     slab_in : Option (Slab × Option Lease) → ℕ

@@ -131,7 +131,7 @@ stays_free M slots b j h open_ i n t k held = h open_ i n t k (was slots j i hel
 
 -- notices
 
-forwarded_both : (n : Link) (b : Lane) (xs ys : List (Link × Parcel)) → forwarded n b (xs ++ ys) ≡ forwarded n (forwarded n b xs) ys
+pub forwarded_both : (n : Link) (b : Lane) (xs ys : List (Link × Parcel)) → forwarded n b (xs ++ ys) ≡ forwarded n (forwarded n b xs) ys
 forwarded_both n b [] ys = refl
 forwarded_both n b (x ∷ xs) ys = forwarded_both n (posted n b x.0 (parcel_of x.1.msg x.1.page)) xs ys
 
@@ -145,7 +145,7 @@ Differ slots = (i j : ℕ) (n m : Link) (t u : Slab) (k l : Lease) (e f : Bool) 
 ready_rest : (M : Lease → Type 0) (set from : ℕ) (s : SlotState) (ss : List SlotState) (b : Lane) → Ready M set from (s ∷ ss) b → Ready M set (from + 1) ss b
 ready_rest M set from s ss b h open_ i n t k e is held = h open_ (suc i) n t k e (subst (λ m. has set m ≡ true) (omega arith) is) held
 
-differ_rest : (s : SlotState) (ss : List SlotState) → Differ (s ∷ ss) → Differ ss
+pub differ_rest : (s : SlotState) (ss : List SlotState) → Differ (s ∷ ss) → Differ ss
 differ_rest s ss h i j n m t u k l e f a b same = let one : suc i ≡ suc j = h (suc i) (suc j) n m t u k l e f a b same in omega (arith, one)
 
 -- the list with one notice more, or as it was

@@ -1,12 +1,13 @@
 -- What each call leaves of the slots of the lenders in memory.
-use Rattle.std.proofs.Common.{◌≡◌, ℕ, ◌<◌, Bool, true, false, ◌&&◌, not, zero, suc, List, [], ◌∷◌, ◌++◌, length, map, get_or, set, replicate, eq-eqb, refl, sym, ap, ◌∙◌, subst, length-set, Option, None, Some}
+use Rattle.std.proofs.Common.{◌≡◌, ℕ, ◌<◌, Bool, true, false, ◌&&◌, ◌||◌, not, zero, suc, List, [], ◌∷◌, ◌++◌, length, map, get_or, set, replicate, eq-eqb, refl, sym, ap, ◌∙◌, subst, length-set, Option, None, Some}
 use Rattle.std.specs.Prelude.{◌==◌, option_map}
-use Rattle.std.specs.List.{fold}
-use Rattle.std.proofs.lemmas.Bool.{cond_both, both_ways}
+use Rattle.std.specs.List.{fold, list_any}
+use Rattle.std.proofs.lemmas.Bool.{cond_both, cond-true, both_ways}
 use Rattle.std.proofs.lemmas.List.{length-map, length-replicate}
 use Rattle.std.proofs.lemmas.List.Elements.{All-get_or}
 use Rattle.swap_base.specs.declared.Lender.{Lender as LenderNo}
 use Rattle.swap_base.specs.declared.Link.{Link}
+use Rattle.swap_base.specs.Sizes.{Sizes}
 use Rattle.swap_wire.specs.declared.Msg.{Msg}
 use Rattle.swap_wire.specs.declared.Msg.TheVariants as msg
 use Rattle.swap_wire.specs.declared.fabric.Sent.{Sent}
@@ -19,18 +20,24 @@ use Rattle.swap_choice.specs.Slots.{has}
 use Rattle.swap_choice.proofs.Chosen.{has-zero}
 use Rattle.swap_lender.specs.declared.SlotState.{SlotState}
 use Rattle.swap_lender.specs.declared.SlotState.TheVariants.{Free, Held}
-use Rattle.swap_lender.specs.Lender.{Lender, fresh, lends, slot_in, slot_of, first_where, is_free, is_of, is_staying, is_evicting, numbers_where}
-use Rattle.swap_lender.specs.Table.{Turn, marked, settle_with, due, took, serve, may_send, host, measured, opens, open_round, asked, to_evict, gone, freed, left, without_peer, has_room, arrive, restart}
+use Rattle.swap_lender.specs.declared.Lending.{Lending}
+use Rattle.swap_lender.specs.declared.Peer.{Peer}
+use Rattle.swap_lender.specs.Lender.{Lender, has_greeted, fresh, lends, slot_in, slot_of, first_where, is_free, is_of, is_greeted, is_staying, is_evicting, numbers_where}
+use Rattle.swap_lender.specs.Table.{Turn, greet_peer, marked, settle_with, due, took, serve, may_send, host, measured, opens, open_round, asked, to_evict, gone, freed, left, without_peer, has_room, arrive, restart, hello}
 use Rattle.swap_lender.specs.Calls.{Call, Arrive, Took, Host as Hosts, Gone, Restart, run, step, Tenant, tenant, AsksStaying}
 use Rattle.swap_lender.proofs.Owned.{IsPart, part_free, part_marked}
 use Rattle.swap_lender.proofs.Runs.{always_owned}
 use Rattle.swap_lender.proofs.Live.{live_rounds}
-use Rattle.swap_link.specs.Sound.{length-marked}
-use Rattle.swap_link.specs.Channel.{Channel, let_go, taken, taken_from, given, given_from, delivered, abandoned, crashed, on_channel}
+use Rattle.swap_lender.proofs.Steps.{took_lending, host_lending, gone_lending}
+use Rattle.swap_link.specs.Fits.{IsAlone}
+use Rattle.swap_link.specs.Sound.{length-marked, alone-serve, peers-gone, peers-host, arrived}
+use Rattle.swap_link.specs.Lane.{appended, ended, cut}
+use Rattle.swap_link.specs.Channel.{Channel, let_go, taken, taken_from, given, given_from, delivered, abandoned, severed, crashed, connected, on_channel}
 use Rattle.swap_link.specs.Harbor.{Harbor, Moves, channel_of, lender_of, new_channel, no_channel, lending_for, IsFresh}
 use Rattle.swap_link.specs.HarborLaws.{through, moves_keep_of}
 use Rattle.swap_joint.specs.Seats.{AreSlots}
 use Rattle.swap_joint.specs.Turn.{AsksUntold, Lodges}
+use Rattle.swap_joint.specs.Allowed.{IsKnown, AllKnown}
 use Rattle.swap_joint.specs.Lenders.{TurnsKeepSeats, AreWhole, IsReached, AreReached, AllLodge, AreSound, AreOwned, LendersKeep}
 use Rattle.swap_joint.proofs.Seats.{seat_lend, seat_served, seat_host}
 
@@ -306,6 +313,107 @@ lodges_move f c r g moved all l within =
     let size : length g.channels ≡ length f.channels = ap (λ (o : FabricOf). o.lenders) (moves_keep_of f c r g moved) in
     subst Q moved.1 (through Lodges f c l moved.0 (all l (subst (λ n. l.0 < n) size within)) (λ _ h. lodges_call (channel_of f (lender_of c)) c h))
 
+-- the only link of a lender, and its sizes
+
+known_by : (s : Sizes) (c d : Channel) → IsKnown s c → d.lender.lending ≡ c.lender.lending → IsAlone d.number d.lender_gone d.lender.peers → IsKnown s d
+known_by s c d h lending alone = record {
+  alone = alone;
+  one = ap (λ (x : Lending). x.links) lending ∙ h.one;
+  page_bytes = ap (λ (x : Lending). x.page_bytes) lending ∙ h.page_bytes;
+  pages_per_slab = ap (λ (x : Lending). x.pages_per_slab) lending ∙ h.pages_per_slab;
+}
+
+-- where its end stands, and where it is gone
+alone_stands : (s : Sizes) (c : Channel) → c.lender_gone ≡ false → IsKnown s c → IsAlone c.number false c.lender.peers
+alone_stands s c stands h = subst (λ b. IsAlone c.number b c.lender.peers) stands h.alone
+
+none_left : (s : Sizes) (c : Channel) → c.lender_gone ≡ true → IsKnown s c → c.lender.peers ≡ []
+none_left s c left h = subst (λ b. IsAlone c.number b c.lender.peers) left h.alone
+
+-- a link that is let go leaves none, and the one that arrives then is the only one
+let_go_none : (s : Sizes) (c : Channel) → IsKnown s c → (let_go c).peers ≡ []
+let_go_none s c h = cond_both c.lender_gone _ _ (λ (x : Lender). x.peers ≡ []) (λ left. none_left s c left h) (λ stands. peers-gone c.lender c.number (alone_stands s c stands h))
+
+let_go_lending : (c : Channel) → (let_go c).lending ≡ c.lender.lending
+let_go_lending c = cond_both c.lender_gone _ _ (λ (x : Lender). x.lending ≡ c.lender.lending) (λ _. refl) (λ _. gone_lending c.lender c.number)
+
+arrives_alone : (s : Sizes) (c : Channel) (n : Link) → IsKnown s c → arrive (let_go c) n ≡ record (let_go c) { peers = record { link = n; greeted = false } ∷ [] }
+arrives_alone s c n h = arrived (let_go c) n (let_go_none s c h) (ap (λ (x : Lending). x.links) (let_go_lending c) ∙ h.one)
+
+known_connected : (s : Sizes) (c : Channel) (n : Link) → IsKnown s c → IsKnown s (connected c n)
+known_connected s c n h =
+    let now = arrives_alone s c n h in
+    known_by s c (connected c n) h (ap (λ (x : Lender). x.lending) now ∙ let_go_lending c) (false, ap (λ (x : Lender). x.peers) now)
+
+-- a link that was just made has not greeted, and one that greets has
+pub connected_fresh : (s : Sizes) (c : Channel) (n : Link) → IsKnown s c → has_greeted (connected c n).lender n ≡ false
+connected_fresh s c n h = ap (λ (x : Lender). has_greeted x n) (arrives_alone s c n h) ∙ not_yet (n.0 == n.0)
+  where
+    not_yet : (b : Bool) → ((b && false) || false) ≡ false
+    not_yet true = refl
+    not_yet false = refl
+
+pub greeted_known : (s : Sizes) (c : Channel) → c.lender_gone ≡ false → IsKnown s c → has_greeted (hello c.lender c.number).lender c.number ≡ true
+greeted_known s c stands h =
+    ap (λ (ps : List Peer). list_any (is_greeted c.number) ps) (greets c.lender.peers (alone_stands s c stands h)) ∙ by_own (c.number.0 == c.number.0) (eq-eqb c.number.0 c.number.0 refl)
+  where
+    by_own : (b : Bool) → b ≡ true → ((b && true) || false) ≡ true
+    by_own true e = refl
+    by_own false e = cc
+
+    greets : (ps : List Peer) → IsAlone c.number false ps → map (greet_peer c.number) ps ≡ record { link = c.number; greeted = true } ∷ []
+    greets ps a = ap (map (greet_peer c.number)) a.1 ∙ ap (λ (p : Peer). p ∷ []) (cond-true (c.number.0 == c.number.0) _ _ (eq-eqb c.number.0 c.number.0 refl))
+
+-- through each call
+known_abandoned : (s : Sizes) (c d : Channel) → c.lender_gone ≡ false → IsKnown s c → d.lender ≡ c.lender → d.number ≡ c.number → IsKnown s (abandoned d)
+known_abandoned s c d stands h lender number =
+    known_by s c (abandoned d) h (gone_lending d.lender d.number ∙ ap (λ (x : Lender). x.lending) lender)
+    (peers-gone d.lender d.number (subst (λ n. IsAlone n false d.lender.peers) (sym number) (subst (λ (x : Lender). IsAlone c.number false x.peers) (sym lender) (alone_stands s c stands h))))
+
+known_give : (s : Sizes) (c : Channel) → IsKnown s c → IsKnown s (given c).1
+known_give s c h = cond_both c.lender_gone _ _ (λ (x : Gave × Channel). IsKnown s x.1) (λ _. h) (λ stands. from stands c.to_lender.parcels)
+  where
+    from : c.lender_gone ≡ false → (ps : List Parcel) → IsKnown s (given_from c ps).1
+    from stands [] = cond_both c.to_lender.ended _ _ (λ (x : Gave × Channel). IsKnown s x.1) (λ _. known_abandoned s c c stands h refl refl) (λ _. h)
+    from stands (p ∷ ps) =
+        cond_both (may_send c.lender c.number p.msg) _ _ (λ (x : Gave × Channel). IsKnown s x.1)
+        (λ may. known_by s c (delivered (record c { to_lender = record c.to_lender { parcels = ps } }) (took c.lender c.number p.msg p.page)) h (took_lending c.lender c.number p.msg p.page)
+        (subst (λ b. IsAlone c.number b (took c.lender c.number p.msg p.page).lender.peers) (sym stands) (took_alone p)))
+        (λ _. known_abandoned s c (record c { to_lender = record c.to_lender { parcels = ps } }) stands h refl refl)
+      where
+        took_alone : (p : Parcel) → IsAlone c.number false (took c.lender c.number p.msg p.page).lender.peers
+        took_alone p = cond_both (may_send c.lender c.number p.msg) _ _ (λ (x : Turn). IsAlone c.number false x.lender.peers) (λ _. alone-serve c.lender c.number p.msg p.page (alone_stands s c stands h)) (λ _. alone_stands s c stands h)
+
+known_same : (s : Sizes) (c d : Channel) → IsKnown s c → d.lender ≡ c.lender → d.number ≡ c.number → d.lender_gone ≡ c.lender_gone → IsKnown s d
+known_same s c d h lender number left =
+    known_by s c d h (ap (λ (x : Lender). x.lending) lender)
+    (subst (λ (x : Lender). IsAlone d.number d.lender_gone x.peers) (sym lender) (subst (λ n. IsAlone n d.lender_gone c.lender.peers) (sym number) (subst (λ b. IsAlone c.number b c.lender.peers) (sym left) h.alone)))
+
+known_call : (s : Sizes) (ch : Channel) (c : FabricCall) → IsKnown s ch → IsKnown s (on_channel ch c).1
+known_call s ch (Connect m n) h = known_connected s ch n h
+known_call s ch (Send m p) h = cond_both ch.device_gone _ _ (λ (x : Sent × Channel). IsKnown s x.1) (λ _. h) (λ _. known_same s ch (record ch { to_lender = appended ch.to_lender p }) h refl refl refl)
+known_call s ch (Take m) h = cond_both ch.device_gone _ _ (λ (x : Handed × Channel). IsKnown s x.1) (λ _. h) (λ _. from ch.to_device.parcels)
+  where
+    from : (ps : List Parcel) → IsKnown s (taken_from ch ps).1
+    from [] = cond_both ch.to_device.ended _ _ (λ (x : Handed × Channel). IsKnown s x.1) (λ _. known_same s ch (record ch { to_lender = ended ch.to_lender; device_gone = true }) h refl refl refl) (λ _. h)
+    from (p ∷ ps) = known_same s ch (record ch { to_device = record ch.to_device { parcels = ps } }) h refl refl refl
+known_call s ch (End m) h = known_same s ch (on_channel ch (End m)).1 h refl refl refl
+known_call s ch (Give m) h = known_give s ch h
+known_call s ch (Cut m a b) h = known_same s ch (severed ch a b).1 h refl refl refl
+known_call s ch (Crash m) h =
+    cond_both ch.lender_gone _ _ (λ (x : Channel). IsKnown s x) (λ left. known_by s ch (record ch { lender = restart ch.lender }) h refl (subst (λ b. IsAlone ch.number b []) (sym left) refl))
+    (λ _. known_by s ch (record ch { lender = restart ch.lender; to_lender = cut ch.to_lender 0; to_device = ended ch.to_device; lender_gone = true }) h refl refl)
+known_call s ch (Host m used word) h =
+    known_by s ch (on_channel ch (Host m used word)).1 h (host_lending ch.lender used word) (subst (λ ps. IsAlone ch.number ch.lender_gone ps) (sym (peers-host ch.lender used word)) h.alone)
+
+known_move : (f : Harbor) (c : FabricCall) (r : FabricAnswer c) (g : Harbor) → Moves f c r g → AllKnown f → AllKnown g
+known_move f c r g moved all l within =
+    let Q : FabricAnswer c × Harbor → Type 0 = λ x. IsKnown f.sizes (channel_of x.1 l) in
+    let keeps = moves_keep_of f c r g moved in
+    let size : length g.channels ≡ length f.channels = ap (λ (o : FabricOf). o.lenders) keeps in
+    subst (λ s. IsKnown s (channel_of g l)) (sym (ap (λ (o : FabricOf). o.sizes) keeps))
+    (subst Q moved.1 (through (IsKnown f.sizes) f c l moved.0 (all l (subst (λ n. l.0 < n) size within)) (λ _ h. known_call f.sizes (channel_of f (lender_of c)) c h)))
+
 -- lenders as they are made
 
 made_slots : (h : Harbor) (o : FabricOf) → IsFresh h o → AreWhole h
@@ -318,7 +426,7 @@ made_reached h o made l within =
     let is = All-get_or (λ c. c ≡ new_channel h.sizes c.lender.lending.spec) h.channels l.0 (no_channel h.sizes) within made.channels in
     record { lending = lending_for h.sizes (channel_of h l).lender.lending.spec; calls = []; is = ap (λ (c : Channel). c.lender) is }
 
-made_at : (h : Harbor) (o : FabricOf) → IsFresh h o → (l : LenderNo) → l.0 < length h.channels → channel_of h l ≡ new_channel h.sizes (channel_of h l).lender.lending.spec
+pub made_at : (h : Harbor) (o : FabricOf) → IsFresh h o → (l : LenderNo) → l.0 < length h.channels → channel_of h l ≡ new_channel h.sizes (channel_of h l).lender.lending.spec
 made_at h o made l within = All-get_or (λ c. c ≡ new_channel h.sizes c.lender.lending.spec) h.channels l.0 (no_channel h.sizes) within made.channels
 
 made_sound : (h : Harbor) (o : FabricOf) → IsFresh h o → AreSound h
@@ -327,6 +435,7 @@ made_sound h o made = record {
   reached = made_reached h o made;
   untold = λ l within. subst (λ (c : Channel). AsksUntold c.lender.round c.lender.slots) (sym (made_at h o made l within)) tt;
   lodged = λ l within. subst Lodges (sym (made_at h o made l within)) (lodges_none (new_channel h.sizes (channel_of h l).lender.lending.spec) (restart_none (channel_of h l).lender.lending.spec.slots));
+  known = λ l within. subst (IsKnown h.sizes) (sym (made_at h o made l within)) (record { alone = refl; one = refl; page_bytes = refl; pages_per_slab = refl });
 }
 
 moved_sound : (f : Harbor) (c : FabricCall) (r : FabricAnswer c) (g : Harbor) → Moves f c r g → AreSound f → AreSound g
@@ -337,6 +446,7 @@ moved_sound f c r g moved sound =
       reached = λ l within. (both l within).0;
       untold = λ l within. (both l within).1;
       lodged = lodges_move f c r g moved sound.lodged;
+      known = known_move f c r g moved sound.known;
     }
 
 pub lenders_keep : LendersKeep

@@ -18,7 +18,7 @@ use Rattle.swap_wire.specs.declared.Seen.{Seen}
 use Rattle.swap_wire.specs.declared.fabric.Gave.{Gave}
 use Rattle.swap_wire.specs.declared.fabric.Gave.TheVariants as gave
 use Rattle.swap_wire.specs.declared.fabric.Hosted.{Hosted}
-use Rattle.swap_wire.specs.Fabric.{Parcel, Handed, Brought, NothingCame, LinkLost, Take, lends}
+use Rattle.swap_wire.specs.Fabric.{Parcel, Handed, Brought, NothingCame, LinkLost, Take, Give, lends}
 use Rattle.swap_calls.specs.Calls.{state_of, is_idle}
 use Rattle.swap_slabs.specs.Slabs as slabs
 use Rattle.swap_slabs.specs.Slabs.{has_lease}
@@ -53,7 +53,7 @@ use Rattle.swap_link.specs.Harbor.{Harbor, channel_of}
 use Rattle.swap_joint.specs.Order.{is_reply, IsRoomFor, IsReplyFor, Names, Answers}
 use Rattle.swap_joint.specs.Stored.{lends_in, Joined, AllJoined}
 use Rattle.swap_joint.specs.Turn.{IsMappedAt, MayCome, InTurn, Turned, AllTurned}
-use Rattle.swap_joint.specs.Lies.{is_lied}
+use Rattle.swap_joint.specs.Lies.{is_lied, is_ended}
 use Rattle.swap_joint.proofs.Hears.{lends_reply, taken_front}
 use Rattle.swap_joint.proofs.Joins.{ServesAt}
 use Rattle.swap_joint.proofs.Takes.{FrontIs, taken_brings}
@@ -148,7 +148,13 @@ module _ (d : Device) (l : Lender) (c : Channel) (q : Parcel) (qs : List Parcel)
           by_msg (msg.Evict lease) is (_, ap (device.evicted d) found.1)
       go _ is may = absurd (let P : Msg → Type 0 = λ m. MayCome (λ k. IsMappedAt d.remote.slabs l k) m in let no : ⊥ = subst P is may in no)
 
--- what is seen of an event is no lie
+-- what is seen of an event is no lie, and ends no link
+abbrev pub is_unfair : Seen → Bool
+is_unfair s = is_lied s || is_ended s
+
+abbrev pub ends_it : Gave → Bool
+ends_it (gave.Ended msg) = true
+ends_it _ = false
 
 module _ {D : Type 0} (disk_moves : D → (c : DiskCall) → DiskAnswer c → D → Type 0) where
   answered_by : {A B : Type 0} (f : A → B) (p : Prog A) (k k' : D) (h h' : Harbor) (b : B) → Along disk_moves harbor.Moves (answering f p) k h k' h' b → (a : A) × (b ≡ f a)
@@ -161,48 +167,48 @@ module _ {D : Type 0} (disk_moves : D → (c : DiskCall) → DiskAnswer c → D 
   answered_twice f g (AskDisk c next) k k' h h' x along = answered_twice f g (next along.0) along.1 k' h h' x along.3
   answered_twice f g (AskFabric c next) k k' h h' x along = answered_twice f g (next along.0) k k' along.1 h' x along.3
 
-  honest_by : {R : Type 0} (see : R → Seen) (p : Prog (Device × R)) (d' : Device) (k k' : D) (h h' : Harbor) (s : Seen) → ((r : R) → is_lied (see r) ≡ false) → Along disk_moves harbor.Moves {A = Device × Seen} (answering (λ (r : Device × R). (r.0, see r.1)) p) k h k' h' (d', s) → is_lied s ≡ false
-  honest_by see p d' k k' h h' s each along = let was = answered_by (λ r. (r.0, see r.1)) p k k' h h' (d', s) along in ap (λ (x : Device × Seen). is_lied x.1) was.1 ∙ each was.0.1
+  honest_by : {R : Type 0} (see : R → Seen) (p : Prog (Device × R)) (d' : Device) (k k' : D) (h h' : Harbor) (s : Seen) → ((r : R) → is_unfair (see r) ≡ false) → Along disk_moves harbor.Moves {A = Device × Seen} (answering (λ (r : Device × R). (r.0, see r.1)) p) k h k' h' (d', s) → is_unfair s ≡ false
+  honest_by see p d' k k' h h' s each along = let was = answered_by (λ r. (r.0, see r.1)) p k k' h h' (d', s) along in ap (λ (x : Device × Seen). is_unfair x.1) was.1 ∙ each was.0.1
 
-  took_honest : (d d' : Device) (k k' : D) (h mid h' : Harbor) (l : Lender) (r : Handed) (s : Seen) → ((q : Parcel) → r ≡ Brought q → IsHeard (heard d l q (oldest (ring_of d.remote.links l)))) → Along disk_moves harbor.Moves {A = Device × Seen} (answering (λ (r : Device × LinkStep). (r.0, see_take r.1)) (device.took_from d l r)) k mid k' h' (d', s) → is_lied s ≡ false
-  took_honest d d' k k' h mid h' l NothingCame s each along = ap (λ (x : Device × Seen). is_lied x.1) along.2
+  took_honest : (d d' : Device) (k k' : D) (h mid h' : Harbor) (l : Lender) (r : Handed) (s : Seen) → ((q : Parcel) → r ≡ Brought q → IsHeard (heard d l q (oldest (ring_of d.remote.links l)))) → Along disk_moves harbor.Moves {A = Device × Seen} (answering (λ (r : Device × LinkStep). (r.0, see_take r.1)) (device.took_from d l r)) k mid k' h' (d', s) → is_unfair s ≡ false
+  took_honest d d' k k' h mid h' l NothingCame s each along = ap (λ (x : Device × Seen). is_unfair x.1) along.2
   took_honest d d' k k' h mid h' l LinkLost s each along =
-      let twice = answered_twice (device.with_step link.Lost) (λ (r : Device × LinkStep). (r.0, see_take r.1)) (device.lose d l) k k' mid h' (d', s) along in ap (λ (x : Device × Seen). is_lied x.1) twice.1
+      let twice = answered_twice (device.with_step link.Lost) (λ (r : Device × LinkStep). (r.0, see_take r.1)) (device.lose d l) k k' mid h' (d', s) along in ap (λ (x : Device × Seen). is_unfair x.1) twice.1
   took_honest d d' k k' h mid h' l (Brought q) s each along =
       let x = each q refl in
       let P : Option Heard → Type 0 = λ o. Along disk_moves harbor.Moves {A = Device × Seen} (answering (λ (r : Device × LinkStep). (r.0, see_take r.1)) (device.understood d l q.msg o)) k mid k' h' (d', s) in
       let twice = answered_twice (device.with_step (link.Got q.msg)) (λ (r : Device × LinkStep). (r.0, see_take r.1)) (device.follow x.0 l) k k' mid h' (d', s) (subst P x.1 along) in
-      ap (λ (x : Device × Seen). is_lied x.1) twice.1
+      ap (λ (x : Device × Seen). is_unfair x.1) twice.1
 
   link_honest : (d d' : Device) (k k' : D) (h h' : Harbor) (l : Lender) (s : Seen) → ((q : Parcel) (g : Harbor) → is_up d.remote.links l ≡ true → harbor.Moves h (Take l) (Brought q) g → IsHeard (heard d l q (oldest (ring_of d.remote.links l))))
-      → Along disk_moves harbor.Moves {A = Device × Seen} (answering (λ (r : Device × LinkStep). (r.0, see_take r.1)) (device.link_take d l)) k h k' h' (d', s) → is_lied s ≡ false
+      → Along disk_moves harbor.Moves {A = Device × Seen} (answering (λ (r : Device × LinkStep). (r.0, see_take r.1)) (device.link_take d l)) k h k' h' (d', s) → is_unfair s ≡ false
   link_honest d d' k k' h h' l s each = go (is_up d.remote.links l) refl
     where
-      go : (b : Bool) → is_up d.remote.links l ≡ b → Along disk_moves harbor.Moves {A = Device × Seen} (answering (λ (r : Device × LinkStep). (r.0, see_take r.1)) (cond b (AskFabric (Take l) (device.took_from d l)) (Ret (d, link.Nothing)))) k h k' h' (d', s) → is_lied s ≡ false
-      go false down along = ap (λ (x : Device × Seen). is_lied x.1) along.2
+      go : (b : Bool) → is_up d.remote.links l ≡ b → Along disk_moves harbor.Moves {A = Device × Seen} (answering (λ (r : Device × LinkStep). (r.0, see_take r.1)) (cond b (AskFabric (Take l) (device.took_from d l)) (Ret (d, link.Nothing)))) k h k' h' (d', s) → is_unfair s ≡ false
+      go false down along = ap (λ (x : Device × Seen). is_unfair x.1) along.2
       go true up along = took_honest d d' k k' h along.1 h' l along.0 s (λ q is. each q along.1 up (subst (λ (r : Handed). harbor.Moves h (Take l) r along.1) is along.2)) along.3
 
   -- of each kind of event
-  see_out_honest : (r : OutStep) → is_lied (see_out r) ≡ false
+  see_out_honest : (r : OutStep) → is_unfair (see_out r) ≡ false
   see_out_honest (outs.Done entry sent) = refl
   see_out_honest outs.Room = refl
 
-  see_in_honest : (r : InStep) → is_lied (see_in r) ≡ false
+  see_in_honest : (r : InStep) → is_unfair (see_in r) ≡ false
   see_in_honest (ins.Done entry) = refl
   see_in_honest (ins.Wait via) = refl
 
-  see_step_honest : (r : Step) → is_lied (see_step r) ≡ false
+  see_step_honest : (r : Step) → is_unfair (see_step r) ≡ false
   see_step_honest (steps.Done entry sent) = refl
   see_step_honest steps.Room = refl
   see_step_honest (steps.Wait via) = refl
   see_step_honest (steps.Again via) = refl
   see_step_honest (steps.Fault entry since at) = refl
 
-  see_start_honest : (r : Option (Page × EntryNo)) → is_lied (see_start r) ≡ false
+  see_start_honest : (r : Option (Page × EntryNo)) → is_unfair (see_start r) ≡ false
   see_start_honest None = refl
   see_start_honest (Some (page, entry)) = refl
 
-  see_disk_honest : (r : DiskStep) → is_lied (see_disk r) ≡ false
+  see_disk_honest : (r : DiskStep) → is_unfair (see_disk r) ≡ false
   see_disk_honest ends.Nothing = refl
   see_disk_honest (ends.Written page entry) = refl
   see_disk_honest (ends.Kept page entry) = refl
@@ -210,64 +216,64 @@ module _ {D : Type 0} (disk_moves : D → (c : DiskCall) → DiskAnswer c → D 
   see_disk_honest (ends.Came caller page) = refl
   see_disk_honest (ends.Failed caller page) = refl
 
-  see_tick_honest : (r : Option Placed) → is_lied (see_tick r) ≡ false
+  see_tick_honest : (r : Option Placed) → is_unfair (see_tick r) ≡ false
   see_tick_honest None = refl
   see_tick_honest (Some placed) = refl
 
-  see_map_honest : (r : Bool) → is_lied (see_map r) ≡ false
+  see_map_honest : (r : Bool) → is_unfair (see_map r) ≡ false
   see_map_honest true = refl
   see_map_honest false = refl
 
-  see_link_honest : (r : Option Link) → is_lied (see_link r) ≡ false
+  see_link_honest : (r : Option Link) → is_unfair (see_link r) ≡ false
   see_link_honest None = refl
   see_link_honest (Some n) = refl
 
-  see_gave_honest : (r : Gave) → is_lied (see_gave r) ≡ false
-  see_gave_honest gave.Nothing = refl
-  see_gave_honest gave.End = refl
-  see_gave_honest (gave.Got msg reply evicted) = refl
-  see_gave_honest (gave.Ended msg) = refl
+  see_gave_honest : (r : Gave) → ends_it r ≡ false → is_unfair (see_gave r) ≡ false
+  see_gave_honest gave.Nothing fair = refl
+  see_gave_honest gave.End fair = refl
+  see_gave_honest (gave.Got msg reply evicted) fair = refl
+  see_gave_honest (gave.Ended msg) fair = cc
 
-  see_cut_honest : (r : Bool) → is_lied (see_cut r) ≡ false
+  see_cut_honest : (r : Bool) → is_unfair (see_cut r) ≡ false
   see_cut_honest true = refl
   see_cut_honest false = refl
 
-  see_crash_honest : (r : Bool) → is_lied (see_crash r) ≡ false
+  see_crash_honest : (r : Bool) → is_unfair (see_crash r) ≡ false
   see_crash_honest true = refl
   see_crash_honest false = refl
 
-  see_host_honest : (r : Option Hosted) → is_lied (see_host r) ≡ false
+  see_host_honest : (r : Option Hosted) → is_unfair (see_host r) ≡ false
   see_host_honest None = refl
   see_host_honest (Some hosted) = refl
 
   abbrev Gives : Prog (Device × Seen) → D → Harbor → Seen → Type 0
   Gives p k h s = (d' : Device) × (k' : D) × (h' : Harbor) × Along disk_moves harbor.Moves {A = Device × Seen} p k h k' h' (d', s)
 
-  taken_honest : (d : Device) (done : Bool) (k : D) (h : Harbor) (s : Seen) → Gives (taken_if d done) k h s → is_lied s ≡ false
+  taken_honest : (d : Device) (done : Bool) (k : D) (h : Harbor) (s : Seen) → Gives (taken_if d done) k h s → is_unfair s ≡ false
   taken_honest d true k h s (d', k', h', along) = honest_by see_disk (device.disk_take d) d' k k' h h' s see_disk_honest along
-  taken_honest d false k h s (d', k', h', along) = ap (λ (x : Device × Seen). is_lied x.1) along.2
+  taken_honest d false k h s (d', k', h', along) = ap (λ (x : Device × Seen). is_unfair x.1) along.2
 
-  either : (b : Bool) (p q : Prog (Device × Seen)) (k : D) (h : Harbor) (s : Seen) → (Gives p k h s → is_lied s ≡ false) → (Gives q k h s → is_lied s ≡ false) → Gives (cond b p q) k h s → is_lied s ≡ false
+  either : (b : Bool) (p q : Prog (Device × Seen)) (k : D) (h : Harbor) (s : Seen) → (Gives p k h s → is_unfair s ≡ false) → (Gives q k h s → is_unfair s ≡ false) → Gives (cond b p q) k h s → is_unfair s ≡ false
   either true p q k h s one two = one
   either false p q k h s one two = two
 
   -- no event of a device sees a lie where each message that comes is understood
-  pub event_honest : (d : Device) (page : List ℕ) (e : Event) (k : D) (h : Harbor) (s : Seen) → ((l : Lender) (q : Parcel) (g : Harbor) → is_up d.remote.links l ≡ true → harbor.Moves h (Take l) (Brought q) g → IsHeard (heard d l q (oldest (ring_of d.remote.links l)))) → Gives (happens d page e) k h s → is_lied s ≡ false
-  event_honest d page (event.PageOut c p) k h s each given =
-      either (is_idle (state_of d.calls c)) _ _ k h s (λ g. honest_by see_out (device.out d c p page) g.0 k g.1 h g.2 s see_out_honest g.3) (λ g. ap (λ (x : Device × Seen). is_lied x.1) g.3.2) given
-  event_honest d page (event.PageIn c p) k h s each given = either (is_idle (state_of d.calls c)) _ _ k h s (λ g. honest_by see_in (device.read d c p) g.0 k g.1 h g.2 s see_in_honest g.3) (λ g. ap (λ (x : Device × Seen). is_lied x.1) g.3.2) given
-  event_honest d page (event.Finish c) k h s each given = either (is_idle (state_of d.calls c)) _ _ k h s (λ g. ap (λ (x : Device × Seen). is_lied x.1) g.3.2) (λ g. honest_by see_step (device.finish d c) g.0 k g.1 h g.2 s see_step_honest g.3) given
-  event_honest d page event.Start k h s each g = honest_by see_start (device.disk_start d) g.0 k g.1 h g.2 s see_start_honest g.3
-  event_honest d page (event.Disk which ok) k h s each g = taken_honest d g.3.0 g.3.1 h s (g.0, g.1, g.2, g.3.3)
-  event_honest d page (event.Tick word) k h s each g = honest_by see_tick (device.tick d word) g.0 k g.1 h g.2 s see_tick_honest g.3
-  event_honest d page (event.Map slab l) k h s each g = honest_by see_map (device.map d slab l) g.0 k g.1 h g.2 s see_map_honest g.3
-  event_honest d page (event.Connect l) k h s each g = honest_by see_link (device.connect d l) g.0 k g.1 h g.2 s see_link_honest g.3
-  event_honest d page (event.Give l) k h s each g = honest_by see_gave (device.give_to d l) g.0 k g.1 h g.2 s see_gave_honest g.3
-  event_honest d page (event.Take l) k h s each g = link_honest d g.0 k g.1 h g.2 l s (λ q f up moved. each l q f up moved) g.3
-  event_honest d page (event.Cut l a b) k h s each g = honest_by see_cut (device.cut d l a b) g.0 k g.1 h g.2 s see_cut_honest g.3
-  event_honest d page (event.Crash l) k h s each g = honest_by see_crash (device.crash d l) g.0 k g.1 h g.2 s see_crash_honest g.3
-  event_honest d page (event.Host l used word) k h s each g = honest_by see_host (device.host d l used word) g.0 k g.1 h g.2 s see_host_honest g.3
-  event_honest d page _ k h s each g = ap (λ (x : Device × Seen). is_lied x.1) g.3.2
+  pub event_honest : (d : Device) (page : List ℕ) (e : Event) (k : D) (h : Harbor) (s : Seen) → ((l : Lender) (q : Parcel) (g : Harbor) → is_up d.remote.links l ≡ true → harbor.Moves h (Take l) (Brought q) g → IsHeard (heard d l q (oldest (ring_of d.remote.links l)))) → ((l : Lender) (r : Gave) (g : Harbor) → harbor.Moves h (Give l) r g → ends_it r ≡ false) → Gives (happens d page e) k h s → is_unfair s ≡ false
+  event_honest d page (event.PageOut c p) k h s each fair given =
+      either (is_idle (state_of d.calls c)) _ _ k h s (λ g. honest_by see_out (device.out d c p page) g.0 k g.1 h g.2 s see_out_honest g.3) (λ g. ap (λ (x : Device × Seen). is_unfair x.1) g.3.2) given
+  event_honest d page (event.PageIn c p) k h s each fair given = either (is_idle (state_of d.calls c)) _ _ k h s (λ g. honest_by see_in (device.read d c p) g.0 k g.1 h g.2 s see_in_honest g.3) (λ g. ap (λ (x : Device × Seen). is_unfair x.1) g.3.2) given
+  event_honest d page (event.Finish c) k h s each fair given = either (is_idle (state_of d.calls c)) _ _ k h s (λ g. ap (λ (x : Device × Seen). is_unfair x.1) g.3.2) (λ g. honest_by see_step (device.finish d c) g.0 k g.1 h g.2 s see_step_honest g.3) given
+  event_honest d page event.Start k h s each fair g = honest_by see_start (device.disk_start d) g.0 k g.1 h g.2 s see_start_honest g.3
+  event_honest d page (event.Disk which ok) k h s each fair g = taken_honest d g.3.0 g.3.1 h s (g.0, g.1, g.2, g.3.3)
+  event_honest d page (event.Tick word) k h s each fair g = honest_by see_tick (device.tick d word) g.0 k g.1 h g.2 s see_tick_honest g.3
+  event_honest d page (event.Map slab l) k h s each fair g = honest_by see_map (device.map d slab l) g.0 k g.1 h g.2 s see_map_honest g.3
+  event_honest d page (event.Connect l) k h s each fair g = honest_by see_link (device.connect d l) g.0 k g.1 h g.2 s see_link_honest g.3
+  event_honest d page (event.Give l) k h s each fair g = ap (λ (x : Device × Seen). is_unfair x.1) g.3.3.2 ∙ see_gave_honest g.3.0 (fair l g.3.0 g.3.1 g.3.2)
+  event_honest d page (event.Take l) k h s each fair g = link_honest d g.0 k g.1 h g.2 l s (λ q f up moved. each l q f up moved) g.3
+  event_honest d page (event.Cut l a b) k h s each fair g = honest_by see_cut (device.cut d l a b) g.0 k g.1 h g.2 s see_cut_honest g.3
+  event_honest d page (event.Crash l) k h s each fair g = honest_by see_crash (device.crash d l) g.0 k g.1 h g.2 s see_crash_honest g.3
+  event_honest d page (event.Host l used word) k h s each fair g = honest_by see_host (device.host d l used word) g.0 k g.1 h g.2 s see_host_honest g.3
+  event_honest d page _ k h s each fair g = ap (λ (x : Device × Seen). is_unfair x.1) g.3.2
 
 -- so of a device that is joined with its lenders, and whose messages may be taken in turn
 pub understood : (n : ℕ) (d : Device) (h : Harbor) → ServesAt n d h → AllJoined n d h → AllTurned n d h → (l : Lender) (q : Parcel) (g : Harbor) → is_up d.remote.links l ≡ true → harbor.Moves h (Take l) (Brought q) g → IsHeard (heard d l q (oldest (ring_of d.remote.links l)))

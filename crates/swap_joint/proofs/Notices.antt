@@ -50,7 +50,7 @@ least_among rates among count i e = elim (cases_lt i 64) [
     found : list_any (λ x. eqb i x) (filter test (range_with_len 0 64)) ≡ true
     found = has-set_of (filter test (range_with_len 0 64)) i ∙ e
 
-given_asked : (r : Round) (set i : ℕ) → ready r ≡ Some set → has set i ≡ true → has r.asked i ≡ true
+pub given_asked : (r : Round) (set i : ℕ) → ready r ≡ Some set → has set i ≡ true → has r.asked i ≡ true
 given_asked r set i is e = go (waiting r == 0) is
   where
     standing_asked : has (standing r) i ≡ true → has r.asked i ≡ true
@@ -62,12 +62,12 @@ given_asked r set i is e = go (waiting r == 0) is
         standing_asked (least_among r.values (standing r) (min r.count (size (standing r))) i (subst (λ s. has s i ≡ true) (sym one) e))
     go false same = cc
 
-due_asked : (o : Option Round) (slots : List SlotState) (set i : ℕ) → AsksUntold o slots → due o ≡ Some set → has set i ≡ true → is_evicting (slot_in slots i) ≡ false
+pub due_asked : (o : Option Round) (slots : List SlotState) (set i : ℕ) → AsksUntold o slots → due o ≡ Some set → has set i ≡ true → is_evicting (slot_in slots i) ≡ false
 due_asked None slots set i h is e = cc
 due_asked (Some r) slots set i h is e = h i (given_asked r set i is e)
 
 -- slots that differ by their leases
-differ_of : (l : Lender) → IsSound l → Differ l.slots
+pub differ_of : (l : Lender) → IsSound l → Differ l.slots
 differ_of l sound i j n m t u k o e f a b same = sound.differ i j k.0 (leased i n t k e a) (leased j m u o f b ∙ ap (λ x. Some x) (sym same))
   where
     leased : (i : ℕ) (n : Link) (t : Slab) (k : Lease) (e : Bool) → slot_in l.slots i ≡ Held n t k e → lease_at l.slots i ≡ Some k.0
@@ -129,7 +129,7 @@ serve_turns M n l (msg.Hello version page_bytes pages_per_slab) page b plain sou
 serve_turns M n l _ page b plain sound untold h stays = (h, stays)
 
 -- the slots that a new round asks stay
-asks_stay : (l : Lender) (used word : ℕ) → IsReached l → ((m : Lender) → IsReached m → AsksStaying m.round m.slots) → host l used word ≡ open_round (measured l used) (asked (measured l used) word) → (i : ℕ) → has (asked (measured l used) word) i ≡ true → is_staying (slot_in l.slots i) ≡ true
+pub asks_stay : (l : Lender) (used word : ℕ) → IsReached l → ((m : Lender) → IsReached m → AsksStaying m.round m.slots) → host l used word ≡ open_round (measured l used) (asked (measured l used) word) → (i : ℕ) → has (asked (measured l used) word) i ≡ true → is_staying (slot_in l.slots i) ≡ true
 asks_stay l used word reached live is i inside =
     let P : Turn → Type 0 = λ t. AsksStaying t.lender.round t.lender.slots in
     let alive : IsLive (opened (asked (measured l used) word) (to_evict (measured l used))) l.slots = subst P is (live (host l used word).lender (reached_more l (Hosts used word) reached)) in

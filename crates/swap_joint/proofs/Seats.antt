@@ -22,7 +22,7 @@ use Rattle.swap_link.specs.Slots.{lease-has, lacks, found, found-lease, marked-f
 use Rattle.swap_joint.specs.Seats.{seat_in, HasSeat, AreSlots, is_done}
 
 -- a seat is in one of the slots
-seat_within : (l : Lender) (n : Link) (k : Lease) (t : Slab) → HasSeat l n k t → slot_of l n k < length l.slots
+pub seat_within : (l : Lender) (n : Link) (k : Lease) (t : Slab) → HasSeat l n k t → slot_of l n k < length l.slots
 seat_within l n k t h = elim (cases_lt (slot_of l n k) (length l.slots)) [ inl within ↦ within | inr past ↦ absurd (none_some (sym (ap seat_in (get_or_past l.slots (slot_of l n k) Free past)) ∙ h.1)) ]
   where
     none_some : {x : Slab × Bool} → None ≡ Some x → ⊥

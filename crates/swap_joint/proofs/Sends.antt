@@ -40,6 +40,7 @@ use Rattle.swap_link.specs.KeepLaws.{unless}
 use Rattle.swap_joint.specs.Order.{is_request}
 use Rattle.swap_joint.specs.Sight.{SameLeases}
 use Rattle.swap_joint.specs.Turn.{AllTurned}
+use Rattle.swap_joint.specs.Allowed.{AllAllowed}
 use Rattle.swap_joint.specs.Stored.{JoinedOf, Joined, AllJoined, MayGiveBack}
 use Rattle.swap_joint.proofs.Sights.{leases_begun, leases_borrowed, leases_asked, leases_stay, sees_enter, sees_parts, sees_itself, still_same, still_reads}
 use Rattle.swap_joint.proofs.Serves.{joined_new}
@@ -174,3 +175,6 @@ new_joins n m s h l within up = absurd (both_ways (is_up (device.new s m).remote
 
 pub new_turned : (n m : ℕ) (s : Sizes) (h : Harbor) → AllTurned n (device.new s m) h
 new_turned n m s h l within up = absurd (both_ways (is_up (device.new s m).remote.links l) (ap (λ (k : LinkState). k.up) (all_down MOST_LENDERS l.0)) up)
+
+pub new_allowed : (n m : ℕ) (s : Sizes) (h : Harbor) → AllAllowed n (device.new s m) h
+new_allowed n m s h l within up = absurd (both_ways (is_up (device.new s m).remote.links l) (ap (λ (k : LinkState). k.up) (all_down MOST_LENDERS l.0)) up)

@@ -283,7 +283,7 @@ written_slabs : (b : Bool) (r : Remote) (p : Page) → (remote.with_page_if b r 
 written_slabs true r p = refl
 written_slabs false r p = refl
 
-written_links : (b : Bool) (r : Remote) (p : Page) → (remote.with_page_if b r p).links ≡ r.links
+pub written_links : (b : Bool) (r : Remote) (p : Page) → (remote.with_page_if b r p).links ≡ r.links
 written_links true r p = refl
 written_links false r p = refl
 
@@ -365,7 +365,7 @@ sent_mapped W d l m q e base (borrow {t = t} within may) = local_apart l m d t (
 sent_mapped W d l m q e base (query {t = t} within may) = local_apart l m d t (Asking (slabs.pair_of l None)) (and_parts (slabs.is_local (state_of d.remote.slabs t)) _ may).0
 sent_mapped W d l m q e base (query_too {t = t} {m = o} within state other may) = asking_apart m d t (Asking (slabs.pair_of o (Some l))) (slabs.pair_of o None) state
 
-sent_up : (W : Within) (d : Device) (l m : Lender) (q : Parcel) (e base : Device) → Sends W d l q e base → (m.0 ≡ l.0 → ⊥) → is_up e.remote.links m ≡ is_up d.remote.links m
+pub sent_up : (W : Within) (d : Device) (l m : Lender) (q : Parcel) (e base : Device) → Sends W d l q e base → (m.0 ≡ l.0 → ⊥) → is_up e.remote.links m ≡ is_up d.remote.links m
 sent_up W d l m q e base (write {p = p} outs is) other = ap (λ (k : LinkState). k.up) (sent-other d.remote.links l m _ other)
 sent_up W d l m q e base (read {p = p} ins within is none at) other = ap (λ (k : LinkState). k.up) (sent-other d.remote.links l m _ other)
 sent_up W d l m q e base (borrow {t = t} within may) other = ap (λ (k : LinkState). k.up) (sent-other d.remote.links l m _ other)
@@ -389,7 +389,7 @@ took_remote d (which.Write q) p ok bytes = wrote_remote d p (queue.flying d.queu
 took_remote d (which.Read c) p true bytes = refl
 took_remote d (which.Read c) p false bytes = refl
 
-back_remote : (d : Device) (taken : Option Taken) → (device.took_back d taken).0.remote ≡ d.remote
+pub back_remote : (d : Device) (taken : Option Taken) → (device.took_back d taken).0.remote ≡ d.remote
 back_remote d None = refl
 back_remote d (Some t) = took_remote d t.done.which t.done.page t.done.ok t.bytes
 

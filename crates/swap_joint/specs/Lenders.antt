@@ -14,6 +14,7 @@ use Rattle.swap_link.specs.Fits.{IsSound}
 use Rattle.swap_link.specs.Harbor.{Harbor, Moves, channel_of, IsFresh}
 use Rattle.swap_joint.specs.Seats.{HasSeat, AreSlots, is_done}
 use Rattle.swap_joint.specs.Turn.{AsksUntold, Lodges}
+use Rattle.swap_joint.specs.Allowed.{AllKnown}
 
 -- a slot that is lent is had by the next lease, and a slot stays a link's, by its lease and for its slab, through each
 -- message that is served but the one that gives it back, and through the lender's own measure of its host
@@ -42,12 +43,14 @@ abbrev pub AllLodge : Harbor → Type 0
 AllLodge h = (l : LenderNo) → l.0 < length h.channels → Lodges (channel_of h l)
 
 -- the lenders by themselves: they have the slots of their specs and are what calls made of them; no slot that a round
--- asks was told to go; and they hold slots for their present links alone
+-- asks was told to go; they hold slots for their present links alone; and each has room for one link, which is its
+-- present one as long as its end stands, and the sizes of its device
 pub record AreSound (h : Harbor) : Type 0 where
   pub whole : AreWhole h
   pub reached : AreReached h
   pub untold : AllUntold h
   pub lodged : AllLodge h
+  pub known : AllKnown h
 
 -- no two held slots of a lender have one lease, or one link and slab, and an open round waits for slots that stay
 pub record AreOwned (l : Lender) : Type 0 where

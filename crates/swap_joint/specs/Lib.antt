@@ -10,3 +10,5 @@ pub mod Owned
 pub mod Sends
 pub mod Turn
 pub mod Lies
+pub mod Allowed
+pub mod Left

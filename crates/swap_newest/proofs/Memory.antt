@@ -23,7 +23,7 @@ module _ (s : Sizes) (n : ℕ) where
   abbrev Of : FabricOf
   Of = record { sizes = s; lenders = n }
 
-  reach_joined : (w : World) (is : List Input) → AllByRecursion (IsInput s n) is → IsSound s n w → Joined n w.device w.harbor → let v : World = reach w is in Joined n v.device v.harbor
+  reach_joined : (w : World) (is : List Input) → AllByRecursion (IsInput s n) is → IsSound s n w → Joined (record { sizes = s; lenders = n }) w.device w.harbor → let v : World = reach w is in Joined (record { sizes = s; lenders = n }) v.device v.harbor
   reach_joined w [] inputs sound joined = joined
   reach_joined w (i ∷ is) inputs sound joined =
       reach_joined (next w i).world is inputs.1 (next_sound s n w i inputs.0 sound)

@@ -15,7 +15,7 @@ use Rattle.swap_table.specs.Goes.{AllAsked}
 use Rattle.swap_table.specs.Happens.{happens}
 use Rattle.swap_joint.specs.Owned.{IsLent}
 use Rattle.swap_joint.specs.Sends.{FindsUp}
-use Rattle.swap_joint.specs.Lies.{is_lied}
+use Rattle.swap_joint.specs.Lies.{is_lied, is_ended}
 use Rattle.swap_world.specs.Runs.{IsRun}
 use Rattle.swap_world.specs.Laws.{AreInputs}
 use Rattle.swap_world.specs.World.{World, IsStep, start, reach}
@@ -25,11 +25,13 @@ abbrev pub AlwaysLent : Type 0
 AlwaysLent = (s : Sizes) (specs : List LenderSpec) (is : List Input) (n : ℕ) → length specs ≤ MOST_LENDERS → AreInputs s specs is → let w : World = reach (start s specs) (take n is) in IsLent w.device w.harbor
 
 -- a device over any disk and lenders in memory: what its lenders hold, and of whatever event comes next, whatever the
--- disk answers, that each send is taken and that no message of a lender is one that it may not send
+-- disk answers, that each send is taken, that no message of a lender is one that it may not send, and that no lender
+-- ends a link by what the device sent
 pub record Holds {D : Type 0} (disk : DiskMeaning D) (d : Device) (k : D) (h : Harbor) : Type 0 where
   pub lent : IsLent d h
   pub taken : (page : List ℕ) (e : Event) → IsInRange d.sizes d.lenders e → AllAsked disk.moves harbor.Moves FindsUp (happens d page e) k h
   pub honest : (i : Input) (s : Seen) (d' : Device) (k' : D) (h' : Harbor) → IsInRange d.sizes d.lenders i.event → IsStep disk.moves harbor.Moves d k h i s d' k' h' → is_lied s ≡ false
+  pub heeded : (i : Input) (s : Seen) (d' : Device) (k' : D) (h' : Harbor) → IsInRange d.sizes d.lenders i.event → IsStep disk.moves harbor.Moves d k h i s d' k' h' → is_ended s ≡ false
 
 -- it holds after every run over a disk that was blank and lenders as they are made
 abbrev pub HoldsAfterEach : {D : Type 0} → DiskMeaning D → Type 0

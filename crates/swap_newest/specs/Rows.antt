@@ -1,10 +1,13 @@
 -- Worlds by hand: with a page at a lender, and such in which the promise doesn't hold.
-use Rattle.std.specs.Prelude.{◌≡◌, ℕ, Bool, true, false, List, [], ◌∷◌, ◌++◌, map, take, replicate, Some}
+use Rattle.std.specs.Prelude.{◌≡◌, ℕ, ◌+◌, Bool, true, false, List, [], ◌∷◌, ◌++◌, length, map, take, replicate, Some}
 use Rattle.std.specs.List.{range_with_len}
 use Rattle.swap_base.specs.declared.Page.{Page}
 use Rattle.swap_base.specs.declared.Lender.{Lender}
 use Rattle.swap_base.specs.declared.Slab.{Slab}
 use Rattle.swap_base.specs.declared.Lease.{Lease}
+use Rattle.swap_base.specs.declared.Caller.{Caller}
+use Rattle.swap_base.specs.declared.DiskWhich.TheVariants as which
+use Rattle.swap_base.specs.declared.geometry.LenderSpec.{LenderSpec}
 use Rattle.swap_base.specs.Sizes.{Sizes}
 use Rattle.swap_record.specs.declared.Op.TheVariants as op
 use Rattle.swap_record.specs.History.{pushed}
@@ -12,7 +15,7 @@ use Rattle.swap_wire.specs.declared.Event.{Event}
 use Rattle.swap_wire.specs.declared.Event.TheVariants as event
 use Rattle.swap_wire.specs.Input.{Input}
 use Rattle.swap_wire.specs.Fabric.{write_parcel}
-use Rattle.swap_slabs.specs.declared.SlabState.TheVariants.{Mapped}
+use Rattle.swap_slabs.specs.declared.SlabState.TheVariants.{Borrowing, Mapped}
 use Rattle.swap_remote.specs.Remote.{has_page, state_for}
 use Rattle.swap_table.specs.Device.{Device}
 use Rattle.swap_lender.specs.declared.SlotState.{SlotState}
@@ -21,10 +24,12 @@ use Rattle.swap_link.specs.Channel.{Channel}
 use Rattle.swap_link.specs.Harbor.{Harbor, channel_of, with_channel}
 use Rattle.swap_joint.specs.Brought.{found}
 use Rattle.swap_joint.specs.Newest.{IsNewest}
-use Rattle.swap_joint.specs.Owned.{IsOwned}
+use Rattle.swap_joint.specs.Owned.{IsOwned, IsLent}
+use Rattle.swap_lender.specs.Lender.{slot_in}
+use Rattle.swap_world.specs.Laws.{AreInputs}
 use Rattle.swap_world.specs.World.{World, start, reach}
 
-abbrev sizes : Sizes
+abbrev pub sizes : Sizes
 sizes = record { page_bytes = 8; pages_per_slab = 4; slabs = 2; queue = 4; callers = 2; window = 4; hot = 20 }
 
 abbrev pub page : Page
@@ -102,3 +107,92 @@ held k = Held (record { 0 = 0 }) slab (record { 0 = k }) false
 
 abbrev pub OwnedCanFail : Type 0
 OwnedCanFail = (IsOwned lent_world.device (with_slots (held 0 ∷ held 1 ∷ [])) → ⊥) × (IsOwned lent_world.device (with_slots (Free ∷ [])) → ⊥)
+
+-- events, after each of which a set bit means that the remote copy is the newest and a lent slab has one owner, with the
+-- bit of a page after each front of them
+pub record IsRow (specs : List LenderSpec) (is : List Input) (p : Page) (bits : List Bool) : Type 0 where
+  pub inputs : AreInputs sizes specs is
+  pub lent : (n : ℕ) → let w : World = reach (start sizes specs) (take n is) in IsLent w.device w.harbor
+  pub bit : map (λ n. has_page (reach (start sizes specs) (take n is)).device.remote p) (range_with_len 0 (length is + 1)) ≡ bits
+
+abbrev pub spec : ℕ → ℕ → ℕ → LenderSpec
+spec slots headroom extra = record { slots = slots; headroom = headroom; extra = extra }
+
+abbrev caller : ℕ → Caller
+caller c = record { 0 = c }
+
+abbrev paged : ℕ → ℕ → ℕ → Input
+paged c p byte = record { event = event.PageOut (caller c) (record { 0 = p }); page = replicate 8 byte }
+
+abbrev give : Input
+give = by (event.Give lender)
+
+abbrev get : Input
+get = by (event.Take lender)
+
+abbrev reads : ℕ → ℕ → Input
+reads c p = by (event.PageIn (caller c) (record { 0 = p }))
+
+abbrev ends : ℕ → Input
+ends c = by (event.Finish (caller c))
+
+abbrev read_ends : ℕ → Input
+read_ends c = by (event.Disk (which.Read (caller c)) true)
+
+abbrev hosts : ℕ → Input
+hosts used = by (event.Host lender used 0)
+
+abbrev cuts : ℕ → ℕ → Input
+cuts to_lender to_device = by (event.Cut lender to_lender to_device)
+
+-- a page goes out to its lender, and to the disk
+abbrev stored : ℕ → List Input
+stored p = by (event.Connect lender) ∷ by (event.Map slab lender) ∷ give ∷ give ∷ get ∷ paged 0 p 170 ∷ give ∷ get ∷ by event.Start ∷ by (event.Disk (which.Write (record { 0 = p })) true) ∷ []
+
+-- the slab is taken back with a read and a write in flight
+abbrev pub revoked : List Input
+revoked =
+    stored 3 ++ hosts 10 ∷ get ∷ give ∷ reads 0 3 ∷ paged 1 2 187 ∷ get ∷ give ∷ give ∷ give ∷ get ∷ give ∷ get ∷ give ∷ ends 0 ∷ reads 0 3 ∷ read_ends 0 ∷ ends 0 ∷ hosts 0 ∷ hosts 0 ∷ hosts 0 ∷ hosts 0 ∷ by (event.Map slab lender) ∷ give ∷ get ∷ []
+
+abbrev pub RevocationInFlight : Type 0
+RevocationInFlight = IsRow (spec 3 1 0 ∷ []) revoked page (replicate 8 false ++ replicate 8 true ++ replicate 19 false)
+
+-- the reply to a read is cut away
+abbrev pub lost_events : List Input
+lost_events = stored 3 ++ reads 0 3 ∷ give ∷ cuts 0 0 ∷ get ∷ ends 0 ∷ read_ends 0 ∷ ends 0 ∷ []
+
+abbrev pub ReplyLost : Type 0
+ReplyLost = IsRow (spec 4 1 1 ∷ []) lost_events page (replicate 8 false ++ replicate 6 true ++ replicate 4 false)
+
+-- the lender crashes, and the device makes a new link before it has read the old one's end
+abbrev pub unread_events : List Input
+unread_events = stored 3 ++ by (event.Crash lender) ∷ reads 0 3 ∷ by (event.Connect lender) ∷ ends 0 ∷ by (event.Map slab lender) ∷ give ∷ give ∷ get ∷ read_ends 0 ∷ ends 0 ∷ []
+
+abbrev pub LossUnread : Type 0
+LossUnread = IsRow (spec 4 1 1 ∷ []) unread_events page (replicate 8 false ++ replicate 5 true ++ replicate 8 false)
+
+-- a write's reply is dropped with a read behind it, which the lender serves all the same
+abbrev pub behind : List Input
+behind = stored 2 ++ paged 0 3 187 ∷ reads 1 2 ∷ give ∷ cuts 1 0 ∷ give ∷ []
+
+abbrev behind_world : World
+behind_world = reach (start sizes (spec 4 1 1 ∷ [])) behind
+
+abbrev pub ReadBehindADroppedReply : Type 0
+ReadBehindADroppedReply =
+    IsRow (spec 4 1 1 ∷ []) behind (record { 0 = 2 }) (replicate 8 false ++ replicate 8 true)
+    × (found sizes (channel_of behind_world.harbor lender) lease page ≡ Some (replicate 8 187))
+    × (found sizes (channel_of behind_world.harbor lender) lease (record { 0 = 2 }) ≡ Some (replicate 8 170))
+
+-- a lease is given back into a list that has ended, and its slab is asked for anew: the slot is still held
+abbrev pub given_up : List Input
+given_up = stored 3 ++ hosts 10 ∷ get ∷ give ∷ cuts 0 1 ∷ get ∷ by (event.Map slab lender) ∷ []
+
+abbrev given_up_world : World
+given_up_world = reach (start sizes (spec 3 1 0 ∷ [])) given_up
+
+abbrev pub DoneIntoAnEndedList : Type 0
+DoneIntoAnEndedList =
+    IsRow (spec 3 1 0 ∷ []) given_up page (replicate 8 false ++ replicate 7 true ++ replicate 2 false)
+    × (state_for sizes given_up_world.device.remote.slabs page ≡ Borrowing lender)
+    × (slot_in (channel_of given_up_world.harbor lender).lender.slots 0 ≡ Held (record { 0 = 0 }) slab lease true)
