@@ -11,6 +11,8 @@ use swap_link::Harbor;
 use swap_sock::{Address, Counts, Door, Host, HostFault, LinkEnd};
 use swap_wire::Msg;
 
+mod loopback;
+
 /// The first bytes that a sink took.
 #[derive(Drop)]
 struct Log {
