@@ -36,7 +36,7 @@ pub enum OptionsRefused {
 /// slab 1 to 65,536 pages, and all slots hold at most 536,870,912 bytes; up to 64 links are served. `Usage` comes only
 /// where the words give no options; want of memory has no further cause.
 #[tactic(auto, using(crate::proofs::Reading::given))]
-pub fn read_lend<'a>(alloc: Global, words: &'a [&'a str]) -> Result<LendOptions, OptionsRefused>
+pub fn read_lend(alloc: Global, words: &[&str]) -> Result<LendOptions, OptionsRefused>
     ensures options { IfOk result (λ options. lend_options (map (λ word. word.now) words.now) ≡ Some options) }
     ensures limits { IfOk result (λ options. keeps_limits options ≡ true) }
     ensures usage { IfErr result (λ why. why ≡ OptionsRefused.Usage → lend_options (map (λ word. word.now) words.now) ≡ None) }
