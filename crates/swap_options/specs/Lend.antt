@@ -1,0 +1,107 @@
+-- The words behind `lend`: what the kit's reader of command lines makes of them, and the options that this gives.
+use Rattle.std.specs.Prelude.{ℕ, ◌*◌, Bool, true, ◌&&◌, ◌==◌, nat_le, if◌then◌else◌, List, [], ◌∷◌, codes, Option, None, Some, option_and_then}
+use Rattle.std.specs.List.{list_any}
+use Rattle.clap.specs.Words.{App, Row, Rule, Text, first_of, matches_of, fault_of, new_app, new_rule, with_rule}
+use Rattle.clap.specs.Kinds.{Kinds}
+use Rattle.swap_base.specs.declared.geometry.LenderSpec.{LenderSpec}
+use Rattle.swap_base.specs.Sizes.{page_lengths, is_within}
+use Rattle.swap_io.specs.Words.{number}
+use Rattle.swap_sock.specs.Addresses.{at_most, address_in}
+use Rattle.swap_sock.specs.declared.address.Address.{Address}
+use Rattle.swap_options.specs.declared.lend.LendOptions.{LendOptions}
+
+-- an option with one value, and one with the value that it has where it isn't given
+abbrev pub option_rule : Text → Rule
+option_rule name = record (new_rule name) { long = Some name }
+
+abbrev pub defaulted : Text → Text → Rule
+defaulted name value = record (option_rule name) { defaults = value ∷ [] }
+
+-- a command of which all words are arguments, without a flag for help
+abbrev pub bare_command : Text → App
+bare_command name = record (new_app name) { top = record (new_app name).top { no_binary_name = true; disable_help_flag = true } }
+
+-- the command behind `lend`
+abbrev pub lend_command : App
+lend_command =
+    with_rule
+    (with_rule
+    (with_rule
+    (with_rule
+    (with_rule
+    (with_rule
+    (with_rule
+    (with_rule (bare_command (codes "lend")) (record (option_rule (codes "listen")) { required = true }))
+    (defaulted (codes "slots") (codes "16")))
+    (defaulted (codes "headroom") (codes "2")))
+    (defaulted (codes "extra") (codes "2")))
+    (defaulted (codes "page-bytes") (codes "4096")))
+    (defaulted (codes "pages-per-slab") (codes "1024")))
+    (defaulted (codes "links") (codes "1")))
+    (defaulted (codes "used") (codes "0"))
+
+-- the highest number of 32 bits
+abbrev pub highest : ℕ
+highest = 4_294_967_295
+
+-- the number that a text spells, where it is one of 32 bits, and the one that an option was given
+abbrev pub number_of : Option Text → Option ℕ
+number_of text = at_most highest (option_and_then number text)
+
+abbrev pub number_at : Text → List Row → Option ℕ
+number_at name rows = number_of (first_of name rows)
+
+abbrev pub spec_of : Option ℕ → Option ℕ → Option ℕ → Option LenderSpec
+spec_of (Some slots) (Some headroom) (Some extra) = Some (record { slots = slots; headroom = headroom; extra = extra })
+spec_of (Some slots) (Some headroom) None = None
+spec_of (Some slots) None extra = None
+spec_of None headroom extra = None
+
+-- what a lender's slots, headroom and extra are given as
+abbrev pub spec_in : List Row → Option LenderSpec
+spec_in rows = spec_of (number_at (codes "slots") rows) (number_at (codes "headroom") rows) (number_at (codes "extra") rows)
+
+abbrev pub options_of : Option Address → Option LenderSpec → Option ℕ → Option ℕ → Option ℕ → Option ℕ → Option LendOptions
+options_of (Some listen) (Some spec) (Some page_bytes) (Some pages_per_slab) (Some links) (Some used) =
+    Some (record { listen = listen; spec = spec; page_bytes = page_bytes; pages_per_slab = pages_per_slab; links = links; used = used })
+options_of (Some listen) (Some spec) (Some page_bytes) (Some pages_per_slab) (Some links) None = None
+options_of (Some listen) (Some spec) (Some page_bytes) (Some pages_per_slab) None used = None
+options_of (Some listen) (Some spec) (Some page_bytes) None links used = None
+options_of (Some listen) (Some spec) None pages_per_slab links used = None
+options_of (Some listen) None page_bytes pages_per_slab links used = None
+options_of None spec page_bytes pages_per_slab links used = None
+
+-- the options that the values spell, whatever their limits
+abbrev pub options_in : List Row → Option LendOptions
+options_in rows =
+    options_of (option_and_then address_in (first_of (codes "listen") rows)) (spec_in rows) (number_at (codes "page-bytes") rows) (number_at (codes "pages-per-slab") rows) (number_at (codes "links") rows) (number_at (codes "used") rows)
+
+-- the limits of a lender, of a device's pages, of what all slots hold and of the links
+abbrev pub keeps_limits : LendOptions → Bool
+keeps_limits o =
+    is_within 1 64 o.spec.slots
+    && nat_le o.spec.headroom 64
+    && nat_le o.spec.extra 64
+    && list_any (λ n. o.page_bytes == n) page_lengths
+    && is_within 1 65_536 o.pages_per_slab
+    && nat_le (o.spec.slots * o.pages_per_slab * o.page_bytes) 536_870_912
+    && nat_le o.links 64
+
+abbrev pub limited : Option LendOptions → Option LendOptions
+limited None = None
+limited (Some o) = if keeps_limits o then Some o else None
+
+abbrev pub unless_at_fault : Kinds → Option LendOptions → Option LendOptions
+unless_at_fault [] options = options
+unless_at_fault (kind ∷ kinds) options = None
+
+-- what the command finds at fault in the words, and what it makes of them
+unfoldable pub lend_faults : List Text → Kinds
+lend_faults words = fault_of lend_command words
+
+unfoldable pub lend_rows : List Text → List Row
+lend_rows words = matches_of lend_command words
+
+-- the options that the words give: the command takes them, and their values spell options within the limits
+abbrev pub lend_options : List Text → Option LendOptions
+lend_options words = unless_at_fault (lend_faults words) (limited (options_in (lend_rows words)))

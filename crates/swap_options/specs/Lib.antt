@@ -1,0 +1,2 @@
+pub mod Lend
+pub mod LendRows
