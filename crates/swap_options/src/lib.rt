@@ -11,3 +11,6 @@ pub use lend::{LendOptions, OptionsRefused, read_lend};
 pub fn rows()
     ensures { LendRows }
 {}
+
+#[cfg(test)]
+mod tests;
