@@ -1,9 +1,10 @@
-//! Lending over a host: a door is opened, so many links are served, and the door goes back.
+//! The commands that may wait. Lending over a host: a door is opened, so many links are served, and the door goes back.
 #![tactic(auto)]
 
 ghost use Rattle.std.specs.Prelude.{◌≡◌, ◌<◌, ◌≤◌, ◌*◌, ◌^◌, ◌++◌, length, decimal};
 ghost use Rattle.swap_lender.specs.Core.{IsLending};
-ghost use Rattle.swap_live.specs.Lending.{served_line, LendEnds};
+ghost use Rattle.swap_run.specs.Clause.{stream};
+ghost use Rattle.swap_live.specs.Lending.{hosting, served_line, LendEnds};
 
 use std::alloc::Global;
 use std::sync::Wait;
@@ -12,6 +13,10 @@ use swap_base::LenderSpec;
 use swap_io::{LineBuf, Sink, write_line};
 use swap_serve::{NodeFault, serve};
 use swap_sock::{Address, Host, HostFault};
+
+mod live;
+
+pub use live::{LiveCommand, live_completes, run_live};
 
 #[cfg(test)]
 mod tests;
@@ -50,7 +55,8 @@ fn put_line(number: usize, line: &mut LineBuf)
 /// Lends at an address of the host: its door's links are served, the door goes back, and `served N links` is written.
 ///
 /// `HostFailed` comes only where the host's count of faults rose in this call, which it does where its door's did, and
-/// `WriteFailed` only where that of `out` did. Before either, and for want of memory, nothing is written.
+/// `WriteFailed` only where that of `out` did. Before either, and for want of memory, nothing is written. Nothing else is
+/// asked of the host, and a door that it gave goes back to it however lending ends.
 pub fn lend<R, H, K>(
     rt: R,
     alloc: Global,
@@ -67,7 +73,9 @@ where
     requires most { offer.now.page_bytes ≤ 4096 }
     requires limits { IsLending (record { spec = offer.now.spec; page_bytes = offer.now.page_bytes; pages_per_slab = offer.now.pages_per_slab; links = offer.now.links }) }
     requires bytes { offer.now.spec.slots * (offer.now.pages_per_slab * offer.now.page_bytes) < 2 ^ 64 }
-    ensures ends { LendEnds H.Entrance.links H.Entrance.Reader.left H.Entrance.Reader.faults H.Entrance.Writer.faults address.now offer.now.page_bytes offer.now.links (H.doors host.old) (H.doors host.new) (record { before = H.faults host.old; now = H.faults host.new }) (record { before = K.taken out.old; now = K.taken out.new; faults = record { before = K.faults out.old; now = K.faults out.new } }) result }
+    ensures ends { LendEnds H.Entrance.links H.Entrance.Reader.left H.Entrance.Reader.faults H.Entrance.Writer.faults address.now offer.now.page_bytes offer.now.links (hosting (H.doors host.old) (H.doors host.new) (H.faults host.old) (H.faults host.new)) (stream (K.taken out.old) (K.taken out.new) (K.faults out.old) (K.faults out.new)) result }
+    ensures disks { H.disks host.new ≡ H.disks host.old }
+    ensures nets { H.nets host.new ≡ H.nets host.old }
     ensures later { H.faults host.old ≤ H.faults host.new }
 {
     let Ok(mut line) = LineBuf::make(alloc) else {

@@ -1,7 +1,7 @@
 -- The words behind `lend`: what the kit's reader of command lines makes of them, and the options that this gives.
-use Rattle.std.specs.Prelude.{ℕ, ◌*◌, Bool, true, ◌&&◌, ◌==◌, nat_le, if◌then◌else◌, List, [], ◌∷◌, codes, Option, None, Some, option_and_then}
+use Rattle.std.specs.Prelude.{ℕ, ◌*◌, Bool, true, ◌&&◌, ◌==◌, nat_le, if◌then◌else◌, List, codes, Option, None, Some, option_and_then}
 use Rattle.std.specs.List.{list_any}
-use Rattle.clap.specs.Words.{App, Row, Rule, Text, first_of, matches_of, fault_of, new_app, new_rule, with_rule}
+use Rattle.clap.specs.Words.{App, Row, Text, first_of, matches_of, fault_of, with_rule}
 use Rattle.clap.specs.Kinds.{Kinds}
 use Rattle.swap_base.specs.declared.geometry.LenderSpec.{LenderSpec}
 use Rattle.swap_base.specs.Sizes.{page_lengths, is_within}
@@ -9,17 +9,7 @@ use Rattle.swap_io.specs.Words.{number}
 use Rattle.swap_sock.specs.Addresses.{at_most, address_in}
 use Rattle.swap_sock.specs.declared.address.Address.{Address}
 use Rattle.swap_options.specs.declared.lend.LendOptions.{LendOptions}
-
--- an option with one value, and one with the value that it has where it isn't given
-abbrev pub option_rule : Text → Rule
-option_rule name = record (new_rule name) { long = Some name }
-
-abbrev pub defaulted : Text → Text → Rule
-defaulted name value = record (option_rule name) { defaults = value ∷ [] }
-
--- a command of which all words are arguments, without a flag for help
-abbrev pub bare_command : Text → App
-bare_command name = record (new_app name) { top = record (new_app name).top { no_binary_name = true; disable_help_flag = true } }
+use Rattle.swap_options.specs.Commands.{option_rule, defaulted, bare_command, unless_at_fault}
 
 -- the command behind `lend`
 abbrev pub lend_command : App
@@ -90,10 +80,6 @@ keeps_limits o =
 abbrev pub limited : Option LendOptions → Option LendOptions
 limited None = None
 limited (Some o) = if keeps_limits o then Some o else None
-
-abbrev pub unless_at_fault : Kinds → Option LendOptions → Option LendOptions
-unless_at_fault [] options = options
-unless_at_fault (kind ∷ kinds) options = None
 
 -- what the command finds at fault in the words, and what it makes of them
 unfoldable pub lend_faults : List Text → Kinds

@@ -1,10 +1,10 @@
-ghost use Rattle.std.specs.Prelude.{◌≡◌, map, true, false, [], Some, None, IfOk, IfErr, option_map, option_and_then};
-ghost use Rattle.clap.specs.Words.{app_of, rule_of, rows_of, found_of, first_of};
+ghost use Rattle.std.specs.Prelude.{◌≡◌, map, true, [], Some, None, IfOk, IfErr, option_map, option_and_then};
+ghost use Rattle.clap.specs.Words.{app_of, rows_of, found_of};
 ghost use Rattle.swap_sock.specs.Addresses.{address_in};
-ghost use Rattle.swap_options.specs.Lend.{lend_command, option_rule, defaulted, number_of, number_at, spec_in, options_in, options_of, keeps_limits, lend_faults, lend_rows, lend_options};
+ghost use Rattle.swap_options.specs.Lend.{lend_command, number_of, number_at, spec_in, options_in, options_of, keeps_limits, lend_faults, lend_rows, lend_options};
 
-use clap::error::ErrorKind;
-use clap::{Arg, ArgMatches, Command};
+use crate::parsing::{OptionsRefused, bare_command, defaulted, option, parsed, text_at};
+use clap::{ArgMatches, Command};
 use std::alloc::{AllocError, Global};
 use swap_base::LenderSpec;
 use swap_io::number;
@@ -20,13 +20,6 @@ pub struct LendOptions {
     pub pages_per_slab: u32,
     pub links: u32,
     pub used: u32,
-}
-
-/// Why words gave no options: they aren't of the command's form, or memory ran out.
-#[derive(Clone, Copy, Debug, PartialEq, Eq)]
-pub enum OptionsRefused {
-    Usage,
-    NoMemory,
 }
 
 /// Reads the words behind `lend`: `--listen ADDRESS` and, each once and with its number in decimal without leading
@@ -54,15 +47,9 @@ fn lend_matches<'a>(alloc: Global, words: &'a [&'a str]) -> Result<ArgMatches<'a
     ensures matches { IfOk result (λ m. rows_of (found_of m) ≡ lend_rows (map (λ word. word.now) words.now)) }
     ensures usage { IfErr result (λ why. why ≡ OptionsRefused.Usage → lend_options (map (λ word. word.now) words.now) ≡ None) }
 {
-    let Ok(command) = lend_command(alloc) else {
-        return Err(OptionsRefused::NoMemory);
-    };
-    match command.try_get_matches_from(words) {
-        Ok(matches) => Ok(matches),
-        Err(error) => match error.kind() {
-            ErrorKind::OutOfMemory => Err(OptionsRefused::NoMemory),
-            _ => Err(OptionsRefused::Usage),
-        },
+    match lend_command(alloc) {
+        Ok(command) => parsed(command, words),
+        Err(_) => Err(OptionsRefused::NoMemory),
     }
 }
 
@@ -70,9 +57,7 @@ fn lend_matches<'a>(alloc: Global, words: &'a [&'a str]) -> Result<ArgMatches<'a
 fn lend_command<'a>(alloc: Global) -> Result<Command<'a>, AllocError>
     ensures { IfOk result (λ c. app_of c ≡ lend_command) }
 {
-    Command::new(alloc, "lend")
-        .no_binary_name(true)
-        .disable_help_flag(true)
+    bare_command(alloc, "lend")
         .arg(option(alloc, "listen").required(true))?
         .arg(defaulted(alloc, "slots", "16"))?
         .arg(defaulted(alloc, "headroom", "2"))?
@@ -81,28 +66,6 @@ fn lend_command<'a>(alloc: Global) -> Result<Command<'a>, AllocError>
         .arg(defaulted(alloc, "pages-per-slab", "1024"))?
         .arg(defaulted(alloc, "links", "1"))?
         .arg(defaulted(alloc, "used", "0"))
-}
-
-/// An option with one value.
-fn option<'a>(alloc: Global, name: &'a str) -> Arg<'a>
-    ensures rule { rule_of result ≡ option_rule name.entry.now }
-    ensures local { result.global ≡ false }
-{
-    Arg::new(alloc, name).long(name)
-}
-
-/// An option with the value that it has where it isn't given.
-fn defaulted<'a>(alloc: Global, name: &'a str, value: &'a str) -> Arg<'a>
-    ensures rule { rule_of result ≡ defaulted name.entry.now value.entry.now }
-    ensures local { result.global ≡ false }
-{
-    option(alloc, name).default_value(value)
-}
-
-fn text_at<'a>(matches: &ArgMatches<'a>, name: &str) -> Option<&'a str>
-    ensures { option_map (λ text. text.now) result ≡ first_of name.now (rows_of (found_of matches.now)) }
-{
-    matches.get_str(name)
 }
 
 fn number_of(text: Option<&str>) -> Option<u32>

@@ -1,12 +1,18 @@
-//! The words behind `lend`: which of them give what a lender lends, and where it listens.
+//! The words behind `lend` and `play`: which of them give what a lender lends and where it listens, and what a trace is
+//! played with.
 #![tactic(auto)]
 
 ghost use Rattle.swap_options.specs.LendRows.{LendRows};
 ghost use Rattle.swap_options.specs.Lendable.{LimitsLetLend};
+ghost use Rattle.swap_options.specs.PlayRows.{PlayRows};
 
 mod lend;
+mod parsing;
+mod play;
 
-pub use lend::{LendOptions, OptionsRefused, read_lend};
+pub use lend::{LendOptions, read_lend};
+pub use parsing::OptionsRefused;
+pub use play::{PlayOptions, read_play};
 
 /// What keeps the limits may be lent: a lender may be made of it, and all its slots' bytes can be counted.
 pub fn limits_let_lend()
@@ -15,7 +21,8 @@ pub fn limits_let_lend()
 
 /// Words and what they give, computed over the definition.
 pub fn rows()
-    ensures { LendRows }
+    ensures lend { LendRows }
+    ensures play { PlayRows }
 {}
 
 #[cfg(test)]

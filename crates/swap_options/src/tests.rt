@@ -1,4 +1,4 @@
-use crate::{LendOptions, OptionsRefused, read_lend};
+use crate::{LendOptions, OptionsRefused, read_lend, read_play};
 use swap_base::LenderSpec;
 use swap_sock::Address;
 
@@ -115,5 +115,85 @@ fn words_give_options_or_are_refused(rt: HostRuntime) {
         ),
     ] {
         assert_eq!(rt; read_lend(rt.alloc(), words), want, "at {what:?}");
+    }
+}
+
+/// 127.0.0.1 and a port.
+fn at(port: u16) -> Address {
+    Address {
+        a: 127,
+        b: 0,
+        c: 0,
+        d: 1,
+        port,
+    }
+}
+
+const EIGHT: &str =
+    "127.0.0.1:1,127.0.0.1:2,127.0.0.1:3,127.0.0.1:4,127.0.0.1:5,127.0.0.1:6,127.0.0.1:7,127.0.0.1:8";
+
+const NINE: &str =
+    "127.0.0.1:1,127.0.0.1:2,127.0.0.1:3,127.0.0.1:4,127.0.0.1:5,127.0.0.1:6,127.0.0.1:7,127.0.0.1:8,127.0.0.1:9";
+
+#[test]
+fn words_give_what_a_trace_is_played_with(rt: HostRuntime) {
+    let none = [].as_slice();
+    let two = [at(1), at(65_535)];
+    let eight = [at(1), at(2), at(3), at(4), at(5), at(6), at(7), at(8)];
+    for (what, words, (number, disk, lenders)) in [
+        ("defaults", [].as_slice(), (1, None, none)),
+        (
+            "all",
+            [
+                "--tcp",
+                "127.0.0.1:1,127.0.0.1:65535",
+                "--disk=a b",
+                "--number",
+                "18446744073709551615",
+            ]
+            .as_slice(),
+            (u64::MAX, Some("a b"), two.as_slice()),
+        ),
+        ("no path", ["--disk", ""].as_slice(), (1, Some(""), none)),
+        (
+            "eight lenders",
+            ["--tcp", EIGHT].as_slice(),
+            (1, None, eight.as_slice()),
+        ),
+    ] {
+        let Ok(options) = read_play(rt.alloc(), words) else {
+            assert!(rt; false, "at {what:?}");
+            return;
+        };
+        assert_eq!(rt; options.number, number, "at {what:?}");
+        assert_eq!(rt; options.disk, disk, "at {what:?}");
+        assert_eq!(rt; options.tcp.is_some(), !lenders.is_empty(), "at {what:?}");
+        if let Some(tcp) = &options.tcp {
+            assert_eq!(rt; tcp.as_slice(), lenders, "at {what:?}");
+        }
+    }
+}
+
+#[test]
+fn other_words_play_nothing(rt: HostRuntime) {
+    for words in [
+        ["--number"].as_slice(),
+        ["--number", "01"].as_slice(),
+        ["--number", "18446744073709551616"].as_slice(),
+        ["--number", "1", "--number", "1"].as_slice(),
+        ["--disk"].as_slice(),
+        ["--disk", "a", "--disk", "b"].as_slice(),
+        ["--tcp", ""].as_slice(),
+        ["--tcp", "127.0.0.1:1,"].as_slice(),
+        ["--tcp", "127.0.0.1:1, 127.0.0.1:2"].as_slice(),
+        ["--tcp", "127.0.0.1"].as_slice(),
+        ["--tcp", NINE].as_slice(),
+        ["--tcp", "127.0.0.1:1", "--tcp", "127.0.0.1:2"].as_slice(),
+        ["--help"].as_slice(),
+        ["--version"].as_slice(),
+        ["a"].as_slice(),
+    ] {
+        let refused = matches!(read_play(rt.alloc(), words), Err(OptionsRefused::Usage));
+        assert!(rt; refused, "at {words:?}");
     }
 }

@@ -12,12 +12,13 @@ mod print;
 mod run;
 mod tell;
 
-pub use run::{run_lab, run_lab_in_blocks};
+pub use run::{run_lab, run_lab_in_blocks, status_of};
 pub use swap_drill::{DrillSummary, drill};
 use swap_newest::always_lent;
 use swap_record::passes_to_prefixes;
 use swap_script::{ScriptRefused, events_in_range, lenders_may_lend, pages_are_whole};
 use swap_world::{always_legal, each_call_once, entries_are_seen};
+pub use tell::tell as tell_ending;
 
 /// What the program's words ask for.
 #[derive(Clone, Copy, Debug, PartialEq, Eq)]

@@ -189,8 +189,8 @@ fn command_of(words: &[&str]) -> Option<Command>
     }
 }
 
-// The status that an ending is told by.
-fn status_of(ending: Ending) -> u8
+/// The status that an ending is told by.
+pub fn status_of(ending: Ending) -> u8
     ensures { result ≡ status_of ending }
 {
     match ending {

@@ -48,7 +48,7 @@ fn tell_refusal<E: Sink>(refused: &ScriptRefused, err: &mut E) -> Result<(), Wri
 }
 
 /// Tells `err` how a call ended; its failures change nothing.
-pub(crate) fn tell<E: Sink>(ending: Ending, err: &mut E)
+pub fn tell<E: Sink>(ending: Ending, err: &mut E)
     ensures { Told (stream (E.taken err.old) (E.taken err.new) (E.faults err.old) (E.faults err.new)) (err_text ending) }
 {
     if let Ending::Refused(refused) = ending {

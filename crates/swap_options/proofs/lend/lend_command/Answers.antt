@@ -1,19 +1,15 @@
 use Rattle.std.proofs.Common.{rules, ap, ap₂, codes, true, ◌≡◌, ◌∙◌}
 use Rattle.std.proofs.lemmas.Result.{IfOk-weaker}
-use Rattle.clap.specs.Words.{App, Rule, app_of, rule_of, with_rule}
-use Rattle.clap.specs.Simple.{app_of_fields}
+use Rattle.clap.specs.Words.{Rule, rule_of, with_rule}
 use Rattle.clap.specs.declared.builder.arg.Arg.{Arg}
-use Rattle.swap_options.specs.Lend.{bare_command, option_rule}
+use Rattle.swap_options.specs.Commands.{option_rule}
 use Rattle.swap_options.proofs.lend.lend_command.Goals as goal
 
 pub returns : goal.returns
 returns c =
-    let base : app_of c.disable_help_flag.result ≡ bare_command (codes "lend") = ap app_of_fields c.disable_help_flag.ensures
-    ∙ ap (λ (a : App). record a { top = record a.top { disable_help_flag = true } }) (ap app_of_fields c.no_binary_name.ensures
-    ∙ ap (λ (a : App). record a { top = record a.top { no_binary_name = true } }) c.new.ensures.app) in
     let listen : rule_of c.required.result ≡ record (option_rule (codes "listen")) { required = true } =
     ap rule_of c.required.ensures ∙ ap (λ (r : Rule). record r { required = true }) c.option.ensures.rule in
-    let one = c.in_ok-arg.ensures.shape (ap (λ (a : Arg). a.global) c.required.ensures ∙ c.option.ensures.local) ∙ ap₂ with_rule base listen in
+    let one = c.in_ok-arg.ensures.shape (ap (λ (a : Arg). a.global) c.required.ensures ∙ c.option.ensures.local) ∙ ap₂ with_rule c.bare_command.ensures listen in
     let two = c.in_ok-arg-2.ensures.shape (search rules) ∙ ap₂ with_rule one c.defaulted.ensures.rule in
     let three = c.in_ok-arg-3.ensures.shape (search rules) ∙ ap₂ with_rule two c.defaulted-2.ensures.rule in
     let four = c.in_ok-arg-4.ensures.shape (search rules) ∙ ap₂ with_rule three c.defaulted-3.ensures.rule in

@@ -1,19 +1,23 @@
-use Rattle.std.proofs.Common.{◌∙◌, map}
-use Rattle.clap.specs.Words.{app_of, found_of, rows_of, kind_of}
-use Rattle.swap_options.proofs.Reading.{faultless, matched, refuses}
+use Rattle.std.proofs.Common.{◌∙◌, sym, map}
+use Rattle.std.proofs.lemmas.Result.{IfOk-weaker, IfErr-weaker}
+use Rattle.clap.specs.Words.{app_of}
+use Rattle.swap_options.proofs.Reading.{lend-may, lend-faults-are, lend-rows-are, lend-refuses}
 use Rattle.swap_options.proofs.lend.lend_matches.Goals as goal
 
-pub returns-in-Ok-try_get_matches_from-clause-faultless : goal.returns-in-Ok-try_get_matches_from-clause-faultless
-returns-in-Ok-try_get_matches_from-clause-faultless c =
-    faultless (app_of c.in-Ok.command) (map (λ w. w.now) c.args.words.now) c.in-Ok.ensures c.in-Ok-try_get_matches_from.ensures.kinds
+pub parsed-requires-clause-simple : goal.parsed-requires-clause-simple
+parsed-requires-clause-simple c = (lend-may (app_of c.in-Ok.command) c.in-Ok.ensures).0
 
-pub returns-in-Ok-try_get_matches_from-clause-matches : goal.returns-in-Ok-try_get_matches_from-clause-matches
-returns-in-Ok-try_get_matches_from-clause-matches c =
-    matched (app_of c.in-Ok.command) (map (λ w. w.now) c.args.words.now) (rows_of (found_of c.in-Ok-try_get_matches_from.matches)) c.in-Ok.ensures (λ s. (c.in-Ok-try_get_matches_from.ensures.matches s).0)
+pub parsed-requires-clause-free : goal.parsed-requires-clause-free
+parsed-requires-clause-free c = (lend-may (app_of c.in-Ok.command) c.in-Ok.ensures).1
 
-pub returns : goal.returns
-returns c = record {
-  faultless = tt;
-  matches = tt;
-  usage = λ _. refuses (app_of c.in-Ok.command) (map (λ w. w.now) c.args.words.now) (kind_of c.in-Err.error) c.in-Ok.ensures (λ x. c.in_default-kind.not-OutOfMemory (c.kind.ensures ∙ x)) c.in-Err.ensures.kinds;
-}
+pub returns-in-Ok-clause-faultless : goal.returns-in-Ok-clause-faultless
+returns-in-Ok-clause-faultless c =
+    IfOk-weaker c.parsed.result _ _ (λ m h. sym (lend-faults-are (app_of c.in-Ok.command) (map (λ w. w.now) c.args.words.now) c.in-Ok.ensures) ∙ h) c.parsed.ensures.faultless
+
+pub returns-in-Ok-clause-matches : goal.returns-in-Ok-clause-matches
+returns-in-Ok-clause-matches c =
+    IfOk-weaker c.parsed.result _ _ (λ m h. h ∙ lend-rows-are (app_of c.in-Ok.command) (map (λ w. w.now) c.args.words.now) c.in-Ok.ensures) c.parsed.ensures.matches
+
+pub returns-in-Ok-clause-usage : goal.returns-in-Ok-clause-usage
+returns-in-Ok-clause-usage c =
+    IfErr-weaker c.parsed.result _ _ (λ why h is. lend-refuses (app_of c.in-Ok.command) (map (λ w. w.now) c.args.words.now) c.in-Ok.ensures (h is)) c.parsed.ensures.usage

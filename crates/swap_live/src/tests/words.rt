@@ -1,0 +1,110 @@
+use super::{Log, REPLIES, host};
+use crate::run_live;
+use std::alloc::Global;
+use std::process::Abort;
+use std::sync::{Arc, Mutex, Wait};
+use std::test::Fail;
+use std::thread::Threads;
+use swap_io::{MemSink, MemSource};
+use swap_sock::{Host, MemHost};
+
+const USAGE: &str = "usage: remswap script|check|drill|play|lend\n";
+
+/// The number of the call that fails, of the host and of `out`.
+#[derive(Clone, Copy, Debug)]
+struct Failing {
+    host: u32,
+    out: u32,
+}
+
+const NONE: Failing = Failing {
+    host: u32::MAX,
+    out: u32::MAX,
+};
+
+/// What a call gave.
+#[derive(Debug, Drop)]
+struct Ran {
+    status: u8,
+    out: MemSink,
+    err: MemSink,
+}
+
+fn run<R, H>(
+    rt: R,
+    alloc: Global,
+    words: &[&str],
+    host: &mut H,
+    failing: Failing,
+) -> Result<Ran, Fail>
+where
+    R: Threads + Wait + Copy + Send + 'static,
+    H: Host,
+{
+    let mut source = MemSource::make(Vec::new(alloc), Vec::new(alloc));
+    let failing = vec![in alloc; failing.out]?;
+    let mut out = MemSink::make(alloc, 64, failing).map_err(|_| "out")?;
+    let mut err = MemSink::make(alloc, 64, Vec::new(alloc)).map_err(|_| "err")?;
+    let status = run_live(rt, alloc, words, &mut source, &mut out, &mut err, host);
+    Ok(Ran { status, out, err })
+}
+
+/// Compares what a call gave with what is wanted on `out`, on `err` and as its status.
+fn judge(rt: &impl Abort, name: &str, ran: &Ran, (out, err, status): (&str, &str, u8)) {
+    assert_eq!(rt; ran.out.bytes(), out.as_bytes(), "out of {name}");
+    assert_eq!(rt; ran.err.bytes(), err.as_bytes(), "err of {name}");
+    assert_eq!(rt; ran.status, status, "status of {name}");
+}
+
+#[test]
+fn words_lend_over_a_door_and_its_sink_takes_the_replies(rt: HostRuntime) -> Result<(), Fail> {
+    let alloc = rt.alloc();
+    let words = [
+        "lend",
+        "--listen",
+        "127.0.0.1:4000",
+        "--slots",
+        "4",
+        "--headroom",
+        "1",
+        "--extra",
+        "1",
+        "--page-bytes",
+        "8",
+        "--pages-per-slab",
+        "4",
+    ];
+    let log = Log {
+        bytes: [0; 64],
+        length: 0,
+    };
+    let log = Arc::new(alloc, Mutex::new(log))?;
+    let mut host = host(rt, alloc, Arc::try_clone(&log)?)?;
+    let ran = run(rt, alloc, &words, &mut host, NONE)?;
+    judge(&rt, "the first call", &ran, ("served 1 links\n", "", 0));
+    assert!(rt; log.lock(&rt).is(&REPLIES));
+    let ran = run(rt, alloc, &words, &mut host, NONE)?;
+    judge(&rt, "a host without a door", &ran, ("", "host failed\n", 8));
+    Ok(())
+}
+
+#[test]
+fn each_status_comes_with_its_words_on_err(rt: HostRuntime) -> Result<(), Fail> {
+    let alloc = rt.alloc();
+    let lend = ["lend", "--listen", "127.0.0.1:4000", "--links", "2"];
+    let first = Failing { host: 0, ..NONE };
+    let write = Failing { out: 0, ..NONE };
+    for (name, words, failing, want) in [
+        ("links", lend.as_slice(), NONE, ("served 2 links\n", "", 0)),
+        ("host", lend.as_slice(), first, ("", "host failed\n", 8)),
+        ("write", lend.as_slice(), write, ("", "write failed\n", 4)),
+        ("no options", ["lend"].as_slice(), NONE, ("", USAGE, 2)),
+        ("play", ["play"].as_slice(), NONE, ("", USAGE, 2)),
+        ("no words", [].as_slice(), NONE, ("", USAGE, 2)),
+    ] {
+        let mut host = MemHost::make(alloc, vec![in alloc; failing.host]?);
+        let ran = run(rt, alloc, words, &mut host, failing)?;
+        judge(&rt, name, &ran, want);
+    }
+    Ok(())
+}
