@@ -22,8 +22,8 @@ use swap_turn::{Pass, TurnLock};
 use swap_wire::{Event, Fabric};
 use swap_world::World;
 
-/// What lets pumps pass, and hears of answers. Both are called outside any turn.
-pub trait Gate {
+/// What lets pumps pass, and hears of answers. Threads share it; both are called outside any turn.
+pub trait Gate: Sync {
     type No: Drop + Send;
 
     fn may_pass(&self, point: Point) -> Result<(), Self::No>;
@@ -251,6 +251,32 @@ impl<D: DiskPort + Drop, F: Fabric + Drop, N: Naming<D, F>> Swap<D, F, N> {
         Ok((swap, passes))
     }
 
+    /// Takes all passes and gives the board. Each pass's entries are those that the board's history has of it. Where a
+    /// pass is missing, all comes back.
+    pub fn into_board(self, passes: Vec<Pass>) -> Result<Board<D, F, N>, (Swap<D, F, N>, Vec<Pass>)>
+        requires { All (IsFreeOf self) passes.items }
+        ensures refused { IsErr result ↔ (length passes.items < self.seats) }
+        ensures kept { IfErr result (λ r. (r.0 ≡ self) × (r.1 ≡ passes)) }
+        ensures mine { IfOk result (λ b. All (λ p. p.mine ≡ entries_of p.number b.world.core.device.history) passes.items) }
+    {
+        let Swap {
+            lock,
+            lenders,
+            calls,
+        } = self;
+        match lock.close(passes) {
+            Ok(board) => Ok(board),
+            Err((lock, passes)) => {
+                let swap = Swap {
+                    lock,
+                    lenders,
+                    calls,
+                };
+                Err((swap, passes))
+            }
+        }
+    }
+
     /// Takes all passes and gives the world. Each pass's entries are those that the world's history has of it. Where a
     /// pass is missing, all comes back.
     pub fn close(self, passes: Vec<Pass>) -> Result<World<D, F>, (Swap<D, F, N>, Vec<Pass>)>
@@ -260,21 +286,9 @@ impl<D: DiskPort + Drop, F: Fabric + Drop, N: Naming<D, F>> Swap<D, F, N> {
         ensures mine { IfOk result (λ w. All (λ p. p.mine ≡ entries_of p.number w.core.device.history) passes.items) }
         ensures played { IfOk result (λ w. IsPlayed D.moves F.moves N.named w) }
     {
-        let Swap {
-            lock,
-            lenders,
-            calls,
-        } = self;
-        match lock.close(passes) {
+        match self.into_board(passes) {
             Ok(board) => Ok(board.into_world()),
-            Err((lock, passes)) => {
-                let swap = Swap {
-                    lock,
-                    lenders,
-                    calls,
-                };
-                Err((swap, passes))
-            }
+            Err(back) => Err(back),
         }
     }
 }

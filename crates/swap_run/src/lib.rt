@@ -12,7 +12,8 @@ mod print;
 mod run;
 mod tell;
 
-pub use run::{run_lab, run_lab_in_blocks, status_of};
+pub use print::print_headers;
+pub use run::{hand_on_rest, has_failed, lenders_of, run_lab, run_lab_in_blocks, status_of};
 pub use swap_drill::{DrillSummary, drill};
 use swap_newest::always_lent;
 use swap_record::passes_to_prefixes;

@@ -31,8 +31,8 @@ fn print_lenders<K: Sink>(
     Ok(())
 }
 
-// Writes the header lines: the geometry, and the lenders.
-fn print_headers<K: Sink>(
+/// Writes the header lines: the geometry, and the lenders.
+pub fn print_headers<K: Sink>(
     geometry: &Geometry,
     lenders: &[LenderSpec],
     line: &mut LineBuf,

@@ -48,7 +48,7 @@ fn has_failed(history: &Record) -> bool
 }
 
 /// The lenders of a script.
-fn lenders_of(alloc: Global, script: &Script<'_>) -> Result<Vec<LenderSpec>, NoMemory>
+pub fn lenders_of(alloc: Global, script: &Script<'_>) -> Result<Vec<LenderSpec>, NoMemory>
     ensures lenders { IfOk result (λ lenders. lenders.items ≡ script.now.lenders) }
     ensures limits { IfOk result (λ lenders. All IsWithinLimits lenders.items) }
 {
@@ -251,8 +251,8 @@ fn is_whole(ending: Ending) -> bool
     matches!(ending, Ending::Done | Ending::Faulted | Ending::NotLegal)
 }
 
-// Hands on what is left of what was written. Where another sink took nothing of it there is none.
-pub(crate) fn hand_on_rest<K: Sink + Drop>(ending: Ending, out: &mut BlockSink<K>) -> Ending
+/// Hands on what is left of what was written. Where another sink took nothing of it there is none.
+pub fn hand_on_rest<K: Sink + Drop>(ending: Ending, out: &mut BlockSink<K>) -> Ending
     ensures { HandsOn ending out.old out.new result }
 {
     if !is_whole(ending) {
