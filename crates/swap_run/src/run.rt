@@ -35,7 +35,7 @@ fn is_failed(op: Op) -> bool
 }
 
 /// Whether some call of a history failed.
-fn has_failed(history: &Record) -> bool
+pub fn has_failed(history: &Record) -> bool
     ensures { result ≡ has_failed history.now.history }
 {
     let len = history.len();
