@@ -34,7 +34,8 @@ pub(crate) fn connect_all<D: DiskPort, F: Fabric>(
     requires page { length page.old ≡ world.old.core.device.sizes.page_bytes }
     ensures { OnOk result (Connects D.moves F.moves world.old.core.device.lenders world.old world.new) }
 {
-    'lenders: for lender in 0..world.lenders() {
+    let lenders = world.lenders();
+    'links: for lender in 0..lenders {
         connect(world, page, Lender(lender))?;
     }
     Ok(())

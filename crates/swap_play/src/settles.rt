@@ -76,7 +76,7 @@ fn are_quiet<D: DiskPort, F: Fabric, N: Naming<D, F>>(
     board.is_named();
     let lenders = board.world().lenders();
     let mut quiet = true;
-    'lenders: for lender in 0..lenders {
+    'links: for lender in 0..lenders {
         let here = is_quiet_at(board, Lender(lender))?;
         quiet = quiet && here;
     }
