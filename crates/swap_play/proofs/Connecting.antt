@@ -1,17 +1,13 @@
 -- Links are made one after another.
-use Rattle.std.proofs.Common.{◌≡◌, ◌+◌, ◌<◌, ◌≤◌, ℕ, true, List, [], ◌∷◌, refl, sym, ap, subst}
-use Rattle.swap_base.specs.declared.Lender.{Lender}
-use Rattle.swap_wire.specs.Input.{Input, IsInRange}
+use Rattle.std.proofs.Common.{◌≡◌, ◌+◌, ℕ, true, List, [], ◌∷◌, refl, arith}
 use Rattle.swap_wire.specs.declared.Seen.{Seen}
 use Rattle.swap_wire.specs.declared.Event.TheVariants as event
 use Rattle.swap_wire.specs.Fabric.{FabricCall, FabricAnswer}
 use Rattle.swap_disk.specs.Port.{DiskCall, DiskAnswer}
-use Rattle.swap_table.specs.Device.{Device}
 use Rattle.swap_world.specs.Runs.{WorldOf, has_effect}
-use Rattle.swap_board.specs.Acts.{Operator}
 use Rattle.swap_board.specs.Works.{IsSame, Works}
 use Rattle.swap_board.proofs.Working.{works_on, works_same, works_after}
-use Rattle.swap_play.specs.Connects.{connect, AreConnects, none, more, Connects, ConnectsOne}
+use Rattle.swap_play.specs.Connects.{connect, none, more, Connects, ConnectsOne}
 
 module _ {D F : Type 0} (disk_moves : D → (c : DiskCall) → DiskAnswer c → D → Type 0) (moves : F → (c : FabricCall) → FabricAnswer c → F → Type 0) where
   pub connects_none : (w : WorldOf D F) → Connects disk_moves moves 0 w w

@@ -1,12 +1,9 @@
 -- What a board that has ended shows of its trace.
-use Rattle.std.proofs.Common.{◌≡◌, ◌+◌, ◌<◌, ◌≤◌, ℕ, Bool, true, List, [], ◌∷◌, length, take, reverse, is_some, refl, sym, ap, ◌∙◌, subst, arith, Option, None, Some}
+use Rattle.std.proofs.Common.{◌≡◌, ◌<◌, ◌≤◌, ℕ, Bool, false, length, reverse, is_some, sym, ap, ◌∙◌, subst, arith, Some, Result, Ok, Err}
+use Rattle.std.specs.Prelude.{IfOk, OnOk, is_err}
+use Rattle.swap_base.specs.declared.NoMemory.{NoMemory}
 use Rattle.std.proofs.lemmas.List.{reverse-reverse, take_all}
 use Rattle.swap_base.specs.Sizes.{Sizes}
-use Rattle.swap_base.specs.declared.Caller.{Caller}
-use Rattle.swap_calls.specs.Calls.{is_idle, state_of}
-use Rattle.swap_wire.specs.Input.{Input}
-use Rattle.swap_wire.specs.declared.Event.{Event}
-use Rattle.swap_wire.specs.declared.Seen.{Seen}
 use Rattle.swap_wire.specs.Fabric.{FabricCall, FabricAnswer, FabricOf}
 use Rattle.swap_wire.specs.declared.fabric.Fabric.{Ghosts as FabricMeaning}
 use Rattle.swap_disk.specs.Port.{DiskCall, DiskAnswer}
@@ -18,13 +15,13 @@ use Rattle.swap_table.specs.Promises.{FollowsItsMoves, Promises}
 use Rattle.swap_trace.specs.Traces.{calls_in, operators_in}
 use Rattle.swap_turn.specs.Turns.{entries_of}
 use Rattle.swap_world.specs.Answered.{AnswersAll, AnswersEach, calls_of}
-use Rattle.swap_world.specs.Runs.{WorldOf, IsReached, made_of, logged_of}
+use Rattle.swap_world.specs.Runs.{WorldOf, IsReached, made_of}
 use Rattle.swap_world.specs.Laws.{Began, Holds, HoldsAfterEach}
 use Rattle.swap_world.proofs.Reached.{reached_known}
-use Rattle.swap_board.specs.Acts.{AreMade, Makes, operated}
-use Rattle.swap_board.specs.Boards.{Named, IsBoard, seed_of}
+use Rattle.swap_board.specs.Acts.{Makes}
+use Rattle.swap_board.specs.Boards.{Named}
 use Rattle.swap_play.specs.Callers.{HavePlayed, calls_logged, events_of}
-use Rattle.swap_play.specs.Playing.{AreIdle, LogTells, IsEnded, IsActedOut, IsCarriedOut}
+use Rattle.swap_play.specs.Playing.{LogTells, IsEnded, IsActedOut, IsCarriedOut}
 use Rattle.swap_play.specs.Settles.{Settles}
 use Rattle.swap_play.proofs.Calling.{called_all}
 use Rattle.swap_play.proofs.Logging.{run_not_busy, written_calls, calls_own}
@@ -69,7 +66,19 @@ module _ {D F : Type 0} (disk_moves : D → (c : DiskCall) → DiskAnswer c → 
       record {
         acted = subst P is_number (acted_out n t connected w opening operator ended);
         answered = played;
-        called = λ c within. let there = omega (arith, within, callers) in tells c (calls_in c t).inputs there (ended.idle c there) (own_calls c t.inputs) (played c within);
-        idle = λ c within. ended.idle c (omega (arith, within, callers));
+        called = λ c within. let there : c.0 < w.core.device.sizes.callers = omega (arith, within, callers) in tells c (calls_in c t).inputs there (ended.idle c there) (own_calls c t.inputs) (played c within);
+        idle = λ c within. let there : c.0 < w.core.device.sizes.callers = omega (arith, within, callers) in ended.idle c there;
         settles = subst Q lenders ended.settles;
       }
+
+  -- so of what ending the board answers
+  pub carried_ok : (r : Result (WorldOf D F) NoMemory) (n : Named D F) (t : Script) (number : ℕ) (connected : WorldOf D F) (H : History) → n.opening ≡ Some connected → n.operator ≡ events_of (operators_in t).inputs → n.number ≡ number → n.sizes ≡ t.sizes → n.lenders ≡ length t.lenders
+      → IfOk r (IsEnded disk_moves moves n) → IfOk r (λ w. LogTells w) → IfOk r (λ w. w.core.device.history ≡ H) → HavePlayed t H → IfOk r (IsCarriedOut disk_moves moves t number connected)
+  carried_ok (Ok w) n t number connected H opening operator is_number sizes lenders ended tells same played =
+      carried_out n t number connected w opening operator is_number sizes lenders ended tells (subst (HavePlayed t) (sym same) played)
+  carried_ok (Err e) n t number connected H opening operator is_number sizes lenders ended tells same played = tt
+
+-- what holds where a call succeeds, of one that did
+pub succeeded : {A E : Type 0} {P : Type 0} (r : Result A E) → is_err r ≡ false → OnOk r P → P
+succeeded (Ok x) is holds = holds
+succeeded (Err e) is holds = cc

@@ -1,12 +1,10 @@
 -- The calls of a caller in a log are those of the run that wrote it.
-use Rattle.std.proofs.Common.{◌≡◌, ◌++◌, ◌&&◌, not, ℕ, Bool, true, false, List, [], ◌∷◌, cond, map, reverse, refl, sym, ap, ◌∙◌, subst, Option, None, Some}
-use Rattle.std.proofs.lemmas.List.{append_assoc, append-nil, reverse-append, reverse-reverse}
+use Rattle.std.proofs.Common.{◌≡◌, ◌++◌, ◌&&◌, not, Bool, true, false, List, [], ◌∷◌, cond, reverse, refl, sym, ap, ◌∙◌}
+use Rattle.std.proofs.lemmas.List.{append-nil, reverse-append}
 use Rattle.std.specs.List.{AllByRecursion}
-use mathlib.Core.List.{reverse_aux}
 use Rattle.swap_base.specs.declared.Caller.{Caller}
 use Rattle.swap_wire.specs.Input.{Input}
 use Rattle.swap_wire.specs.declared.Event.{Event}
-use Rattle.swap_wire.specs.declared.Event.TheVariants as event
 use Rattle.swap_wire.specs.declared.Seen.{Seen}
 use Rattle.swap_wire.specs.declared.Seen.TheVariants as seen
 use Rattle.swap_wire.specs.Fabric.{FabricCall, FabricAnswer}
@@ -15,7 +13,7 @@ use Rattle.swap_table.specs.Device.{Device}
 use Rattle.swap_table.specs.declared.DiskStep.{DiskStep}
 use Rattle.swap_world.specs.Answered.{is_call_of, is_busy, with_call, calls_of}
 use Rattle.swap_world.specs.Rounds.{is_part}
-use Rattle.swap_world.specs.Runs.{IsRun, begin, effect, without, polled, with_polled, has_effect, Written, Alone, Together, HasParts, made_in, made_of, logged_of}
+use Rattle.swap_world.specs.Runs.{IsRun, begin, effect, without, polled, with_polled, has_effect, Written, Alone, Together, HasParts, made_of, logged_of}
 use Rattle.swap_world.proofs.Parts.{part_no_call}
 use Rattle.swap_play.specs.Callers.{calls_logged, events_of}
 use Rattle.swap_play.proofs.Calling.{AreOf}
@@ -49,21 +47,21 @@ module _ {D F : Type 0} (disk_moves : D → (c : DiskCall) → DiskAnswer c → 
   run_not_busy made d k f (without {made = before} {d = e} {k = ke} {f = fe} i s k' f' run range step has) = run_not_busy made d ke fe run
   run_not_busy made d k f (polled {made = before} {d = e} {k = ke} {f = fe} step d' k' f' run along) = polled_not_busy step before (run_not_busy before e ke fe run)
 
+one_logged : (b : Bool) (e : Event) (whole first rest : List Event) → whole ≡ first ++ rest → cond b (e ∷ whole) whole ≡ cond b (e ∷ first) first ++ rest
+one_logged true e whole first rest same = ap (λ l. e ∷ l) same
+one_logged false e whole first rest same = same
+
 calls_logged-append : (c : Caller) (log later : List (Event × Seen)) → calls_logged c (log ++ later) ≡ calls_logged c log ++ calls_logged c later
 calls_logged-append c [] later = refl
-calls_logged-append c ((e, s) ∷ log) later = go (is_call_of c e)
-  where
-    go : (b : Bool) → cond b (e ∷ calls_logged c (log ++ later)) (calls_logged c (log ++ later)) ≡ cond b (e ∷ calls_logged c log) (calls_logged c log) ++ calls_logged c later
-    go true = ap (λ l. e ∷ l) (calls_logged-append c log later)
-    go false = calls_logged-append c log later
+calls_logged-append c ((e, s) ∷ log) later = one_logged (is_call_of c e) e (calls_logged c (log ++ later)) (calls_logged c log) (calls_logged c later) (calls_logged-append c log later)
 
 parts_no_calls : (c : Caller) (parts made : List (Input × Seen)) → AllByRecursion (λ (m : Input × Seen). is_part m.0.event ≡ true) parts → calls_of c (parts ++ made) ≡ calls_of c made
 parts_no_calls c [] made all = refl
 parts_no_calls c ((i, s) ∷ parts) made all = go (is_call_of c i.event) (part_no_call c i.event all.0) ∙ parts_no_calls c parts made all.1
   where
     go : (b : Bool) → b ≡ false → cond (b && not (is_busy s)) (i ∷ calls_of c (parts ++ made)) (calls_of c (parts ++ made)) ≡ calls_of c (parts ++ made)
-    go true no = cc
-    go false no = refl
+    go true none = cc
+    go false none = refl
 
 later_not_busy : (parts made : List (Input × Seen)) → NoneBusy (parts ++ made) → NoneBusy made
 later_not_busy [] made none = none
@@ -75,9 +73,9 @@ alone_logged c i s rest log idle same =
     go (is_call_of c i.event) (is_busy s) idle ∙ sym (ap (λ l. reverse l) (calls_logged-append c log ((i.event, s) ∷ [])) ∙ reverse-append (calls_logged c log) (calls_logged c ((i.event, s) ∷ [])))
   where
     go : (b busy : Bool) → busy ≡ false → events_of (cond (b && not busy) (i ∷ rest) rest) ≡ reverse (cond b (i.event ∷ []) []) ++ reverse (calls_logged c log)
-    go true true no = cc
-    go true false no = ap (λ l. i.event ∷ l) same
-    go false busy no = same
+    go true true none = cc
+    go true false none = ap (λ l. i.event ∷ l) same
+    go false busy none = same
 
 pub written_calls : (c : Caller) (written : List Written) → AllByRecursion HasParts written → NoneBusy (made_of written) → events_of (calls_of c (made_of written)) ≡ reverse (calls_logged c (logged_of written))
 written_calls c [] parts none = refl
@@ -87,12 +85,12 @@ written_calls c (Together word mapped inner ∷ written) parts none =
     ∙ written_calls c written parts.1 (later_not_busy inner (made_of written) none)
     ∙ ap (λ l. reverse l) (sym (calls_logged-append c (logged_of written) _ ∙ append-nil (calls_logged c (logged_of written))))
 
+own_more : (c : Caller) (i : Input) (rest : List Input) (b busy : Bool) → is_call_of c i.event ≡ b → AreOf c rest → AreOf c (cond (b && not busy) (i ∷ rest) rest)
+own_more c i rest true true is own = own
+own_more c i rest true false is own = (is, own)
+own_more c i rest false busy is own = own
+
 -- what counts as a caller's call is its own
 pub calls_own : (c : Caller) (made : List (Input × Seen)) → AreOf c (calls_of c made)
 calls_own c [] = tt
-calls_own c ((i, s) ∷ made) = go (is_call_of c i.event) (is_busy s) refl
-  where
-    go : (b busy : Bool) → is_call_of c i.event ≡ b → AreOf c (cond (b && not busy) (i ∷ calls_of c made) (calls_of c made))
-    go true true is = calls_own c made
-    go true false is = (is, calls_own c made)
-    go false busy is = calls_own c made
+calls_own c ((i, s) ∷ made) = own_more c i (calls_of c made) (is_call_of c i.event) (is_busy s) refl (calls_own c made)

@@ -1,5 +1,5 @@
 -- A call that was answered has its entry.
-use Rattle.std.proofs.Common.{◌≡◌, ◌==◌, ◌<◌, ℕ, Bool, true, false, List, [], ◌∷◌, cond, refl, sym, ap, ◌∙◌, subst, arith, Option, Result, Ok, Err}
+use Rattle.std.proofs.Common.{◌≡◌, ◌==◌, ℕ, Bool, true, false, List, [], ◌∷◌, cond, refl, sym, ap, ◌∙◌, subst, arith, Result, Ok, Err}
 use Rattle.std.specs.List.{AllByRecursion, filter}
 use Rattle.std.proofs.lemmas.Bool.Decides.{nat_tests}
 use Rattle.swap_base.specs.declared.EntryNo.{EntryNo}
@@ -8,15 +8,13 @@ use Rattle.swap_base.specs.declared.Page.{Page}
 use Rattle.swap_wire.specs.Input.{Input}
 use Rattle.swap_wire.specs.declared.Event.{Event}
 use Rattle.swap_wire.specs.declared.Event.TheVariants as event
-use Rattle.swap_record.specs.History.{History, Row}
 use Rattle.swap_script.specs.Reading as reading
 use Rattle.swap_turn.specs.Standing.{Standing}
-use Rattle.swap_board.specs.Boards.{IsAnswered}
 use Rattle.swap_player.specs.declared.paging.SwapFault.{SwapFault}
 use Rattle.swap_player.specs.declared.paging.SwapFault.TheVariants as fault
 use Rattle.swap_player.specs.declared.paging.Ended.{Ended}
 use Rattle.swap_player.specs.Turns.{Answered, PagesBy, PagesAs}
-use Rattle.swap_play.specs.Callers.{PlaysOne, Plays, is_answer, caller}
+use Rattle.swap_play.specs.Callers.{PlaysOne, is_answer, caller}
 
 one_of : (e : Event) (page : List ℕ) (ended : Ended) (p q : Standing) → Answered e page ended p q → PlaysOne e page p.mine q.mine
 one_of e page ended p q a = (a.row, a.answers, a.mine)
@@ -43,11 +41,11 @@ paged_in calls callers c of page answer p q own pages is =
     let P : Caller → Type 0 = λ x. PlaysOne (event.PageIn x of) page p.mine q.mine in
     subst P (same_caller p.number c own) (paged calls callers (event.PageIn (caller p.number) of) page answer p q pages is)
 
+own_more : (c : Caller) (i : Input) (rest : List Input) (b : Bool) → reading.is_call_of c i.event ≡ b → AllByRecursion (λ (x : Input). reading.is_call_of c x.event ≡ true) rest → AllByRecursion (λ (x : Input). reading.is_call_of c x.event ≡ true) (cond b (i ∷ rest) rest)
+own_more c i rest true own all = (own, all)
+own_more c i rest false own all = all
+
 -- a caller's calls are its own
 pub own_calls : (c : Caller) (is : List Input) → AllByRecursion (λ (i : Input). reading.is_call_of c i.event ≡ true) (filter (λ (i : Input). reading.is_call_of c i.event) is)
 own_calls c [] = tt
-own_calls c (i ∷ is) = go (reading.is_call_of c i.event) refl
-  where
-    go : (b : Bool) → reading.is_call_of c i.event ≡ b → AllByRecursion (λ (x : Input). reading.is_call_of c x.event ≡ true) (cond b (i ∷ filter (λ (x : Input). reading.is_call_of c x.event) is) (filter (λ (x : Input). reading.is_call_of c x.event) is))
-    go true own = (own, own_calls c is)
-    go false own = own_calls c is
+own_calls c (i ∷ is) = own_more c i (filter (λ (x : Input). reading.is_call_of c x.event) is) (reading.is_call_of c i.event) refl (own_calls c is)

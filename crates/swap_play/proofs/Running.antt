@@ -1,5 +1,5 @@
 -- Acts behind a run are a run.
-use Rattle.std.proofs.Common.{◌≡◌, ◌+◌, ◌≤◌, ℕ, Bool, true, false, List, [], ◌∷◌, ◌++◌, length, refl, sym, ap, ◌∙◌, subst, arith, is_some, Option, None, Some}
+use Rattle.std.proofs.Common.{◌≡◌, ◌+◌, ℕ, Bool, true, false, List, [], ◌∷◌, ◌++◌, length, refl, sym, ap, ◌∙◌, subst, arith, Option, None, Some}
 use Rattle.std.proofs.lemmas.List.{append-nil, append_assoc}
 use Rattle.std.specs.List.{AllByRecursion}
 use Rattle.swap_base.specs.Sizes.{Sizes}
@@ -7,25 +7,23 @@ use Rattle.swap_wire.specs.Input.{Input, IsInRange}
 use Rattle.swap_wire.specs.declared.Event.{Event}
 use Rattle.swap_wire.specs.declared.Event.TheVariants as event
 use Rattle.swap_wire.specs.declared.Seen.{Seen}
-use Rattle.swap_wire.specs.Fabric.{FabricCall, FabricAnswer, FabricOf}
+use Rattle.swap_wire.specs.Fabric.{FabricOf}
 use Rattle.swap_wire.specs.declared.fabric.Fabric.{Ghosts as FabricMeaning}
-use Rattle.swap_disk.specs.Port.{DiskCall, DiskAnswer}
 use Rattle.swap_disk.specs.declared.port.DiskPort.{Ghosts as DiskMeaning}
 use Rattle.swap_slabs.specs.Slabs.{mapped}
 use Rattle.swap_table.specs.Device.{Device, new, disk_take, of_device}
 use Rattle.swap_table.specs.Happens.{see_disk}
 use Rattle.swap_table.specs.Ports.{Along}
 use Rattle.swap_table.specs.declared.DiskStep.{DiskStep}
-use Rattle.swap_table.specs.Comes.{ComesTo}
 use Rattle.swap_table.specs.Promises.{FollowsItsMoves, Promises}
 use Rattle.swap_world.specs.World.{IsStep, IsEvent}
-use Rattle.swap_world.specs.Rounds.{round_plan, rounded, is_part, AlongPlan}
-use Rattle.swap_world.specs.Runs.{IsRun, begin, effect, without, polled, has_effect, event_of, made_with, with_polled, Written, Alone, Together, written_with, HasParts, made_of, logged_of}
+use Rattle.swap_world.specs.Rounds.{round_plan, rounded, AlongPlan}
+use Rattle.swap_world.specs.Runs.{IsRun, effect, without, polled, has_effect, event_of, made_with, Written, Alone, Together, written_with, HasParts, made_of, logged_of}
 use Rattle.swap_world.specs.Laws.{Began}
 use Rattle.swap_world.proofs.Effects.{comes_to_stays}
 use Rattle.swap_world.proofs.Parts.{AreParts, round_parts, splits, Splits, by_program, by_plan, Ran, plan_runs}
-use Rattle.swap_world.proofs.Steps.{Known, step_comes, run_known}
-use Rattle.swap_board.specs.Acts.{Act, Made, Polled, IsActed, opens, makes, polls, line_if, line_with, lines_of}
+use Rattle.swap_world.proofs.Steps.{step_comes, run_known}
+use Rattle.swap_board.specs.Acts.{Act, IsActed, opens, makes, polls, line_if, line_with, lines_of}
 use Rattle.swap_play.specs.Running.{RunsTo, ActsAreRuns}
 
 polled_logged : (written : List Written) (e : Option Event) (s : Seen) → logged_of written ++ line_with e s ≡ logged_of (written_with e s written)

@@ -1,5 +1,5 @@
 -- What the passes of all seats show, when they are back.
-use Rattle.std.proofs.Common.{◌≡◌, ◌+◌, ◌<◌, ◌≤◌, ℕ, zero, suc, Bool, true, List, [], ◌∷◌, length, map, get_or, refl, sym, ap, ◌∙◌, subst, arith}
+use Rattle.std.proofs.Common.{◌≡◌, ◌+◌, ◌<◌, ℕ, zero, suc, Bool, true, List, [], length, map, get_or, refl, sym, ap, ◌∙◌, subst, arith}
 use Rattle.std.specs.Prelude.{All, slice_index_or}
 use Rattle.std.proofs.lemmas.List.{get_or-map, length-map}
 use Rattle.std.proofs.lemmas.List.Elements.{All-map}
@@ -21,15 +21,16 @@ number_at a (suc n) zero d less = let none : a ≡ a + 0 = omega arith in none
 number_at a (suc n) (suc i) d less = let later = number_at (suc a) n i d (omega (arith, less)) in let same : suc a + i ≡ a + suc i = omega arith in later ∙ same
 
 pub seat_count : (lock : LockId) (s : Sizes) (lenders : ℕ) (ps : List Standing) → AreSeats lock s lenders ps → length ps ≡ s.callers + lenders + 2
-seat_count lock s lenders ps seats = ap length seats.newcomers ∙ length-map (newcomer lock []) (numbers_from 0 (s.callers + lenders + 2)) ∙ length_numbers 0 (s.callers + lenders + 2)
+seat_count lock s lenders ps seats = ap length seats.newcomers ∙ length-map (numbers_from 0 (s.callers + lenders + 2)) (newcomer lock []) ∙ length_numbers 0 (s.callers + lenders + 2)
 
 pub seat_at : (lock : LockId) (s : Sizes) (lenders : ℕ) (ps : List Standing) (i : ℕ) (d : Standing) → AreSeats lock s lenders ps → i < s.callers + lenders + 2 → slice_index_or ps i d ≡ newcomer lock [] i
 seat_at lock s lenders ps i d seats less =
     let count = s.callers + lenders + 2 in
     let len : length (numbers_from 0 count) ≡ count = length_numbers 0 count in
+    let zero_more : 0 + i ≡ i = omega arith in
     ap (λ l. slice_index_or l i d) seats.newcomers
     ∙ get_or-map (newcomer lock []) (numbers_from 0 count) i 0 d (omega (arith, less, len))
-    ∙ ap (newcomer lock []) (number_at 0 count i 0 less)
+    ∙ ap (newcomer lock []) (number_at 0 count i 0 less ∙ zero_more)
 
 -- each seat has a number of its own below their count
 pub seats_in : (lock : LockId) (s : Sizes) (lenders : ℕ) (ps : List Standing) → AreSeats lock s lenders ps → All (λ (p : Standing). IsFreeOf lock p × (p.number < s.callers + lenders + 2)) ps
@@ -61,7 +62,7 @@ have_played lock s lenders t ps overs H same seats len each done mine c within =
     let number : p.number ≡ c.0 = ap (λ (x : Standing). x.number) is in
     let none : p.mine ≡ [] = ap (λ (x : Standing). x.mine) is in
     let plays : Plays (calls_in (caller p.number) t).inputs p.mine o.0.mine = over.plays (done c.0 d back) (subst (λ n. n < t.sizes.callers) (sym number) within) in
-    let long : c.0 < length (map (λ (x : Standing × Bool). x.0) overs) = let l = length-map (λ (x : Standing × Bool). x.0) overs in omega (arith, back, l) in
+    let long : c.0 < length (map (λ (x : Standing × Bool). x.0) overs) = let l = length-map overs (λ (x : Standing × Bool). x.0) in omega (arith, back, l) in
     let at : slice_index_or (map (λ (x : Standing × Bool). x.0) overs) c.0 e ≡ o.0 = get_or-map (λ (x : Standing × Bool). x.0) overs c.0 d e back in
     let P : Standing → Type 0 = λ x. x.mine ≡ entries_of x.number H in
     let own : o.0.mine ≡ entries_of o.0.number H = subst P at (mine c.0 e long) in

@@ -1,5 +1,5 @@
 -- Links are quiet one after another.
-use Rattle.std.proofs.Common.{◌≡◌, ◌+◌, ℕ, Bool, true, false, List, [], ◌∷◌, ◌++◌, ◌&&◌, not, refl, sym, ap, ◌∙◌, subst}
+use Rattle.std.proofs.Common.{◌≡◌, ◌+◌, ℕ, Bool, true, false, List, [], ◌∷◌, ◌++◌, not, refl, ap, ◌∙◌, subst}
 use Rattle.swap_base.specs.declared.Lender.{Lender}
 use Rattle.swap_wire.specs.declared.Event.{Event}
 use Rattle.swap_wire.specs.declared.Event.TheVariants as event
@@ -10,12 +10,12 @@ use Rattle.swap_table.specs.Device.{Device}
 use Rattle.swap_world.specs.Runs.{WorldOf, has_effect}
 use Rattle.swap_board.specs.Acts.{Act, Made, Player, line_if, lines_of, Makes}
 use Rattle.swap_board.specs.Boards.{BoardOf}
-use Rattle.swap_board.specs.Works.{Pumps, PumpsAs, moved_by}
+use Rattle.swap_board.specs.Works.{PumpsAs, moved_by}
 use Rattle.swap_board.specs.declared.works.Point.TheVariants as point
 use Rattle.swap_board.specs.declared.works.Moved.{Moved}
 use Rattle.swap_board.specs.declared.works.Moved.TheVariants as moved
 use Rattle.swap_board.proofs.Acts.{makes_on, makes_none}
-use Rattle.swap_play.specs.Settles.{give, get, AreQuiet, none, more, LinksAreQuiet, LinkIsQuiet, KeepsHistory}
+use Rattle.swap_play.specs.Settles.{give, get, none, more, LinksAreQuiet, LinkIsQuiet, KeepsHistory}
 
 no_line : (b : Bool) (e : Event) (s : Seen) → moved.Nothing ≡ moved_by ([] ++ line_if b e s) → b ≡ false
 no_line true e s nothing = cc
@@ -83,12 +83,6 @@ module _ {D F : Type 0} where
   pub keeps_on : (b b1 b' : BoardOf D F) → KeepsHistory b b1 → KeepsHistory b1 b' → KeepsHistory b b'
   keeps_on b b1 b' was now = record { rest = now.rest ∙ ap (λ (x : BoardOf D F). record x { world = b'.world }) was.rest; history = now.history ∙ was.history }
 
-pub both : (a b : Bool) → (a && b) ≡ true → (a ≡ true) × (b ≡ true)
-both true true is = (refl, refl)
-both true false is = cc
-both false b is = cc
-
-pub neither : (a b : Bool) → (not a && not b) ≡ true → (a ≡ false) × (b ≡ false)
-neither true b is = cc
-neither false true is = cc
-neither false false is = (refl, refl)
+pub not_so : (b : Bool) → not b ≡ true → b ≡ false
+not_so true is = cc
+not_so false is = refl

@@ -62,7 +62,7 @@ fn play_calls<D: DiskPort + Drop, F: Fabric + Drop, N: Naming<D, F>, G: Gate, R:
     alloc: Global,
     swap: &Swap<D, F, N>,
     pass: &mut Pass,
-    mut calls: CallerWalk<'_>,
+    calls: CallerWalk<'_>,
     page: &mut [u8],
     gate: &G,
 ) -> bool
@@ -71,9 +71,10 @@ fn play_calls<D: DiskPort + Drop, F: Fabric + Drop, N: Naming<D, F>, G: Gate, R:
     requires calls { AreCallsOf N.named.sizes N.named.lenders (caller pass.old.number) calls }
     requires page { length page.old ≡ N.named.sizes.page_bytes }
     ensures pass { IsFreeOf swap.now pass.new × (pass.new.number ≡ pass.old.number) }
-    ensures plays { result ≡ true → Plays calls.inputs pass.old.mine pass.new.mine }
+    ensures plays { result ≡ true → Plays calls.entry.inputs pass.old.mine pass.new.mine }
 {
-    'calls: while let Some(event) = calls.next(page) {
+    let mut left = calls;
+    'calls: while let Some(event) = left.next(page) {
         if !play_call(rt, alloc, swap, pass, &event, page, gate) {
             return false;
         }
@@ -189,7 +190,14 @@ fn play_seat<D: DiskPort + Drop, F: Fabric + Drop, N: Naming<D, F>, G: Gate, R: 
         busy.fetch_sub(1, Ordering::SeqCst);
         return (pass, done);
     }
-    pump_while_busy(rt, swap, &mut pass, points_of(number - callers - 1), busy, gate);
+    pump_while_busy(
+        rt,
+        swap,
+        &mut pass,
+        points_of(number - callers - 1),
+        busy,
+        gate,
+    );
     (pass, true)
 }
 
@@ -221,9 +229,7 @@ pub(crate) fn play_seats<
         &|pass: Pass| -> (Pass, bool)
             requires { IsFreeOf swap.now pass × (pass.number < N.named.sizes.callers + N.named.lenders + 2) × (trace.now.sizes ≡ N.named.sizes) × (length trace.now.lenders ≡ N.named.lenders) }
             ensures { IsOver swap.entry.now trace.entry.now pass result }
-        {
-            play_seat(rt, alloc, swap, trace, pass, &busy, gate)
-        },
+        { play_seat(rt, alloc, swap, trace, pass, &busy, gate) },
     );
     played.ok()
 }
@@ -233,14 +239,11 @@ pub(crate) fn passes_of(alloc: Global, overs: Vec<(Pass, bool)>) -> Result<Vec<P
     ensures passes { IfOk result (λ v. v.items ≡ map (λ o. o.0) overs.items) }
     ensures done { OnOk result (All (λ o. o.1 ≡ true) overs.items) }
 {
-    let Ok(mut passes) = Vec::with_capacity(alloc, overs.len()) else {
-        return Err(NoMemory);
-    };
+    let mut passes = Vec::new(alloc);
     'overs: for (pass, done) in overs {
-        if !done {
+        if !done || passes.push(pass).is_err() {
             return Err(NoMemory);
         }
-        passes.push_reserved(pass);
     }
     Ok(passes)
 }

@@ -8,11 +8,10 @@ mod connects;
 mod playing;
 mod settles;
 
+pub use playing::{PlayFault, play};
 use swap_disk::DiskPort;
 use swap_table::ports_promise;
 use swap_wire::Fabric;
-
-pub use playing::{PlayFault, play};
 
 /// What is made behind a run is a run: so each law of runs over any ports holds of the acts by which a trace is played.
 pub fn acts_are_runs<D: DiskPort, F: Fabric>()

@@ -81,6 +81,17 @@ fn log_tells<D: DiskPort, F: Fabric>(world: &World<D, F>)
     over_any_ports::<D, F>();
 }
 
+// Whether all of the operator's events were made; else the next is made.
+fn has_ended<D: DiskPort, F: Fabric, N: Naming<D, F>>(board: &mut Board<D, F, N>) -> bool
+    ensures ended { result ≡ true → (board.old.made ≡ length N.named.operator) × (board.new ≡ board.old) }
+    ensures history { board.new.world.core.device.history ≡ board.old.world.core.device.history }
+{
+    match board.operate() {
+        Operated::Ended => true,
+        Operated::Made | Operated::Nothing | Operated::NoMemory => false,
+    }
+}
+
 // Ends a board whose threads have all come back. Where something is left that had to be made, which no code leads to, that
 // counts as want of memory.
 fn end_board<D: DiskPort + Drop, F: Fabric + Drop, N: Naming<D, F>, R: Wait>(
@@ -91,7 +102,7 @@ fn end_board<D: DiskPort + Drop, F: Fabric + Drop, N: Naming<D, F>, R: Wait>(
     ensures ended { IfOk result (IsEnded D.moves F.moves N.named) }
     ensures tells { IfOk result LogTells }
 {
-    if board.operate() != Operated::Ended {
+    if !has_ended(&mut board) {
         return Err(NoMemory);
     }
     settle(rt, &mut board)?;
@@ -119,7 +130,7 @@ fn run_seats<
 ) -> Result<Board<D, F, N>, NoMemory>
     requires sizes { trace.now.sizes ≡ N.named.sizes }
     requires lenders { length trace.now.lenders ≡ N.named.lenders }
-    requires passes { AreSeats swap.now N.named.sizes N.named.lenders passes.items }
+    requires passes { AreSeats swap N.named.sizes N.named.lenders passes.items }
     ensures { IfOk result (λ b. HavePlayed trace.now b.world.core.device.history) }
 {
     let Some(overs) = play_seats(rt, alloc, &swap, trace, passes, gate) else {
@@ -172,12 +183,7 @@ fn play_named<
 /// the queue and the links are emptied, or a disk write failed. The Rounds that pace the calls are drawn from `number`.
 ///
 /// It waits: its promise holds if it returns.
-pub fn play<
-    D: DiskPort + Drop + Send,
-    F: Fabric + Drop + Send,
-    G: Gate,
-    R: Threads + Wait + Sync,
->(
+pub fn play<D: DiskPort + Drop + Send, F: Fabric + Drop + Send, G: Gate, R: Threads + Wait + Sync>(
     rt: &R,
     alloc: Global,
     mut world: World<D, F>,

@@ -1,5 +1,4 @@
 use Rattle.std.proofs.Common.{◌≡◌, ◌++◌, length}
-use Rattle.swap_board.specs.Boards.{AreOperators}
 use Rattle.swap_trace.specs.Traces.{operators_in}
 use Rattle.swap_play.specs.Callers.{events_of}
 use Rattle.swap_play.proofs.playing.operators_of.Given as goal
