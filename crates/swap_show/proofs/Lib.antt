@@ -1,0 +1,4 @@
+pub mod Stands
+pub mod Lines
+pub mod Headline
+pub mod Shows
