@@ -8,7 +8,7 @@ use Rattle.swap_run.specs.declared.Ending.TheVariants as ending
 use Rattle.swap_run.specs.Clause.{Stream, TookNothing}
 use Rattle.swap_live.specs.declared.LendEnd.TheVariants as end
 use Rattle.swap_live.specs.declared.live.LiveCommand.{LiveCommand}
-use Rattle.swap_live.specs.declared.live.LiveCommand.TheVariants.{Lend}
+use Rattle.swap_live.specs.declared.live.LiveCommand.TheVariants.{Lend, Play}
 use Rattle.swap_live.specs.Lending.{Hosting, GaveNothing}
 use Rattle.swap_live.specs.Live.{EndsAsLending, LiveEnds}
 
@@ -31,3 +31,4 @@ pub wanted : {D S K : Type 0} (links : D → Dealings (Unit {0}) S (Left S K)) (
     → TookNothing source → TookNothing out → GaveNothing host → LiveEnds links left faults sink_faults command source out host ending.NoMemory
 wanted links left faults sink_faults None source out host kept none same = (kept, none, same)
 wanted links left faults sink_faults (Some (Lend o)) source out host kept none same = (kept, (end.NoMemory, refl, (none, inl same)))
+wanted links left faults sink_faults (Some (Play number)) source out host kept none same = (none, same)

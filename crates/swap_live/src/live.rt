@@ -1,22 +1,41 @@
 ghost use Rattle.std.specs.Prelude.{◌≡◌, map, true, Some, None, IfOk, IfErr};
 ghost use Rattle.swap_options.specs.Lend.{keeps_limits};
+ghost use Rattle.swap_options.specs.Play.{asked};
 ghost use Rattle.swap_run.specs.Clause.{stream};
 ghost use Rattle.swap_live.specs.Lending.{hosting};
-ghost use Rattle.swap_live.specs.Live.{command_of, ending_of, KeepsLimits, EndsAsLending, LiveEnds, LiveEndsWith, LiveCompletes};
+ghost use Rattle.swap_live.specs.Live.{command_of, play_of, ending_of, KeepsLimits, EndsAsLending, LiveEnds, LiveEndsWith, LendsComplete, PlaysComplete};
 
 use crate::{LendEnd, Offer, lend};
 use std::alloc::Global;
 use std::sync::Wait;
 use std::thread::Threads;
 use swap_io::{Sink, Source};
-use swap_options::{LendOptions, OptionsRefused, limits_let_lend, read_lend};
+use swap_options::{
+    LendOptions, OptionsRefused, PlayOptions, limits_let_lend, read_lend, read_play,
+};
+use swap_player::Gate;
 use swap_run::{Ending, status_of, tell_ending};
+use swap_show::{play_source, shows_complete};
 use swap_sock::Host;
 
 /// What the words of a command that may wait ask for.
 #[derive(Clone, Copy, Debug, PartialEq, Eq)]
 pub enum LiveCommand {
     Lend(LendOptions),
+    Play(u64),
+}
+
+/// What options of play ask for, where neither a file for the disk nor addresses of lenders are given.
+fn play_of(options: PlayOptions<'_>) -> Result<LiveCommand, OptionsRefused>
+    ensures command { IfOk result (λ command. play_of (Some (asked options)) ≡ Some command) }
+    ensures limits { IfOk result KeepsLimits }
+    ensures usage { IfErr result (λ why. play_of (Some (asked options)) ≡ None) }
+{
+    let PlayOptions { number, disk, tcp } = options;
+    if disk.is_some() || tcp.is_some() {
+        return Err(OptionsRefused::Usage);
+    }
+    Ok(LiveCommand::Play(number))
 }
 
 /// What the words ask for.
@@ -28,6 +47,10 @@ fn command_of(alloc: Global, words: &[&str]) -> Result<LiveCommand, OptionsRefus
     match words {
         ["lend", options @ ..] => match read_lend(alloc, options) {
             Ok(options) => Ok(LiveCommand::Lend(options)),
+            Err(why) => Err(why),
+        },
+        ["play", options @ ..] => match read_play(alloc, options) {
+            Ok(options) => play_of(options),
             Err(why) => Err(why),
         },
         _ => Err(OptionsRefused::Usage),
@@ -75,35 +98,40 @@ where
 }
 
 /// Does what the words ask for.
-fn run_words<R, S, K, H>(
+fn run_words<R, S, K, H, G>(
     rt: R,
     alloc: Global,
     words: &[&str],
     source: &mut S,
     out: &mut K,
     host: &mut H,
+    gate: &G,
 ) -> Ending
 where
-    R: Threads + Wait + Copy + Send + 'static,
+    R: Threads + Wait + Copy + Send + Sync + 'static,
     S: Source,
     K: Sink,
     H: Host,
+    G: Gate,
     ensures ends { LiveEnds H.Entrance.links H.Entrance.Reader.left H.Entrance.Reader.faults H.Entrance.Writer.faults (command_of (map (λ word. word.now) words.now)) (stream (S.left source.old) (S.left source.new) (S.faults source.old) (S.faults source.new)) (stream (K.taken out.old) (K.taken out.new) (K.faults out.old) (K.faults out.new)) (hosting (H.doors host.old) (H.doors host.new) (H.faults host.old) (H.faults host.new)) result }
     ensures disks { H.disks host.new ≡ H.disks host.old }
     ensures nets { H.nets host.new ≡ H.nets host.old }
 {
     match command_of(alloc, words) {
         Ok(LiveCommand::Lend(options)) => run_lend(rt, alloc, &options, out, host),
+        Ok(LiveCommand::Play(number)) => play_source(&rt, alloc, number, source, out, gate),
         Err(OptionsRefused::Usage) => Ending::Usage,
         Err(OptionsRefused::NoMemory) => Ending::NoMemory,
     }
 }
 
 /// The top call for the commands that may wait; its promise holds if it returns. `lend` reads nothing, opens a door at an
-/// address of the host, serves so many links, gives the door back and writes `served N links` to `out`; words of any other
-/// form are status 2. The answer is the program's status; what went wrong is told to `err`, whose own failures change
-/// nothing. Each status has its cause in the clause, and nothing but a door is asked of the host.
-pub fn run_live<R, S, K, E, H>(
+/// address of the host, serves so many links, gives the door back and writes `served N links` to `out`. `play` reads a
+/// trace from `source`, plays it over a disk and lenders in memory, each caller in a thread of its own, and writes the
+/// transcript of what was made to `out`; it asks nothing of the host. `gate` lets its pumps pass and hears of its answers.
+/// Words of any other form are status 2. The answer is the program's status; what went wrong is told to `err`, whose own
+/// failures change nothing. Each status has its cause in the clause, and nothing but a door is asked of the host.
+pub fn run_live<R, S, K, E, H, G>(
     rt: R,
     alloc: Global,
     words: &[&str],
@@ -111,24 +139,30 @@ pub fn run_live<R, S, K, E, H>(
     out: &mut K,
     err: &mut E,
     host: &mut H,
+    gate: &G,
 ) -> u8
 where
-    R: Threads + Wait + Copy + Send + 'static,
+    R: Threads + Wait + Copy + Send + Sync + 'static,
     S: Source,
     K: Sink,
     E: Sink,
     H: Host,
+    G: Gate,
     ensures ends { LiveEndsWith H.Entrance.links H.Entrance.Reader.left H.Entrance.Reader.faults H.Entrance.Writer.faults (command_of (map (λ word. word.now) words.now)) (stream (S.left source.old) (S.left source.new) (S.faults source.old) (S.faults source.new)) (stream (K.taken out.old) (K.taken out.new) (K.faults out.old) (K.faults out.new)) (stream (E.taken err.old) (E.taken err.new) (E.faults err.old) (E.faults err.new)) (hosting (H.doors host.old) (H.doors host.new) (H.faults host.old) (H.faults host.new)) result }
     ensures disks { H.disks host.new ≡ H.disks host.old }
     ensures nets { H.nets host.new ≡ H.nets host.old }
 {
-    let ending = run_words(rt, alloc, words, source, out, host);
+    let ending = run_words(rt, alloc, words, source, out, host, gate);
     tell_ending(ending, err);
     status_of(ending)
 }
 
-/// A call for a form of words of which neither `out` nor the host fails, and so no door of its, ends by 0, or by 6 for
-/// want of memory.
+/// A call that lends, of which neither `out` nor the host fails, and so no door of its, ends by 0, or by 6 for want of
+/// memory. One that plays a trace that is told and within the limit, of which neither `source` nor `out` fails, ends by 0,
+/// by 1 where a call failed, or by 6.
 pub fn live_completes<H: Host>()
-    ensures { LiveCompletes H.Entrance.links H.Entrance.Reader.left H.Entrance.Reader.faults H.Entrance.Writer.faults }
-{}
+    ensures lends { LendsComplete H.Entrance.links H.Entrance.Reader.left H.Entrance.Reader.faults H.Entrance.Writer.faults }
+    ensures plays { PlaysComplete H.Entrance.links H.Entrance.Reader.left H.Entrance.Reader.faults H.Entrance.Writer.faults }
+{
+    shows_complete();
+}

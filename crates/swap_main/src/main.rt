@@ -10,11 +10,26 @@ use std::process::ExitCode;
 use std::sync::Wait;
 use std::thread::Threads;
 use std::{env, io};
-use swap_base::NoMemory;
+use swap_base::{Caller, NoMemory};
+use swap_board::Point;
 use swap_host::RealHost;
 use swap_io::{BlockSink, Sink, Source, StdSink, StdSource, write_line};
 use swap_live::run_live;
+use swap_player::Gate;
 use swap_run::run_lab_in_blocks;
+
+// A gate that every pump passes.
+struct Open;
+
+impl Gate for Open {
+    type No = ();
+
+    fn may_pass(&self, _point: Point) -> Result<(), ()> {
+        Ok(())
+    }
+
+    fn answered(&self, _caller: Caller, _number: u32) {}
+}
 
 // The words after the program's name. A word that is no text makes them no form of words.
 fn words_of(rt: &HostRuntime) -> io::Result<Vec<String>> {
@@ -72,6 +87,7 @@ where
         + Net<Stream = TcpStream, Listener = TcpListener>
         + Copy
         + Send
+        + Sync
         + 'static,
     S: Source,
     K: Sink,
@@ -79,7 +95,7 @@ where
 {
     let words = texts_of(alloc, owned)?;
     let mut host = RealHost::make(rt, alloc);
-    Ok(run_live(rt, alloc, &words, source, out, err, &mut host))
+    Ok(run_live(rt, alloc, &words, source, out, err, &mut host, &Open))
 }
 
 fn main(rt: HostRuntime) -> ExitCode {

@@ -5,7 +5,10 @@ use std::process::Abort;
 use std::sync::{Arc, Mutex, Wait};
 use std::test::Fail;
 use std::thread::Threads;
+use swap_base::Caller;
+use swap_board::Point;
 use swap_io::{MemSink, MemSource};
+use swap_player::Gate;
 use swap_sock::{Host, MemHost};
 
 const USAGE: &str = "usage: remswap script|check|drill|play|lend\n";
@@ -22,6 +25,19 @@ const NONE: Failing = Failing {
     out: u32::MAX,
 };
 
+/// A gate that every pump passes.
+struct Open;
+
+impl Gate for Open {
+    type No = ();
+
+    fn may_pass(&self, _point: Point) -> Result<(), ()> {
+        Ok(())
+    }
+
+    fn answered(&self, _caller: Caller, _number: u32) {}
+}
+
 /// What a call gave.
 #[derive(Debug, Drop)]
 struct Ran {
@@ -34,18 +50,29 @@ fn run<R, H>(
     rt: R,
     alloc: Global,
     words: &[&str],
+    text: &str,
     host: &mut H,
     failing: Failing,
 ) -> Result<Ran, Fail>
 where
-    R: Threads + Wait + Copy + Send + 'static,
+    R: Threads + Wait + Copy + Send + Sync + 'static,
     H: Host,
 {
-    let mut source = MemSource::make(Vec::new(alloc), Vec::new(alloc));
+    let text = text.as_bytes().to_vec(alloc)?;
+    let mut source = MemSource::make(text, Vec::new(alloc));
     let failing = vec![in alloc; failing.out]?;
-    let mut out = MemSink::make(alloc, 64, failing).map_err(|_| "out")?;
+    let mut out = MemSink::make(alloc, 100, failing).map_err(|_| "out")?;
     let mut err = MemSink::make(alloc, 64, Vec::new(alloc)).map_err(|_| "err")?;
-    let status = run_live(rt, alloc, words, &mut source, &mut out, &mut err, host);
+    let status = run_live(
+        rt,
+        alloc,
+        words,
+        &mut source,
+        &mut out,
+        &mut err,
+        host,
+        &Open,
+    );
     Ok(Ran { status, out, err })
 }
 
@@ -80,10 +107,10 @@ fn words_lend_over_a_door_and_its_sink_takes_the_replies(rt: HostRuntime) -> Res
     };
     let log = Arc::new(alloc, Mutex::new(log))?;
     let mut host = host(rt, alloc, Arc::try_clone(&log)?)?;
-    let ran = run(rt, alloc, &words, &mut host, NONE)?;
+    let ran = run(rt, alloc, &words, "", &mut host, NONE)?;
     judge(&rt, "the first call", &ran, ("served 1 links\n", "", 0));
     assert!(rt; log.lock(&rt).is(&REPLIES));
-    let ran = run(rt, alloc, &words, &mut host, NONE)?;
+    let ran = run(rt, alloc, &words, "", &mut host, NONE)?;
     judge(&rt, "a host without a door", &ran, ("", "host failed\n", 8));
     Ok(())
 }
@@ -99,11 +126,71 @@ fn each_status_comes_with_its_words_on_err(rt: HostRuntime) -> Result<(), Fail> 
         ("host", lend.as_slice(), first, ("", "host failed\n", 8)),
         ("write", lend.as_slice(), write, ("", "write failed\n", 4)),
         ("no options", ["lend"].as_slice(), NONE, ("", USAGE, 2)),
-        ("play", ["play"].as_slice(), NONE, ("", USAGE, 2)),
         ("no words", [].as_slice(), NONE, ("", USAGE, 2)),
     ] {
         let mut host = MemHost::make(alloc, vec![in alloc; failing.host]?);
-        let ran = run(rt, alloc, words, &mut host, failing)?;
+        let ran = run(rt, alloc, words, "", &mut host, failing)?;
+        judge(&rt, name, &ran, want);
+    }
+    Ok(())
+}
+
+/// A trace of one caller, of which only one thing can come.
+const TRACE: &str = "geometry 8 4 2 4 1 4 20\n0 in 5\n";
+
+const PLAYED: &str = "geometry 8 4 2 4 1 4 20\nin 0 5 = entry 0 in 5 of none zero 00\nend 1\n";
+
+#[test]
+fn words_play_a_trace(rt: HostRuntime) -> Result<(), Fail> {
+    let alloc = rt.alloc();
+    let write = Failing { out: 0, ..NONE };
+    for (name, words, text, failing, want) in [
+        ("a trace", ["play"].as_slice(), TRACE, NONE, (PLAYED, "", 0)),
+        (
+            "a number",
+            ["play", "--number", "7"].as_slice(),
+            TRACE,
+            NONE,
+            (PLAYED, "", 0),
+        ),
+        (
+            "no trace",
+            ["play"].as_slice(),
+            "",
+            NONE,
+            ("", "line 1: geometry\n", 5),
+        ),
+        (
+            "write",
+            ["play"].as_slice(),
+            TRACE,
+            write,
+            ("", "write failed\n", 4),
+        ),
+        (
+            "no number",
+            ["play", "--number", "07"].as_slice(),
+            TRACE,
+            NONE,
+            ("", USAGE, 2),
+        ),
+        (
+            "a disk in a file",
+            ["play", "--disk", "x"].as_slice(),
+            TRACE,
+            NONE,
+            ("", USAGE, 2),
+        ),
+        (
+            "lenders by addresses",
+            ["play", "--tcp", "127.0.0.1:4000"].as_slice(),
+            TRACE,
+            NONE,
+            ("", USAGE, 2),
+        ),
+    ] {
+        let mut host = MemHost::make(alloc, vec![in alloc; u32::MAX]?);
+        let ran = run(rt, alloc, words, text, &mut host, failing)?;
         judge(&rt, name, &ran, want);
     }
     Ok(())
