@@ -12,6 +12,7 @@ use Rattle.swap_wire.specs.Fabric.{FabricOf}
 use Rattle.swap_script.specs.declared.ScriptRefused.{ScriptRefused}
 use Rattle.swap_script.specs.declared.TheConstants.{TEXT_LIMIT}
 use Rattle.swap_script.specs.Reading.{Script}
+use Rattle.swap_script.specs.Transcript.{transcript}
 use Rattle.swap_table.specs.Device.{Device}
 use Rattle.swap_trace.specs.Traces.{trace}
 use Rattle.swap_world.specs.Runs.{WorldOf}
@@ -34,7 +35,7 @@ sizes_stay t number first w is played =
     ap (λ (o : FabricOf). o.sizes) played.carried.acted.makes.of ∙ ap (λ (o : FabricOf). o.sizes) played.connects.works.makes.of ∙ ap (λ (d : Device). d.sizes) is.device
 
 same_text : (t : Script) (lenders : List LenderSpec) (w : WorldOf Drive Harbor) → w.core.device.sizes ≡ t.sizes → lenders ≡ t.lenders → world_transcript lenders w ≡ transcript_of t w
-same_text t lenders w sizes specs = grind (sizes, specs)
+same_text t lenders w sizes specs = ap (λ s. transcript s lenders w.log w.core.device.history) sizes ∙ ap (λ l. transcript t.sizes l w.log w.core.device.history) specs
 
 -- what was written of a played world
 pub trace_ends : (t : Script) (number : ℕ) (lenders : List LenderSpec) (first w : WorldOf Drive Harbor) (out : Stream) (end : Ending) → lenders ≡ t.lenders → IsFirst t first → IsPlayedOut drive.Moves harbor.Moves t number first w → WrittenBy lenders w out end → TraceEnds t number out end
