@@ -48,7 +48,7 @@ fresh_each s [] = tt
 fresh_each s (spec ∷ specs) = (refl, fresh_each s specs)
 
 is_of : (s : Sizes) (specs : List LenderSpec) → of_harbor (new_harbor s specs) ≡ record { sizes = s; lenders = length specs }
-is_of s specs = ap (λ (n : ℕ). let o : FabricOf = record { sizes = s; lenders = n } in o) (length-map (new_channel s) specs)
+is_of s specs = ap (λ n. record { sizes = s; lenders = n }) (length-map specs (new_channel s))
 
 fresh : (s : Sizes) (specs : List LenderSpec) → harbor.IsFresh (new_harbor s specs) (record { sizes = s; lenders = length specs })
 fresh s specs = record { is = is_of s specs; channels = All-from_recursion (λ (c : Channel). c ≡ new_channel s c.lender.lending.spec) (map (new_channel s) specs) (fresh_each s specs) }

@@ -1,10 +1,12 @@
 -- How a call of play ends.
 use Rattle.std.proofs.Common.{◌≡◌, ◌≤◌, ◌⊎◌, ℕ, Bool, true, false, List, length, refl, sym, ap, ◌∙◌, subst, inl, inr, arith, Option, None, Some, Result, Ok, Err}
+use Rattle.std.specs.Prelude.{IfOk, []}
 use Rattle.std.specs.Io.KnownBytes.{Appends, Keeps}
 use Rattle.swap_base.specs.Sizes.{Sizes}
 use Rattle.swap_base.specs.declared.geometry.LenderSpec.{LenderSpec}
+use Rattle.swap_base.specs.declared.NoMemory.{NoMemory}
 use Rattle.swap_io.specs.Causes.{WasReadWhole, AppendsFront}
-use Rattle.swap_disk.specs.Drive.{Drive}
+use Rattle.swap_disk.specs.Drive.{Drive, new_drive}
 use Rattle.swap_disk.specs.Drive as drive
 use Rattle.swap_link.specs.Harbor.{Harbor}
 use Rattle.swap_link.specs.Harbor as harbor
@@ -13,9 +15,10 @@ use Rattle.swap_script.specs.declared.ScriptRefused.{ScriptRefused}
 use Rattle.swap_script.specs.declared.TheConstants.{TEXT_LIMIT}
 use Rattle.swap_script.specs.Reading.{Script}
 use Rattle.swap_script.specs.Transcript.{transcript}
-use Rattle.swap_table.specs.Device.{Device}
+use Rattle.swap_table.specs.Device.{Device, Core, new}
 use Rattle.swap_trace.specs.Traces.{trace}
 use Rattle.swap_world.specs.Runs.{WorldOf}
+use Rattle.swap_world.specs.World.{new_harbor}
 use Rattle.swap_run.specs.declared.Ending.{Ending}
 use Rattle.swap_run.specs.declared.Ending.TheVariants as ending
 use Rattle.swap_run.specs.Clause.{Stream, Failed}
@@ -28,6 +31,17 @@ use Rattle.swap_show.specs.Clause.{PlayedIn, BrokeOffIn, WrittenBy, TraceEnds, T
 pub keeps_same : (known : Option (List ℕ)) → Keeps known known
 keeps_same None = tt
 keeps_same (Some bytes) = refl
+
+-- a world as it is made
+pub first_is : (t : Script) (s : Sizes) (specs : List LenderSpec) (n : ℕ) (k : Drive) (h : Harbor) (r : Result (WorldOf Drive Harbor) NoMemory) → s ≡ t.sizes → specs ≡ t.lenders → n ≡ length t.lenders → k ≡ new_drive s → h ≡ new_harbor s specs
+    → IfOk r (λ w. w.core ≡ record { device = new s n; disk = k; fabric = h; spare = 0 }) → IfOk r (λ w. w.log ≡ []) → IfOk r (IsFirst t)
+first_is t s specs n k h (Ok w) es el en ek eh core log = record {
+  device = ap (λ (c : Core Drive Harbor). c.device) core ∙ ap (λ x. new x n) es ∙ ap (λ m. new t.sizes m) en;
+  disk = ap (λ (c : Core Drive Harbor). c.disk) core ∙ ek ∙ ap new_drive es;
+  fabric = ap (λ (c : Core Drive Harbor). c.fabric) core ∙ eh ∙ ap (λ x. new_harbor x specs) es ∙ ap (λ l. new_harbor t.sizes l) el;
+  log = log;
+}
+first_is t s specs n k h (Err e) es el en ek eh core log = tt
 
 -- a world that was played has the sizes of its trace
 sizes_stay : (t : Script) (number : ℕ) (first w : WorldOf Drive Harbor) → IsFirst t first → IsPlayedOut drive.Moves harbor.Moves t number first w → w.core.device.sizes ≡ t.sizes
