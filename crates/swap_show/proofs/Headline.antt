@@ -1,11 +1,10 @@
 -- What was played is a run of the machine, and so the headline holds of it.
-use Rattle.std.proofs.Common.{◌≡◌, ◌≤◌, ◌++◌, ℕ, true, List, [], ◌∷◌, length, map, refl, sym, ap, ◌∙◌, subst, None, Ok}
+use Rattle.std.proofs.Common.{◌≡◌, ◌≤◌, ◌++◌, ℕ, List, [], ◌∷◌, length, map, refl, sym, ap, ◌∙◌, subst, None}
 use Rattle.std.specs.List.{AllByRecursion}
 use Rattle.std.proofs.lemmas.List.{length-map}
 use Rattle.std.proofs.lemmas.List.Elements.{All-from_recursion}
 use Rattle.swap_base.specs.Sizes.{Sizes}
 use Rattle.swap_base.specs.declared.geometry.LenderSpec.{LenderSpec}
-use Rattle.swap_wire.specs.Fabric.{FabricOf}
 use Rattle.swap_wire.specs.declared.Event.{Event}
 use Rattle.swap_wire.specs.declared.Seen.{Seen}
 use Rattle.swap_slabs.specs.declared.TheConstants.{MOST_LENDERS}
@@ -19,7 +18,6 @@ use Rattle.swap_script.specs.Reading.{Script}
 use Rattle.swap_table.specs.Device.{Device, new}
 use Rattle.swap_table.specs.Fits.{IsBlank}
 use Rattle.swap_trace.specs.Laws.{HaveLenders}
-use Rattle.swap_trace.specs.Traces.{trace}
 use Rattle.swap_world.specs.Laws as world
 use Rattle.swap_world.specs.Laws.{Began}
 use Rattle.swap_world.specs.Runs.{WorldOf, IsRun, begin, made_of}

@@ -1,5 +1,5 @@
 -- A log's lines are written one after another.
-use Rattle.std.proofs.Common.{◌≡◌, ◌+◌, ◌<◌, ◌++◌, ℕ, List, [], ◌∷◌, length, take, drop, flat_map, refl, sym, ap, ◌∙◌, subst, arith, append-nil, Option, Some}
+use Rattle.std.proofs.Common.{◌≡◌, ◌+◌, ◌++◌, ℕ, List, [], ◌∷◌, length, take, drop, flat_map, sym, ap, ◌∙◌, subst, append-nil, Option, Some}
 use Rattle.std.specs.List.{slice_get}
 use Rattle.std.specs.Io.KnownBytes.{Appends}
 use Rattle.std.proofs.Math.Seq.{take-length}

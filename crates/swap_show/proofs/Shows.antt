@@ -1,5 +1,5 @@
 -- How a call of play ends.
-use Rattle.std.proofs.Common.{◌≡◌, ◌≤◌, ◌⊎◌, ℕ, Bool, true, false, List, length, refl, sym, ap, ◌∙◌, subst, inl, inr, arith, Option, None, Some, Result, Ok, Err}
+use Rattle.std.proofs.Common.{◌≡◌, ◌≤◌, ℕ, List, length, refl, sym, ap, ◌∙◌, subst, inl, inr, arith, Option, None, Some, Result, Ok, Err}
 use Rattle.std.specs.Prelude.{IfOk, []}
 use Rattle.std.specs.Io.KnownBytes.{Appends, Keeps}
 use Rattle.swap_base.specs.Sizes.{Sizes}
@@ -21,12 +21,12 @@ use Rattle.swap_world.specs.Runs.{WorldOf}
 use Rattle.swap_world.specs.World.{new_harbor}
 use Rattle.swap_run.specs.declared.Ending.{Ending}
 use Rattle.swap_run.specs.declared.Ending.TheVariants as ending
-use Rattle.swap_run.specs.Clause.{Stream, Failed}
+use Rattle.swap_run.specs.Clause.{Stream}
 use Rattle.swap_run.proofs.ReadText.{read_whole_is, read_length}
 use Rattle.swap_play.specs.Playing.{IsPlayedOut}
 use Rattle.swap_show.specs.Printing.{world_transcript}
 use Rattle.swap_show.specs.Shown.{IsFirst, WasShown, PlaysKeepTheHeadline}
-use Rattle.swap_show.specs.Clause.{PlayedIn, BrokeOffIn, WrittenBy, TraceEnds, TextEnds, ReadTrace, ShowEnds, ShowsComplete, ShowsRefuse, transcript_of}
+use Rattle.swap_show.specs.Clause.{WrittenBy, TraceEnds, TextEnds, ReadTrace, ShowEnds, ShowsComplete, ShowsRefuse, transcript_of}
 
 pub keeps_same : (known : Option (List ℕ)) → Keeps known known
 keeps_same None = tt

@@ -1,5 +1,5 @@
 -- Each entry that a log names stands in the history.
-use Rattle.std.proofs.Common.{◌≡◌, ◌<◌, ◌++◌, ℕ, zero, suc, true, List, [], ◌∷◌, length, is_some, MatchOption, refl, sym, ap, ◌∙◌, subst, arith, Option, None, Some}
+use Rattle.std.proofs.Common.{◌≡◌, ◌<◌, ◌++◌, ℕ, zero, suc, List, [], ◌∷◌, length, is_some, MatchOption, refl, sym, ap, ◌∙◌, subst, arith, Option, None, Some}
 use Rattle.std.specs.List.{AllByRecursion, slice_get}
 use Rattle.swap_base.specs.declared.EntryNo.{EntryNo}
 use Rattle.swap_wire.specs.Input.{Input}
@@ -13,7 +13,7 @@ use Rattle.swap_script.specs.Transcript.{HasEntry}
 use Rattle.swap_table.specs.Promises.{Promises}
 use Rattle.swap_world.specs.Failures.{HoldsEntry, HoldsEntriesSeen}
 use Rattle.swap_world.specs.Laws.{Began, Holds, HoldsAfterEach}
-use Rattle.swap_world.specs.Runs.{WorldOf, Written, Alone, Together, IsReached, StandsIn, entry_seen, made_in, made_of, logged_of}
+use Rattle.swap_world.specs.Runs.{WorldOf, Written, Alone, Together, IsReached, StandsIn, entry_seen, made_of, logged_of}
 use Rattle.swap_show.specs.Printing.{EntriesStand}
 
 -- an entry that was seen is named by its line

@@ -1,5 +1,5 @@
 -- What a world's log is as a transcript.
-use Rattle.std.specs.Prelude.{◌≡◌, ℕ, List, ◌++◌, flat_map, take, slice_get, Some}
+use Rattle.std.specs.Prelude.{◌≡◌, ℕ, List, flat_map, take, slice_get, Some}
 use Rattle.swap_base.specs.declared.geometry.LenderSpec.{LenderSpec}
 use Rattle.swap_wire.specs.declared.Event.{Event}
 use Rattle.swap_wire.specs.declared.Seen.{Seen}

@@ -1,4 +1,4 @@
-use Rattle.std.proofs.Common.{◌≡◌, ap, ◌∙◌, sym, subst, arith}
+use Rattle.std.proofs.Common.{ap, ◌∙◌, sym, subst, arith}
 use Rattle.swap_record.specs.History.{History}
 use Rattle.swap_run.proofs.Printed.{any_err}
 use Rattle.swap_script.specs.Transcript.{HasEntry, line}
