@@ -27,9 +27,9 @@ pub enum LiveCommand {
 
 /// What options of play ask for, where neither a file for the disk nor addresses of lenders are given.
 fn play_of(options: PlayOptions<'_>) -> Result<LiveCommand, OptionsRefused>
-    ensures command { IfOk result (λ command. play_of (Some (asked options)) ≡ Some command) }
+    ensures command { IfOk result (λ command. play_of (Some (asked options.entry)) ≡ Some command) }
     ensures limits { IfOk result KeepsLimits }
-    ensures usage { IfErr result (λ why. play_of (Some (asked options)) ≡ None) }
+    ensures usage { IfErr result (λ why. play_of (Some (asked options.entry)) ≡ None) }
 {
     let PlayOptions { number, disk, tcp } = options;
     if disk.is_some() || tcp.is_some() {
