@@ -1,5 +1,5 @@
 -- What a call of a command that may wait promises: how it ends, and what it then read, wrote and did with its host.
-use Rattle.std.specs.Prelude.{◌≡◌, ◌≤◌, ℕ, ◌⊎◌, Bool, true, if◌then◌else◌, List, [], ◌∷◌, length, codes, Option, None, Some, option_map, Ok}
+use Rattle.std.specs.Prelude.{◌≡◌, ◌≤◌, ℕ, ◌⊎◌, true, if◌then◌else◌, List, [], ◌∷◌, length, codes, Option, None, Some, option_map, Ok}
 use Rattle.swap_script.specs.declared.TheConstants.{TEXT_LIMIT}
 use Rattle.swap_script.specs.Lines.{is_word}
 use Rattle.swap_script.specs.Reading.{Script}

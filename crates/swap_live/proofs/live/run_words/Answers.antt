@@ -1,6 +1,5 @@
 use Rattle.std.proofs.Common.{◌∙◌, Some, map, refl, ap}
 use Rattle.swap_live.specs.Live.{command_of}
-use Rattle.swap_live.specs.declared.live.LiveCommand.TheVariants.{Lend, Play}
 use Rattle.swap_live.proofs.Living.{keeps_same, lent, played, wanted}
 use Rattle.swap_live.proofs.live.run_words.Goals as goal
 
