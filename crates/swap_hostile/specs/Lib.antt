@@ -1,0 +1,5 @@
+pub mod Silent
+pub mod SilentLaws
+pub mod Swapping
+pub mod Lying
+pub mod LyingLaws
