@@ -3,3 +3,5 @@ pub mod SilentLaws
 pub mod Swapping
 pub mod Lying
 pub mod LyingLaws
+pub mod Laws
+pub mod Rows
