@@ -1,5 +1,5 @@
-//! Ports that say little or lie, for tests: each reads as any other implementation of its trait. And what holds of a device
-//! over them, whatever happens to it.
+//! Ports that say little or lie, for tests: each reads as any other implementation of its trait.
+//! And what holds of a device over them, whatever happens to it.
 #![tactic(auto)]
 
 ghost use Rattle.swap_hostile.specs.Silent as silent;
@@ -19,9 +19,10 @@ use swap_wire::Fabric;
 use swap_world::over_any_ports;
 pub use swapping::SwappingDisk;
 
-/// Over a disk that is silent and any fabric, after every list of events: the history is ordered, each page-in from zeros
-/// or the queue is faithful, each from a lender as far as the fabric's answers tell, each caller's calls were answered
-/// once, in its order, and the history holds exactly the entries that were seen, each failure with its cause.
+/// Over a disk that is silent and any fabric, after every list of events: the history is ordered,
+/// each page-in from zeros or the queue is faithful, each from a lender as far as the fabric's
+/// answers tell, each caller's calls were answered once, in its order, and the history holds
+/// exactly the entries that were seen, each failure with its cause.
 pub fn stands_over_a_silent_disk<F: Fabric>()
     ensures { HoldsOver silent.port_of silent.Moves F.of F.moves F.answers }
 {
@@ -35,16 +36,16 @@ pub fn stands_over_a_swapping_disk<F: Fabric>()
     over_any_ports::<SwappingDisk, F>();
 }
 
-/// And over any disk and a fabric that lies, but that it promises nothing of the pages of lenders; those of a disk that
-/// tells its blocks are faithful.
+/// And over any disk and a fabric that lies, but that it promises nothing of the pages of lenders;
+/// those of a disk that tells its blocks are faithful.
 pub fn stands_over_a_lying_fabric<D: DiskPort>()
     ensures { HoldsOver D.means D.moves lying.of_lying lying.Moves AnyPage }
 {
     over_any_ports::<D, LyingFabric>();
 }
 
-/// Calls of these ports by hand: the oldest operation ends first, the listed one fails, nobody lets one end; another page
-/// is given than was stored; and one message is a lie.
+/// Calls of these ports by hand: the oldest operation ends first, the listed one fails, nobody lets
+/// one end; another page is given than was stored; and one message is a lie.
 pub fn rows()
     ensures oldest { OldestEndsFirst }
     ensures listed { ListedFails }

@@ -6,9 +6,9 @@ use swap_base::{Lender, Link};
 use swap_link::Harbor;
 use swap_wire::{Fabric, Gave, Hosted, Msg, Sent, Took};
 
-/// The lenders in memory behind a fabric that lies once: in place of the message of one number that came, counted from 0
-/// over all lenders, it gives the message that it is told, with a page of ones where that carries one. It promises
-/// nothing of pages.
+/// The lenders in memory behind a fabric that lies once: in place of the message of one number that
+/// came, counted from 0 over all lenders, it gives the message that it is told, with a page of ones
+/// where that carries one. It promises nothing of pages.
 #[derive(Drop)]
 pub struct LyingFabric {
     harbor: Harbor,

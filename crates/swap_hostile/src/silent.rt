@@ -7,8 +7,9 @@ use std::marker::Model;
 use swap_base::{Caller, DiskWhich, Geometry, NoMemory, Page};
 use swap_disk::{DiskDone, DiskPort, MemDisk};
 
-/// A disk in memory that tells nothing of its blocks. Nobody lets its operations finish: each `take` ends the oldest, and
-/// those fail whose numbers from 0, in the order of their ends, are listed.
+/// A disk in memory that tells nothing of its blocks. Nobody lets its operations finish: each
+/// `take` ends the oldest, and those fail whose numbers from 0, in the order of their ends, are
+/// listed.
 #[derive(Drop)]
 pub struct SilentDisk {
     disk: MemDisk,

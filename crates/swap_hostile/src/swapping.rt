@@ -8,8 +8,8 @@ use std::marker::Model;
 use swap_base::{Caller, DiskWhich, Geometry, NoMemory, Page};
 use swap_disk::{DiskDone, DiskPort};
 
-/// A disk in memory that gives another page than was stored: each byte of a read is turned over. It tells nothing of its
-/// blocks, and no operation fails.
+/// A disk in memory that gives another page than was stored: each byte of a read is turned over. It
+/// tells nothing of its blocks, and no operation fails.
 #[derive(Drop)]
 pub struct SwappingDisk {
     disk: SilentDisk,

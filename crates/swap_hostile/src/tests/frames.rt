@@ -5,7 +5,8 @@ use std::process::Abort;
 use std::test::Fail;
 use swap_wire::{Decoder, Next, Side};
 
-/// The number of each kind, who sends it, and the length that its frame counts, with pages of 8 bytes.
+/// The number of each kind, who sends it, and the length that its frame counts, with pages of 8
+/// bytes.
 const KINDS: [(u8, Side, u8); 14] = [
     (1, Side::Device, 13),
     (2, Side::Device, 5),

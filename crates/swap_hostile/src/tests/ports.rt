@@ -57,7 +57,8 @@ fn world_over<D: DiskPort + Drop, F: Fabric + Drop>(
     Ok(world)
 }
 
-/// What is seen of each event of a script over these ports, with the first byte of the page after it.
+/// What is seen of each event of a script over these ports, with the first byte of the page after
+/// it.
 fn run_over<D: DiskPort + Drop, F: Fabric + Drop>(
     rt: &impl Abort,
     alloc: Global,
@@ -198,7 +199,8 @@ const REPLY: Msg = Msg::PageIs {
 /// The messages beside it that may stand in the reply's place: what asks a device or tells it.
 const WORDS: [Msg; 2] = [Msg::AskRates { lease: LEASE }, Msg::Evict { lease: LEASE }];
 
-/// Those that may not: what a device sends, what answers another request, and a page of another place or lease.
+/// Those that may not: what a device sends, what answers another request, and a page of another
+/// place or lease.
 const LIES: [Msg; 13] = [
     Msg::Hello {
         version: 1,
