@@ -196,8 +196,8 @@ const REPLY: Msg = Msg::PageIs {
     place: 3,
 };
 
-/// The messages beside it that may stand in the reply's place: what asks a device or tells it.
-const WORDS: [Msg; 2] = [Msg::AskRates { lease: LEASE }, Msg::Evict { lease: LEASE }];
+/// The notices, which may stand in the reply's place beside it.
+const NOTICES: [Msg; 2] = [Msg::AskRates { lease: LEASE }, Msg::Evict { lease: LEASE }];
 
 /// Those that may not: what a device sends, what answers another request, and a page of another
 /// place or lease.
@@ -297,18 +297,18 @@ fn a_page_of_the_right_place_is_taken(rt: HostRuntime) -> Result<(), Fail> {
     Ok(())
 }
 
-/// What asks the device or tells it is taken, and the read goes on waiting.
-fn judge_word(rt: &impl Abort, alloc: Global, says: Msg) -> Result<(), Fail> {
+/// A notice is taken, and the read goes on waiting.
+fn judge_notice(rt: &impl Abort, alloc: Global, says: Msg) -> Result<(), Fail> {
     let told = run_lying(rt, alloc, says)?;
     let took = Seen::Took { msg: says };
-    ends(rt, &told, &[took, WAIT, Seen::Nothing, WAIT], "a word");
+    ends(rt, &told, &[took, WAIT, Seen::Nothing, WAIT], "a notice");
     Ok(())
 }
 
 #[test]
-fn a_word_between_is_taken(rt: HostRuntime) -> Result<(), Fail> {
-    for says in WORDS {
-        judge_word(&rt, rt.alloc(), says)?;
+fn a_notice_is_taken(rt: HostRuntime) -> Result<(), Fail> {
+    for says in NOTICES {
+        judge_notice(&rt, rt.alloc(), says)?;
     }
     Ok(())
 }
