@@ -271,7 +271,7 @@ const WAIT: Seen = Seen::Wait {
 fn judge_lie(rt: &impl Abort, alloc: Global, says: Msg) -> Result<(), Fail> {
     let told = run_lying(rt, alloc, says)?;
     ends(rt, &told, &[Seen::Lied, AGAIN, CAME, ANSWERED], "a lie");
-    assert_eq!(rt; byte_after(rt, &told, 16), 0xaa);
+    assert_eq!(rt; byte_after(rt, &told, 15), 0xaa);
     Ok(())
 }
 
@@ -293,7 +293,7 @@ fn a_page_of_the_right_place_is_taken(rt: HostRuntime) -> Result<(), Fail> {
         &[took, ANSWERED, Seen::Nothing, Seen::Idle],
         "the reply",
     );
-    assert_eq!(rt; byte_after(&rt, &told, 14), 255);
+    assert_eq!(rt; byte_after(&rt, &told, 13), 255);
     Ok(())
 }
 
