@@ -13,11 +13,12 @@ use Rattle.swap_script.specs.declared.TheConstants.{TEXT_LIMIT}
 use Rattle.swap_trace.specs.Traces.{trace}
 use Rattle.swap_options.specs.Play.{Play}
 use Rattle.swap_run.specs.declared.Ending.TheVariants as ending
-use Rattle.swap_run.specs.Clause.{Stream}
+use Rattle.swap_run.specs.Clause.{Stream, Failed}
 use Rattle.swap_run.specs.declared.Ending.{Ending}
+use Rattle.swap_run.proofs.ReadText.{read_whole_is, read_length}
 use Rattle.swap_over.specs.Ends.{OverEnds}
 use Rattle.swap_disk.specs.Drive.{Drive, new_drive}
-use Rattle.swap_hosted.specs.Hosted.{Deals, Unasked, OverHarbor, OverNet, OverMemory, OverFile, LinksEnd, WasRefused, DiskEnds, TextEnds, HostedEnds, ReadTraceOver, reached, memory_disk, memory_links, firsts}
+use Rattle.swap_hosted.specs.Hosted.{Deals, Unasked, OverHarbor, OverNet, OverMemory, OverFile, LinksEnd, WasRefused, DiskEnds, TextEnds, HostedEnds, ReadTraceOver, HostedCompletes, Played, reached, memory_disk, memory_links, firsts}
 
 module _ {D : Type 0} (disk : DiskMeaning D) where
   pub over_memory_links : (t : Script) (number : ℕ) (given : D) (h : Harbor) (out : Stream) (end : Ending) (ports : Option (D × Harbor)) (back : Option D) → h ≡ new_harbor t.sizes t.lenders → OverEnds disk memory_links t number given h out end ports → back ≡ firsts ports → OverHarbor disk t number given out end back
@@ -80,45 +81,46 @@ module _ {F : Type 0} (net : FabricMeaning F) (t : Script) (number : ℕ) (out :
 pub rose_over : (a b c d : ℕ) → a ≤ b → c ≤ d → Rose b c → Rose a d
 rose_over a b c d first last rose = omega (arith, first, last, rose)
 
--- how playing over ports may end
-abbrev pub IsEnd : Ending → Type 0
-IsEnd ending.Done = Unit {0}
-IsEnd ending.Faulted = Unit {0}
-IsEnd ending.WriteFailed = Unit {0}
-IsEnd ending.HostFailed = Unit {0}
-IsEnd ending.NoMemory = Unit {0}
-IsEnd _ = ⊥
+-- what an end of playing over ports comes only with: a write that failed, or a fault of the host
+abbrev pub IsCaused : Type 0 → Type 0 → Ending → Type 0
+IsCaused failed rose ending.Done = Unit {0}
+IsCaused failed rose ending.Faulted = Unit {0}
+IsCaused failed rose ending.WriteFailed = failed
+IsCaused failed rose ending.HostFailed = rose
+IsCaused failed rose ending.NoMemory = Unit {0}
+IsCaused failed rose _ = ⊥
 
-over_so : {D F : Type 0} (disk : DiskMeaning D) (net : FabricMeaning F) (t : Script) (number : ℕ) (given : D) (links : F) (out : Stream) (end : Ending) (ports : Option (D × F)) → OverEnds disk net t number given links out end ports → IsEnd end
-over_so disk net t number given links out ending.Done ports ends = tt
-over_so disk net t number given links out ending.Faulted ports ends = tt
-over_so disk net t number given links out ending.WriteFailed ports ends = tt
-over_so disk net t number given links out ending.HostFailed ports ends = tt
-over_so disk net t number given links out ending.NoMemory ports ends = tt
-over_so disk net t number given links out ending.Usage ports ends = absurd ends
-over_so disk net t number given links out ending.ReadFailed ports ends = absurd ends
-over_so disk net t number given links out (ending.Refused r) ports ends = absurd ends
-over_so disk net t number given links out ending.NotLegal ports ends = absurd ends
-over_so disk net t number given links out ending.TooLong ports ends = absurd ends
+over_so : {D F : Type 0} (disk : DiskMeaning D) (net : FabricMeaning F) (t : Script) (number : ℕ) (given : D) (links : F) (out : Stream) (rose : Type 0) (end : Ending) (ports : Option (D × F)) → OverEnds disk net t number given links out end ports → IsCaused (Failed out) rose end
+over_so disk net t number given links out rose ending.Done ports ends = tt
+over_so disk net t number given links out rose ending.Faulted ports ends = tt
+over_so disk net t number given links out rose ending.WriteFailed (Some back) ends = ends.failed
+over_so disk net t number given links out rose ending.WriteFailed None ends = absurd ends
+over_so disk net t number given links out rose ending.HostFailed ports ends = absurd ends
+over_so disk net t number given links out rose ending.NoMemory ports ends = tt
+over_so disk net t number given links out rose ending.Usage ports ends = absurd ends
+over_so disk net t number given links out rose ending.ReadFailed ports ends = absurd ends
+over_so disk net t number given links out rose (ending.Refused r) ports ends = absurd ends
+over_so disk net t number given links out rose ending.NotLegal ports ends = absurd ends
+over_so disk net t number given links out rose ending.TooLong ports ends = absurd ends
 
-no_memory : (end : Ending) → end ≡ ending.NoMemory → IsEnd end
-no_memory end is = subst IsEnd (sym is) tt
+no_memory : (failed rose : Type 0) (end : Ending) → end ≡ ending.NoMemory → IsCaused failed rose end
+no_memory failed rose end is = subst (IsCaused failed rose) (sym is) tt
 
-withheld_so : {N P : Type 0} (name : N) (d : Deals N P) (rose : Type 0) (end : Ending) → WasRefused name d rose end → IsEnd end
-withheld_so name d rose end (none, inl memory) = no_memory end memory
-withheld_so name d rose end (none, inr (failed, r)) = subst IsEnd (sym failed) tt
+withheld_so : {N P : Type 0} (failed : Type 0) (name : N) (d : Deals N P) (rose : Type 0) (end : Ending) → WasRefused name d rose end → IsCaused failed rose end
+withheld_so failed name d rose end (none, inl memory) = no_memory failed rose end memory
+withheld_so failed name d rose end (none, inr (is, r)) = subst (IsCaused failed rose) (sym is) r
 
-harbor_so : {D : Type 0} (disk : DiskMeaning D) (t : Script) (number : ℕ) (given : D) (out : Stream) (end : Ending) (back : Option D) → OverHarbor disk t number given out end back → IsEnd end
-harbor_so disk t number given out end back (OverHarbor.played ports ends firsts_are) = over_so disk memory_links t number given (new_harbor t.sizes t.lenders) out end ports ends
-harbor_so disk t number given out end back (OverHarbor.unmade memory same nothing) = no_memory end memory
+harbor_so : {D : Type 0} (disk : DiskMeaning D) (t : Script) (number : ℕ) (given : D) (out : Stream) (rose : Type 0) (end : Ending) (back : Option D) → OverHarbor disk t number given out end back → IsCaused (Failed out) rose end
+harbor_so disk t number given out rose end back (OverHarbor.played ports ends firsts_are) = over_so disk memory_links t number given (new_harbor t.sizes t.lenders) out rose end ports ends
+harbor_so disk t number given out rose end back (OverHarbor.unmade memory same nothing) = no_memory (Failed out) rose end memory
 
-net_so : {D F : Type 0} (disk : DiskMeaning D) (net : FabricMeaning F) (t : Script) (number : ℕ) (given : D) (out : Stream) (addresses : List Address) (nets : Deals (List Address) F) (rose : Type 0) (end : Ending) (back : Option D) → OverNet disk net t number given out addresses nets rose end back → IsEnd end
-net_so disk net t number given out addresses nets rose end back (OverNet.played links ports ends firsts_are dealt) = over_so disk net t number given links out end ports ends
-net_so disk net t number given out addresses nets rose end back (OverNet.withheld was same nothing) = withheld_so addresses nets rose end was
-net_so disk net t number given out addresses nets rose end back (OverNet.unasked none memory same nothing) = no_memory end memory
+net_so : {D F : Type 0} (disk : DiskMeaning D) (net : FabricMeaning F) (t : Script) (number : ℕ) (given : D) (out : Stream) (addresses : List Address) (nets : Deals (List Address) F) (rose : Type 0) (end : Ending) (back : Option D) → OverNet disk net t number given out addresses nets rose end back → IsCaused (Failed out) rose end
+net_so disk net t number given out addresses nets rose end back (OverNet.played links ports ends firsts_are dealt) = over_so disk net t number given links out rose end ports ends
+net_so disk net t number given out addresses nets rose end back (OverNet.withheld was same nothing) = withheld_so (Failed out) addresses nets rose end was
+net_so disk net t number given out addresses nets rose end back (OverNet.unasked none memory same nothing) = no_memory (Failed out) rose end memory
 
-links_so : {D F : Type 0} (disk : DiskMeaning D) (net : FabricMeaning F) (t : Script) (number : ℕ) (given : D) (out : Stream) (tcp : Option (List Address)) (nets : Deals (List Address) F) (rose : Type 0) (end : Ending) (back : Option D) → LinksEnd net t number out nets rose disk given tcp end back → IsEnd end
-links_so disk net t number given out None nets rose end back links = harbor_so disk t number given out end back links.0
+links_so : {D F : Type 0} (disk : DiskMeaning D) (net : FabricMeaning F) (t : Script) (number : ℕ) (given : D) (out : Stream) (tcp : Option (List Address)) (nets : Deals (List Address) F) (rose : Type 0) (end : Ending) (back : Option D) → LinksEnd net t number out nets rose disk given tcp end back → IsCaused (Failed out) rose end
+links_so disk net t number given out None nets rose end back links = harbor_so disk t number given out rose end back links.0
 links_so disk net t number given out (Some addresses) nets rose end back links = net_so disk net t number given out addresses nets rose end back links
 
 module _ {D F : Type 0} (disk : DiskMeaning D) (net : FabricMeaning F) (o : Play) (out : Stream) (disks : Deals (List ℕ) D) (nets : Deals (List Address) F) (rose : Type 0) (t : Script) where
@@ -134,15 +136,15 @@ module _ {D F : Type 0} (disk : DiskMeaning D) (net : FabricMeaning F) (o : Play
       let Q : List ℕ → Type 0 = λ x. OverFile disk net t o.number out tcp disks nets rose x end in
       subst P same (subst Q there over)
 
-  memory_so : (end : Ending) → OverMemory net t o.number out o.tcp nets rose end → IsEnd end
+  memory_so : (end : Ending) → OverMemory net t o.number out o.tcp nets rose end → IsCaused (Failed out) rose end
   memory_so end (OverMemory.played back links) = links_so memory_disk net t o.number (new_drive t.sizes) out o.tcp nets rose end back links
-  memory_so end (OverMemory.unmade memory nothing none) = no_memory end memory
+  memory_so end (OverMemory.unmade memory nothing none) = no_memory (Failed out) rose end memory
 
-  file_so : (path : List ℕ) (end : Ending) → OverFile disk net t o.number out o.tcp disks nets rose path end → IsEnd end
+  file_so : (path : List ℕ) (end : Ending) → OverFile disk net t o.number out o.tcp disks nets rose path end → IsCaused (Failed out) rose end
   file_so path end (OverFile.played given back links dealt) = links_so disk net t o.number given out o.tcp nets rose end back links
-  file_so path end (OverFile.withheld was nothing none) = withheld_so path disks rose end was
+  file_so path end (OverFile.withheld was nothing none) = withheld_so (Failed out) path disks rose end was
 
-  pub disk_so : (path : Option (List ℕ)) (end : Ending) → DiskEnds disk net o out disks nets rose t path end → IsEnd end
+  pub disk_so : (path : Option (List ℕ)) (end : Ending) → DiskEnds disk net o out disks nets rose t path end → IsCaused (Failed out) rose end
   disk_so None end over = memory_so end over.0
   disk_so (Some path) end over = file_so path end over
 
@@ -175,3 +177,23 @@ module _ {D F : Type 0} (disk : DiskMeaning D) (net : FabricMeaning F) (o : Play
       go (Err refused) ending.NotLegal e h = absurd h
       go (Err refused) ending.HostFailed e h = absurd h
       go (Err refused) ending.TooLong e h = absurd h
+
+not_both : (tcp : Option ℕ) (text : List ℕ) (t : Script) (refused : ScriptRefused) → trace tcp text ≡ Ok t → trace tcp text ≡ Err refused → ⊥
+not_both tcp text t refused a b = cc
+
+pub completes : {D F : Type 0} (disk : DiskMeaning D) (net : FabricMeaning F) → HostedCompletes disk net
+completes {D} {F} disk net o source out disks nets before after end text t h told fits is no_fault no_write no_rise = go end h
+  where
+    go : (end : Ending) → HostedEnds disk net o out disks nets (Rose before after) source end → (end ≡ ending.Done) ⊎ ((end ≡ ending.Faulted) ⊎ (end ≡ ending.NoMemory))
+    go ending.Done h = inl refl
+    go ending.Faulted h = inr (inl refl)
+    go ending.Usage h = absurd h
+    go ending.ReadFailed h = absurd (no_fault h.0.failed)
+    go ending.WriteFailed h = absurd (no_write (disk_so disk net o out disks nets (Rose before after) h.trace_is o.disk ending.WriteFailed h.ends))
+    go (ending.Refused refused) h =
+        let P : List ℕ → Type 0 = λ x. trace (reached o) x ≡ Err refused in
+        absurd (not_both (reached o) text t refused is (subst P (sym (read_whole_is source.before source.now text h.0.text told h.0.was_read)) h.0.is_refused))
+    go ending.NoMemory h = inr (inr refl)
+    go ending.NotLegal h = absurd h
+    go ending.HostFailed h = absurd (no_rise (disk_so disk net o out disks nets (Rose before after) h.trace_is o.disk ending.HostFailed h.ends))
+    go ending.TooLong h = let longer = read_length source.before source.now text h.0.bytes told h.0.was_read in absurd (omega (arith, longer, h.0.too_long))

@@ -1,7 +1,7 @@
 -- How playing a trace over what a host gives ends, and what it then read, wrote and did with the host.
 use Rattle.std.specs.Prelude.{◌≡◌, ◌≤◌, ◌⊎◌, ℕ, List, length, Option, None, Some, Result, Ok, Err}
 use Rattle.std.specs.Option.{option_map}
-use Rattle.swap_io.specs.Causes.{WasReadWhole}
+use Rattle.swap_io.specs.Causes.{WasReadWhole, Rose}
 use Rattle.swap_disk.specs.Drive as drive
 use Rattle.swap_disk.specs.Drive.{Drive, new_drive, port_of}
 use Rattle.swap_disk.specs.declared.port.DiskPort.{Ghosts as DiskMeaning}
@@ -15,7 +15,7 @@ use Rattle.swap_trace.specs.Traces.{trace}
 use Rattle.swap_world.specs.World.{new_harbor}
 use Rattle.swap_sock.specs.Dealings.{Dealings, gave_one, gave_none, got_back}
 use Rattle.swap_sock.specs.declared.address.Address.{Address}
-use Rattle.swap_run.specs.Clause.{Stream, TookNothing, ReadBrokeOff, ReadTooMuch}
+use Rattle.swap_run.specs.Clause.{Stream, Failed, TookNothing, ReadBrokeOff, ReadTooMuch}
 use Rattle.swap_run.specs.declared.Ending.{Ending}
 use Rattle.swap_run.specs.declared.Ending.TheVariants as ending
 use Rattle.swap_options.specs.Play.{Play}
@@ -134,3 +134,11 @@ module _ {D F : Type 0} (disk : DiskMeaning D) (net : FabricMeaning F) (o : Play
   TextEnds (Ok t) end = DiskEnds t o.disk end
   TextEnds (Err refused) (ending.Refused r) = (r ≡ refused) × Untouched
   TextEnds (Err refused) _ = ⊥
+
+-- Where a trace for so many addresses is told and keeps the limit, and neither source, output nor host fails, the call ends
+-- with a played trace's transcript, or for want of memory.
+abbrev pub HostedCompletes : {D F : Type 0} → DiskMeaning D → FabricMeaning F → Type 0
+HostedCompletes {D} {F} disk net =
+    (o : Play) (source out : Stream) (disks : Deals (List ℕ) D) (nets : Deals (List Address) F) (before after : ℕ) (end : Ending) (text : List ℕ) (t : Script)
+    → HostedEnds disk net o out disks nets (Rose before after) source end → source.before ≡ Some text → length text ≤ TEXT_LIMIT → trace (reached o) text ≡ Ok t
+    → ¬ Failed source → ¬ Failed out → ¬ (Rose before after) → (end ≡ ending.Done) ⊎ ((end ≡ ending.Faulted) ⊎ (end ≡ ending.NoMemory))

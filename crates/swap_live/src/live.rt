@@ -1,14 +1,14 @@
-ghost use Rattle.std.specs.Prelude.{◌≡◌, map, true, Some, None, IfOk, IfErr};
+ghost use Rattle.std.specs.Prelude.{◌≡◌, ◌≤◌, map, true, length, Some, None, IfOk, IfErr, IfSome};
 ghost use Rattle.swap_options.specs.Lend.{keeps_limits};
 ghost use Rattle.swap_options.specs.Play.{asked};
 ghost use Rattle.swap_run.specs.Clause.{stream};
-ghost use Rattle.swap_live.specs.Lending.{hosting};
-ghost use Rattle.swap_live.specs.Live.{command_of, play_of, ending_of, KeepsLimits, EndsAsLending, LiveEnds, LiveEndsWith, LendsComplete, PlaysComplete};
+ghost use Rattle.swap_live.specs.Live.{command_is, command_of, dealt, ending_of, KeepsLimits, EndsAsLending, EndsAsPlaying, LiveEnds, LiveEndsWith, LendsComplete, PlaysComplete};
 
 use crate::{LendEnd, Offer, lend};
 use std::alloc::Global;
 use std::sync::Wait;
 use std::thread::Threads;
+use swap_hosted::{hosted_completes, play_hosted};
 use swap_io::{Sink, Source};
 use swap_options::{
     LendOptions, OptionsRefused, PlayOptions, limits_let_lend, read_lend, read_play,
@@ -19,28 +19,15 @@ use swap_show::{play_source, shows_complete};
 use swap_sock::Host;
 
 /// What the words of a command that may wait ask for.
-#[derive(Clone, Copy, Debug, PartialEq, Eq)]
-pub enum LiveCommand {
+#[derive(Debug, Drop)]
+pub enum LiveCommand<'w> {
     Lend(LendOptions),
-    Play(u64),
-}
-
-/// What options of play ask for, where neither a file for the disk nor addresses of lenders are given.
-fn play_of(options: PlayOptions<'_>) -> Result<LiveCommand, OptionsRefused>
-    ensures command { IfOk result (λ command. play_of (Some (asked options.entry)) ≡ Some command) }
-    ensures limits { IfOk result KeepsLimits }
-    ensures usage { IfErr result (λ why. play_of (Some (asked options.entry)) ≡ None) }
-{
-    let PlayOptions { number, disk, tcp } = options;
-    if disk.is_some() || tcp.is_some() {
-        return Err(OptionsRefused::Usage);
-    }
-    Ok(LiveCommand::Play(number))
+    Play(PlayOptions<'w>),
 }
 
 /// What the words ask for.
-fn command_of(alloc: Global, words: &[&str]) -> Result<LiveCommand, OptionsRefused>
-    ensures command { IfOk result (λ command. command_of (map (λ word. word.now) words.now) ≡ Some command) }
+fn command_of<'w>(alloc: Global, words: &'w [&'w str]) -> Result<LiveCommand<'w>, OptionsRefused>
+    ensures command { IfOk result (λ command. command_of (map (λ word. word.now) words.now) ≡ Some (command_is command)) }
     ensures limits { IfOk result KeepsLimits }
     ensures usage { IfErr result (λ why. why ≡ OptionsRefused.Usage → command_of (map (λ word. word.now) words.now) ≡ None) }
 {
@@ -50,7 +37,7 @@ fn command_of(alloc: Global, words: &[&str]) -> Result<LiveCommand, OptionsRefus
             Err(why) => Err(why),
         },
         ["play", options @ ..] => match read_play(alloc, options) {
-            Ok(options) => play_of(options),
+            Ok(options) => Ok(LiveCommand::Play(options)),
             Err(why) => Err(why),
         },
         _ => Err(OptionsRefused::Usage),
@@ -82,9 +69,7 @@ where
     K: Sink,
     H: Host,
     requires { keeps_limits options.now ≡ true }
-    ensures ends { EndsAsLending H.Entrance.links H.Entrance.Reader.left H.Entrance.Reader.faults H.Entrance.Writer.faults options.now (stream (K.taken out.old) (K.taken out.new) (K.faults out.old) (K.faults out.new)) (hosting (H.doors host.old) (H.doors host.new) (H.faults host.old) (H.faults host.new)) result }
-    ensures disks { H.disks host.new ≡ H.disks host.old }
-    ensures nets { H.nets host.new ≡ H.nets host.old }
+    ensures ends { EndsAsLending H.Disk.DiskPort H.Net.Fabric H.Entrance.links H.Entrance.Reader.left H.Entrance.Reader.faults H.Entrance.Writer.faults options.now (stream (K.taken out.old) (K.taken out.new) (K.faults out.old) (K.faults out.new)) (dealt (H.disks host.old) (H.disks host.new) (H.nets host.old) (H.nets host.new) (H.doors host.old) (H.doors host.new) (H.faults host.old) (H.faults host.new)) result }
 {
     limits_let_lend();
     let offer = Offer {
@@ -95,6 +80,34 @@ where
         used: options.used,
     };
     ending_of(lend(rt, alloc, host, &options.listen, &offer, out))
+}
+
+/// Plays by these options: in memory where they give neither a file for the disk nor addresses of lenders.
+fn run_play<R, S, K, H, G>(
+    rt: &R,
+    alloc: Global,
+    options: &PlayOptions<'_>,
+    source: &mut S,
+    out: &mut K,
+    host: &mut H,
+    gate: &G,
+) -> Ending
+where
+    R: Threads + Wait + Sync,
+    S: Source,
+    K: Sink,
+    H: Host,
+    H::Disk: Send,
+    H::Net: Send,
+    G: Gate,
+    requires lenders { IfSome options.now.tcp (λ lenders. length lenders.items ≤ 8) }
+    ensures ends { EndsAsPlaying H.Disk.DiskPort H.Net.Fabric (asked options.now) (stream (S.left source.old) (S.left source.new) (S.faults source.old) (S.faults source.new)) (stream (K.taken out.old) (K.taken out.new) (K.faults out.old) (K.faults out.new)) (dealt (H.disks host.old) (H.disks host.new) (H.nets host.old) (H.nets host.new) (H.doors host.old) (H.doors host.new) (H.faults host.old) (H.faults host.new)) result }
+{
+    if options.disk.is_none() && options.tcp.is_none() {
+        play_source(rt, alloc, options.number, source, out, gate)
+    } else {
+        play_hosted(rt, alloc, options, source, out, host, gate)
+    }
 }
 
 /// Does what the words ask for.
@@ -112,14 +125,16 @@ where
     S: Source,
     K: Sink,
     H: Host,
+    H::Disk: Send,
+    H::Net: Send,
     G: Gate,
-    ensures ends { LiveEnds H.Entrance.links H.Entrance.Reader.left H.Entrance.Reader.faults H.Entrance.Writer.faults (command_of (map (λ word. word.now) words.now)) (stream (S.left source.old) (S.left source.new) (S.faults source.old) (S.faults source.new)) (stream (K.taken out.old) (K.taken out.new) (K.faults out.old) (K.faults out.new)) (hosting (H.doors host.old) (H.doors host.new) (H.faults host.old) (H.faults host.new)) result }
-    ensures disks { H.disks host.new ≡ H.disks host.old }
-    ensures nets { H.nets host.new ≡ H.nets host.old }
+    ensures ends { LiveEnds H.Disk.DiskPort H.Net.Fabric H.Entrance.links H.Entrance.Reader.left H.Entrance.Reader.faults H.Entrance.Writer.faults (command_of (map (λ word. word.now) words.now)) (stream (S.left source.old) (S.left source.new) (S.faults source.old) (S.faults source.new)) (stream (K.taken out.old) (K.taken out.new) (K.faults out.old) (K.faults out.new)) (dealt (H.disks host.old) (H.disks host.new) (H.nets host.old) (H.nets host.new) (H.doors host.old) (H.doors host.new) (H.faults host.old) (H.faults host.new)) result }
 {
     match command_of(alloc, words) {
         Ok(LiveCommand::Lend(options)) => run_lend(rt, alloc, &options, out, host),
-        Ok(LiveCommand::Play(number)) => play_source(&rt, alloc, number, source, out, gate),
+        Ok(LiveCommand::Play(options)) => {
+            run_play(&rt, alloc, &options, source, out, host, gate)
+        }
         Err(OptionsRefused::Usage) => Ending::Usage,
         Err(OptionsRefused::NoMemory) => Ending::NoMemory,
     }
@@ -127,10 +142,12 @@ where
 
 /// The top call for the commands that may wait; its promise holds if it returns. `lend` reads nothing, opens a door at an
 /// address of the host, serves so many links, gives the door back and writes `served N links` to `out`. `play` reads a
-/// trace from `source`, plays it over a disk and lenders in memory, each caller in a thread of its own, and writes the
-/// transcript of what was made to `out`; it asks nothing of the host. `gate` lets its pumps pass and hears of its answers.
-/// Words of any other form are status 2. The answer is the program's status; what went wrong is told to `err`, whose own
-/// failures change nothing. Each status has its cause in the clause, and nothing but a door is asked of the host.
+/// trace from `source`, plays it, each caller in a thread of its own, and writes the transcript of what was made to `out`.
+/// Its disk is the host's at a path where one is given, and its lenders are reached at addresses over the host where they
+/// are given; what isn't given is in memory, and the host isn't asked for it. What the host gave goes back to it as the run
+/// left it, or is dropped where memory runs out. `gate` lets the pumps pass and hears of the answers. Words of any other
+/// form are status 2. The answer is the program's status; what went wrong is told to `err`, whose own failures change
+/// nothing. Each status has its cause in the clause.
 pub fn run_live<R, S, K, E, H, G>(
     rt: R,
     alloc: Global,
@@ -147,10 +164,10 @@ where
     K: Sink,
     E: Sink,
     H: Host,
+    H::Disk: Send,
+    H::Net: Send,
     G: Gate,
-    ensures ends { LiveEndsWith H.Entrance.links H.Entrance.Reader.left H.Entrance.Reader.faults H.Entrance.Writer.faults (command_of (map (λ word. word.now) words.now)) (stream (S.left source.old) (S.left source.new) (S.faults source.old) (S.faults source.new)) (stream (K.taken out.old) (K.taken out.new) (K.faults out.old) (K.faults out.new)) (stream (E.taken err.old) (E.taken err.new) (E.faults err.old) (E.faults err.new)) (hosting (H.doors host.old) (H.doors host.new) (H.faults host.old) (H.faults host.new)) result }
-    ensures disks { H.disks host.new ≡ H.disks host.old }
-    ensures nets { H.nets host.new ≡ H.nets host.old }
+    ensures ends { LiveEndsWith H.Disk.DiskPort H.Net.Fabric H.Entrance.links H.Entrance.Reader.left H.Entrance.Reader.faults H.Entrance.Writer.faults (command_of (map (λ word. word.now) words.now)) (stream (S.left source.old) (S.left source.new) (S.faults source.old) (S.faults source.new)) (stream (K.taken out.old) (K.taken out.new) (K.faults out.old) (K.faults out.new)) (stream (E.taken err.old) (E.taken err.new) (E.faults err.old) (E.faults err.new)) (dealt (H.disks host.old) (H.disks host.new) (H.nets host.old) (H.nets host.new) (H.doors host.old) (H.doors host.new) (H.faults host.old) (H.faults host.new)) result }
 {
     let ending = run_words(rt, alloc, words, source, out, host, gate);
     tell_ending(ending, err);
@@ -158,11 +175,12 @@ where
 }
 
 /// A call that lends, of which neither `out` nor the host fails, and so no door of its, ends by 0, or by 6 for want of
-/// memory. One that plays a trace that is told and within the limit, of which neither `source` nor `out` fails, ends by 0,
-/// by 1 where a call failed, or by 6.
+/// memory. One that plays a trace that is told and within the limit, for as many lenders as addresses are given, of which
+/// neither `source`, `out` nor the host fails, ends by 0, by 1 where a call failed, or by 6.
 pub fn live_completes<H: Host>()
-    ensures lends { LendsComplete H.Entrance.links H.Entrance.Reader.left H.Entrance.Reader.faults H.Entrance.Writer.faults }
-    ensures plays { PlaysComplete H.Entrance.links H.Entrance.Reader.left H.Entrance.Reader.faults H.Entrance.Writer.faults }
+    ensures lends { LendsComplete H.Disk.DiskPort H.Net.Fabric H.Entrance.links H.Entrance.Reader.left H.Entrance.Reader.faults H.Entrance.Writer.faults }
+    ensures plays { PlaysComplete H.Disk.DiskPort H.Net.Fabric H.Entrance.links H.Entrance.Reader.left H.Entrance.Reader.faults H.Entrance.Writer.faults }
 {
     shows_complete();
+    hosted_completes::<H::Disk, H::Net>();
 }

@@ -12,6 +12,7 @@ use swap_sock::{Address, Counts, Door, Host, HostFault, LinkEnd};
 use swap_wire::Msg;
 
 mod loopback;
+mod paging;
 mod words;
 
 /// The first bytes that a sink took.

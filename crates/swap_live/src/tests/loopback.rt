@@ -29,16 +29,16 @@ const TRIES: u32 = 100_000;
 /// The page that is written.
 const PAGE: [u8; 8] = [0xaa; 8];
 
-/// An address on loopback that no other process has: the process's number stands in it. The port is none that the system
+/// An address on loopback that no other process has: the process's number stands in it. The ports that are given are none that the system
 /// picks by itself.
-fn own_address(process: u32) -> Address {
+pub(super) fn own_address(process: u32, port: u16) -> Address {
     let [_, b, c, d] = process.to_be_bytes();
     Address {
         a: 127,
         b,
         c,
         d,
-        port: 7407,
+        port,
     }
 }
 
@@ -153,7 +153,7 @@ fn a_device_writes_and_reads_a_page_that_is_lent_over_loopback(
     rt: HostRuntime,
 ) -> Result<(), Fail> {
     let alloc = rt.alloc();
-    let address = own_address(process::id(rt.process()));
+    let address = own_address(process::id(rt.process()), 7407);
     let mut device = Device::open(rt, alloc, &address)?;
     let Ok(lender) = thread::spawn(&rt, move || lend_at(rt, alloc, address)) else {
         return Err("thread".into());

@@ -9,18 +9,19 @@ use swap_base::Caller;
 use swap_board::Point;
 use swap_io::{MemSink, MemSource};
 use swap_player::Gate;
+use swap_run::run_lab;
 use swap_sock::{Host, MemHost};
 
 const USAGE: &str = "usage: remswap script|check|drill|play|lend\n";
 
 /// The number of the call that fails, of the host and of `out`.
 #[derive(Clone, Copy, Debug)]
-struct Failing {
+pub(super) struct Failing {
     host: u32,
     out: u32,
 }
 
-const NONE: Failing = Failing {
+pub(super) const NONE: Failing = Failing {
     host: u32::MAX,
     out: u32::MAX,
 };
@@ -40,13 +41,13 @@ impl Gate for Open {
 
 /// What a call gave.
 #[derive(Debug, Drop)]
-struct Ran {
-    status: u8,
-    out: MemSink,
+pub(super) struct Ran {
+    pub(super) status: u8,
+    pub(super) out: MemSink,
     err: MemSink,
 }
 
-fn run<R, H>(
+pub(super) fn run<R, H>(
     rt: R,
     alloc: Global,
     words: &[&str],
@@ -57,11 +58,13 @@ fn run<R, H>(
 where
     R: Threads + Wait + Copy + Send + Sync + 'static,
     H: Host,
+    H::Disk: Send,
+    H::Net: Send,
 {
     let text = text.as_bytes().to_vec(alloc)?;
     let mut source = MemSource::make(text, Vec::new(alloc));
     let failing = vec![in alloc; failing.out]?;
-    let mut out = MemSink::make(alloc, 100, failing).map_err(|_| "out")?;
+    let mut out = MemSink::make(alloc, 4000, failing).map_err(|_| "out")?;
     let mut err = MemSink::make(alloc, 64, Vec::new(alloc)).map_err(|_| "err")?;
     let status = run_live(
         rt,
@@ -144,6 +147,7 @@ const PLAYED: &str = "geometry 8 4 2 4 1 4 20\nin 0 5 = entry 0 in 5 of none zer
 fn words_play_a_trace(rt: HostRuntime) -> Result<(), Fail> {
     let alloc = rt.alloc();
     let write = Failing { out: 0, ..NONE };
+    let host_first = Failing { host: 0, ..NONE };
     for (name, words, text, failing, want) in [
         ("a trace", ["play"].as_slice(), TRACE, NONE, (PLAYED, "", 0)),
         (
@@ -179,19 +183,100 @@ fn words_play_a_trace(rt: HostRuntime) -> Result<(), Fail> {
             ["play", "--disk", "x"].as_slice(),
             TRACE,
             NONE,
-            ("", USAGE, 2),
+            (PLAYED, "", 0),
         ),
         (
-            "lenders by addresses",
+            "a host without a disk",
+            ["play", "--disk", "x"].as_slice(),
+            TRACE,
+            host_first,
+            ("", "host failed\n", 8),
+        ),
+        (
+            "no host is asked",
+            ["play"].as_slice(),
+            TRACE,
+            host_first,
+            (PLAYED, "", 0),
+        ),
+        (
+            "an address too many",
             ["play", "--tcp", "127.0.0.1:4000"].as_slice(),
+            TRACE,
+            NONE,
+            ("", "line 2: lenders\n", 5),
+        ),
+        (
+            "no address",
+            ["play", "--tcp", "localhost:4000"].as_slice(),
             TRACE,
             NONE,
             ("", USAGE, 2),
         ),
     ] {
-        let mut host = MemHost::make(alloc, vec![in alloc; u32::MAX]?);
+        let mut host = MemHost::make(alloc, vec![in alloc; failing.host]?);
         let ran = run(rt, alloc, words, text, &mut host, failing)?;
         judge(&rt, name, &ran, want);
+    }
+    Ok(())
+}
+
+/// A trace of one lender and two calls.
+pub(super) const LENT_TRACE: &str = "geometry 8 4 2 4 2 4 20\nlender 4 1 1\n0 out 3 aa\n0 in 3\n";
+
+/// What `check` says of a transcript.
+pub(super) fn verdict(alloc: Global, transcript: &[u8]) -> Result<Vec<u8>, Fail> {
+    let text = transcript.to_vec(alloc)?;
+    let mut source = MemSource::make(text, Vec::new(alloc));
+    let mut out = MemSink::make(alloc, 64, Vec::new(alloc)).map_err(|_| "out")?;
+    let mut err = MemSink::make(alloc, 64, Vec::new(alloc)).map_err(|_| "err")?;
+    run_lab(alloc, &["check"], &mut source, &mut out, &mut err);
+    Ok(out.bytes().to_vec(alloc)?)
+}
+
+#[test]
+fn a_trace_over_what_a_host_gives_is_legal(rt: HostRuntime) -> Result<(), Fail> {
+    let alloc = rt.alloc();
+    let host_first = Failing { host: 0, ..NONE };
+    let host_second = Failing { host: 1, ..NONE };
+    for (name, words, failing, status) in [
+        ("memory", ["play"].as_slice(), NONE, 0),
+        ("disk", ["play", "--disk", "x"].as_slice(), NONE, 0),
+        ("tcp", ["play", "--tcp", "10.0.0.1:4"].as_slice(), NONE, 0),
+        (
+            "both",
+            ["play", "--disk", "x", "--tcp", "10.0.0.1:4"].as_slice(),
+            NONE,
+            0,
+        ),
+        ("no disk", ["play", "--disk", "x"].as_slice(), host_first, 8),
+        (
+            "no links",
+            ["play", "--tcp", "10.0.0.1:4"].as_slice(),
+            host_first,
+            8,
+        ),
+        (
+            "a disk, and no links",
+            ["play", "--disk", "x", "--tcp", "10.0.0.1:4"].as_slice(),
+            host_second,
+            8,
+        ),
+    ] {
+        let mut host = MemHost::make(alloc, vec![in alloc; failing.host]?);
+        let ran = run(rt, alloc, words, LENT_TRACE, &mut host, failing)?;
+        assert_eq!(rt; ran.status, status, "status of {name}");
+        if status == 0 {
+            let said = verdict(alloc, ran.out.bytes())?;
+            assert_eq!(rt; said.as_slice(), b"legal 2 entries\n".as_slice(), "{name}");
+        } else {
+            assert_eq!(rt; ran.out.bytes(), b"".as_slice(), "out of {name}");
+            assert_eq!(rt;
+                ran.err.bytes(),
+                b"host failed\n".as_slice(),
+                "err of {name}"
+            );
+        }
     }
     Ok(())
 }
