@@ -111,7 +111,7 @@ where
         host: RealHost::make(rt, alloc),
         open,
     };
-    let ran = run(rt, alloc, &words, "", &mut host, NONE).ok()?;
+    let ran = run(rt, alloc, &words, "", &mut host, NONE)?;
     let written = ran.out.bytes().to_vec(alloc).ok()?;
     Some((ran.status, written))
 }
@@ -130,7 +130,7 @@ fn a_trace_is_played_over_a_lender_by_tcp(rt: HostRuntime) -> Result<(), Fail> {
     assert!(rt; waits_for(rt, &open), "the door");
     let words = ["play", "--tcp", address.as_str()];
     let mut host = RealHost::make(rt, alloc);
-    let ran = run(rt, alloc, &words, LENT_TRACE, &mut host, NONE)?;
+    let ran = run(rt, alloc, &words, LENT_TRACE, &mut host, NONE).ok_or("memory")?;
     assert_eq!(rt; ran.status, 0);
     let said = verdict(alloc, ran.out.bytes())?;
     assert_eq!(rt; said.as_slice(), b"legal 2 entries\n".as_slice());

@@ -47,6 +47,7 @@ pub(super) struct Ran {
     err: MemSink,
 }
 
+/// Runs the words; none where there is no memory for it.
 pub(super) fn run<R, H>(
     rt: R,
     alloc: Global,
@@ -54,18 +55,18 @@ pub(super) fn run<R, H>(
     text: &str,
     host: &mut H,
     failing: Failing,
-) -> Result<Ran, Fail>
+) -> Option<Ran>
 where
     R: Threads + Wait + Copy + Send + Sync + 'static,
     H: Host,
     H::Disk: Send,
     H::Net: Send,
 {
-    let text = text.as_bytes().to_vec(alloc)?;
+    let text = text.as_bytes().to_vec(alloc).ok()?;
     let mut source = MemSource::make(text, Vec::new(alloc));
-    let failing = vec![in alloc; failing.out]?;
-    let mut out = MemSink::make(alloc, 4000, failing).map_err(|_| "out")?;
-    let mut err = MemSink::make(alloc, 64, Vec::new(alloc)).map_err(|_| "err")?;
+    let failing = vec![in alloc; failing.out].ok()?;
+    let mut out = MemSink::make(alloc, 4000, failing).ok()?;
+    let mut err = MemSink::make(alloc, 64, Vec::new(alloc)).ok()?;
     let status = run_live(
         rt,
         alloc,
@@ -76,7 +77,7 @@ where
         host,
         &Open,
     );
-    Ok(Ran { status, out, err })
+    Some(Ran { status, out, err })
 }
 
 /// Compares what a call gave with what is wanted on `out`, on `err` and as its status.
@@ -110,10 +111,10 @@ fn words_lend_over_a_door_and_its_sink_takes_the_replies(rt: HostRuntime) -> Res
     };
     let log = Arc::new(alloc, Mutex::new(log))?;
     let mut host = host(rt, alloc, Arc::try_clone(&log)?)?;
-    let ran = run(rt, alloc, &words, "", &mut host, NONE)?;
+    let ran = run(rt, alloc, &words, "", &mut host, NONE).ok_or("memory")?;
     judge(&rt, "the first call", &ran, ("served 1 links\n", "", 0));
     assert!(rt; log.lock(&rt).is(&REPLIES));
-    let ran = run(rt, alloc, &words, "", &mut host, NONE)?;
+    let ran = run(rt, alloc, &words, "", &mut host, NONE).ok_or("memory")?;
     judge(&rt, "a host without a door", &ran, ("", "host failed\n", 8));
     Ok(())
 }
@@ -132,7 +133,7 @@ fn each_status_comes_with_its_words_on_err(rt: HostRuntime) -> Result<(), Fail> 
         ("no words", [].as_slice(), NONE, ("", USAGE, 2)),
     ] {
         let mut host = MemHost::make(alloc, vec![in alloc; failing.host]?);
-        let ran = run(rt, alloc, words, "", &mut host, failing)?;
+        let ran = run(rt, alloc, words, "", &mut host, failing).ok_or("memory")?;
         judge(&rt, name, &ran, want);
     }
     Ok(())
@@ -215,7 +216,7 @@ fn words_play_a_trace(rt: HostRuntime) -> Result<(), Fail> {
         ),
     ] {
         let mut host = MemHost::make(alloc, vec![in alloc; failing.host]?);
-        let ran = run(rt, alloc, words, text, &mut host, failing)?;
+        let ran = run(rt, alloc, words, text, &mut host, failing).ok_or("memory")?;
         judge(&rt, name, &ran, want);
     }
     Ok(())
@@ -264,7 +265,7 @@ fn a_trace_over_what_a_host_gives_is_legal(rt: HostRuntime) -> Result<(), Fail> 
         ),
     ] {
         let mut host = MemHost::make(alloc, vec![in alloc; failing.host]?);
-        let ran = run(rt, alloc, words, LENT_TRACE, &mut host, failing)?;
+        let ran = run(rt, alloc, words, LENT_TRACE, &mut host, failing).ok_or("memory")?;
         assert_eq!(rt; ran.status, status, "status of {name}");
         if status == 0 {
             let said = verdict(alloc, ran.out.bytes())?;
