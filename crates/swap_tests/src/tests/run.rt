@@ -1,11 +1,11 @@
 //! What no clause says: the worked examples by name, what goes wrong at the streams, and texts at fault.
 
-use super::*;
 use std::alloc::Global;
 use std::process::Abort;
 use std::str;
 use std::test::Fail;
 use swap_io::{MemSink, MemSource};
+use swap_run::run_lab;
 
 /// The number of the call that fails, at each stream.
 #[derive(Clone, Copy, Debug)]

@@ -5,12 +5,12 @@ ghost use Rattle.swap_wire.specs.Input.{IsInRange};
 ghost use Rattle.swap_table.specs.Device.{of_device};
 ghost use Rattle.swap_table.specs.Fits.{IsBlank};
 
-use crate::*;
 use std::alloc::Global;
 use std::process::Abort;
 use std::test::Fail;
 use swap_base::{EntryNo, Lease, Lender, NoMemory, Page, Slab, Via};
 use swap_disk::{DiskPort, MemDisk};
+use swap_hostile::{LyingFabric, SilentDisk, SwappingDisk};
 use swap_link::Harbor;
 use swap_run::lenders_of;
 use swap_script::{Script, read_script};

@@ -1,11 +1,11 @@
 ghost use Rattle.std.specs.Prelude.{◌≡◌, ◌≤◌};
 
-use crate::{NodeFault, serve};
 use std::alloc::Global;
 use std::sync::{Arc, Mutex, Wait};
 use std::test::Fail;
 use swap_base::{Lease, LenderSpec};
 use swap_io::{MemSource, Sink, WriteFailed};
+use swap_serve::{NodeFault, serve};
 use swap_sock::{Door, HostFault, LinkEnd};
 use swap_wire::Msg;
 

@@ -4,7 +4,6 @@ ghost use Rattle.swap_base.specs.Sizes.{pages_of};
 ghost use Rattle.swap_table.specs.Device.{new};
 ghost use Rattle.swap_turn.specs.Standing.{IsFreeOf};
 
-use super::*;
 use std::alloc::Global;
 use std::marker::Brand;
 use std::process::Abort;
@@ -14,6 +13,7 @@ use swap_base::{Caller, EntryNo, Geometry, NoMemory, Page};
 use swap_board::{Naming, Operated, Point};
 use swap_disk::MemDisk;
 use swap_link::Harbor;
+use swap_player::{Gate, Pumped, Swap, SwapFault};
 use swap_turn::Pass;
 use swap_world::World;
 

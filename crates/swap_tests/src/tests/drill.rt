@@ -1,8 +1,8 @@
 //! What no clause says: that memory suffices, the lines of a summary as text, and a longer drill.
 
-use super::*;
 use std::str;
 use std::test::Fail;
+use swap_drill::{DrillSummary, drill, put_summary};
 use swap_io::LineBuf;
 
 const NOTHING: DrillSummary = DrillSummary {

@@ -1,6 +1,5 @@
 ghost use Rattle.std.specs.Prelude.{◌≡◌, [], length};
 
-use crate::{FileDisk, NotOpened};
 use std::fs::File;
 use std::process::Abort;
 use std::sync::Wait;
@@ -8,6 +7,7 @@ use std::test::Fail;
 use std::{process, thread};
 use swap_base::{Caller, DiskWhich, Geometry, Page};
 use swap_disk::{DiskDone, DiskPort};
+use swap_file::{FileDisk, NotOpened};
 
 /// Writes a page and waits for its end; nothing else is in flight.
 fn write<R: Wait + Abort + Copy>(

@@ -1,6 +1,5 @@
 //! What no clause says: that callers run beside one another, that a played trace is judged legal, and texts at fault.
 
-use super::*;
 use std::alloc::Global;
 use std::process::Abort;
 use std::sync::Wait;
@@ -14,6 +13,7 @@ use swap_io::{MemSink, MemSource};
 use swap_player::Gate;
 use swap_run::{Ending, run_lab};
 use swap_script::{ScriptRefused, Why};
+use swap_show::play_source;
 
 /// The number of a call that never fails.
 const NEVER: u32 = u32::MAX;

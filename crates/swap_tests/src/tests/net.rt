@@ -1,6 +1,5 @@
 ghost use Rattle.std.specs.Prelude.{◌≡◌};
 
-use crate::SocketFabric;
 use std::io::{Read, Write};
 use std::net::{Shutdown, TcpListener, TcpStream};
 use std::process::Abort;
@@ -8,6 +7,7 @@ use std::sync::Wait;
 use std::test::Fail;
 use std::thread;
 use swap_base::{Geometry, Lender, Link, Slab};
+use swap_net::SocketFabric;
 use swap_wire::{Fabric, Msg, Sent, Took};
 
 /// The one lender.

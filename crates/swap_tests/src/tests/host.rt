@@ -1,9 +1,9 @@
-use crate::RealHost;
 use std::io::Write;
 use std::net::TcpStream;
 use std::process;
 use std::test::Fail;
 use swap_base::Geometry;
+use swap_host::RealHost;
 use swap_io::Source;
 use swap_sock::{Address, Door, Host, HostFault, LinkEnd};
 
