@@ -18,9 +18,6 @@ mod live;
 
 pub use live::{LiveCommand, live_completes, run_live};
 
-#[cfg(test)]
-mod tests;
-
 /// How lending ended: the links were served and that was written, it couldn't be written, the host or its door failed, or
 /// memory was wanted.
 #[derive(Clone, Copy, Debug, PartialEq, Eq)]
