@@ -15,6 +15,7 @@ use Rattle.swap_trace.specs.Traces.{trace}
 use Rattle.swap_world.specs.World.{new_harbor}
 use Rattle.swap_sock.specs.Dealings.{Dealings, gave_one, gave_none, got_back}
 use Rattle.swap_sock.specs.declared.address.Address.{Address}
+use Rattle.swap_sock.specs.declared.host.Host.{Ghosts as HostMeaning}
 use Rattle.swap_run.specs.Clause.{Stream, Failed, TookNothing, ReadBrokeOff, ReadTooMuch}
 use Rattle.swap_run.specs.declared.Ending.{Ending}
 use Rattle.swap_run.specs.declared.Ending.TheVariants as ending
@@ -35,6 +36,17 @@ pub record Deals (N P : Type 0) : Type 0 where
 
 abbrev pub deals : {N P : Type 0} → Dealings N P P → Dealings N P P → Deals N P
 deals before now = record { before = before; now = now }
+
+-- a host's disks, and its links to lenders, over a call; and its count of faults rose in it
+module _ {H D F E S K : Type 0} (host : HostMeaning H D F E S K) (before now : H) where
+  abbrev pub disks_of : Deals (List ℕ) D
+  disks_of = deals (host.disks before) (host.disks now)
+
+  abbrev pub nets_of : Deals (List Address) F
+  nets_of = deals (host.nets before) (host.nets now)
+
+  abbrev pub HostRose : Type 0
+  HostRose = Rose (host.faults before) (host.faults now)
 
 -- none was asked for
 abbrev pub Unasked : {N P : Type 0} → Deals N P → Type 0

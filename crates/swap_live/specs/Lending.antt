@@ -4,6 +4,7 @@ use Rattle.std.specs.Fmt.{decimal}
 use Rattle.std.specs.Io.KnownBytes.{Appends}
 use Rattle.swap_io.specs.Causes.{Rose, AppendsFront}
 use Rattle.swap_sock.specs.declared.address.Address.{Address}
+use Rattle.swap_sock.specs.declared.host.Host.{Ghosts as HostMeaning}
 use Rattle.swap_sock.specs.Dealings.{Dealings, Left, gave_one, gave_none, got_back}
 use Rattle.swap_node.specs.declared.node.Ear.{Ear}
 use Rattle.swap_serve.specs.Serving.{IsServed}
@@ -22,8 +23,8 @@ pub record Hosting (D : Type 0) : Type 0 where
   pub faults_before : ℕ
   pub faults_now : ℕ
 
-abbrev pub hosting : {D : Type 0} → Dealings Address D D → Dealings Address D D → ℕ → ℕ → Hosting D
-hosting before now faults_before faults_now = record { before = before; now = now; faults_before = faults_before; faults_now = faults_now }
+abbrev pub hosting : {H D F E S K : Type 0} → HostMeaning H D F E S K → H → H → Hosting E
+hosting host before now = record { before = host.doors before; now = host.doors now; faults_before = host.faults before; faults_now = host.faults now }
 
 abbrev pub HostFailed : {D : Type 0} → Hosting D → Type 0
 HostFailed h = Rose h.faults_before h.faults_now

@@ -9,6 +9,7 @@ use Rattle.swap_script.specs.Lines.{is_word}
 use Rattle.swap_script.specs.Reading.{Script}
 use Rattle.swap_trace.specs.Traces.{trace}
 use Rattle.swap_sock.specs.declared.address.Address.{Address}
+use Rattle.swap_sock.specs.declared.host.Host.{Ghosts as HostMeaning}
 use Rattle.swap_sock.specs.Dealings.{Dealings, Left}
 use Rattle.swap_options.specs.declared.lend.LendOptions.{LendOptions}
 use Rattle.swap_options.specs.Lend.{keeps_limits, lend_options}
@@ -22,7 +23,7 @@ use Rattle.swap_live.specs.declared.live.LiveCommand.{LiveCommand}
 use Rattle.swap_live.specs.declared.live.LiveCommand.TheVariants as live
 use Rattle.swap_live.specs.Lending.{Hosting, HostFailed, GaveNothing, LendEnds, hosting}
 use Rattle.swap_show.specs.Clause.{ShowEnds}
-use Rattle.swap_hosted.specs.Hosted.{Deals, Unasked, HostedEnds, deals, reached}
+use Rattle.swap_hosted.specs.Hosted.{Deals, Unasked, HostedEnds, disks_of, nets_of, reached}
 
 -- what words ask for: to lend, or to play
 pub data Command : Type 0 where
@@ -56,6 +57,9 @@ pub record Dealt (D F E : Type 0) : Type 0 where
   pub disks : Deals (List ℕ) D
   pub nets : Deals (List Address) F
   pub doors : Hosting E
+
+abbrev pub dealt : {H D F E S K : Type 0} → HostMeaning H D F E S K → H → H → Dealt D F E
+dealt host before now = record { disks = disks_of host before now; nets = nets_of host before now; doors = hosting host before now }
 
 -- it was asked for nothing
 abbrev pub AskedNothing : {D F E : Type 0} → Dealt D F E → Type 0
@@ -113,7 +117,3 @@ module _ {D F : Type 0} (disk : DiskMeaning D) (net : FabricMeaning F) {E S K : 
       (o : Play) (source out err : Stream) (host : Dealt D F E) (status : ℕ) (text : List ℕ) (t : Script)
       → LiveEndsWith (Some (Command.plays o)) source out err host status → source.before ≡ Some text → length text ≤ TEXT_LIMIT → trace (reached o) text ≡ Ok t
       → ¬ Failed source → ¬ Failed out → ¬ HasFailed host → (status ≡ 0) ⊎ ((status ≡ 1) ⊎ (status ≡ 6))
-
--- a host over a call, by what it means before and after it
-abbrev pub dealt : {D F E : Type 0} → Dealings (List ℕ) D D → Dealings (List ℕ) D D → Dealings (List Address) F F → Dealings (List Address) F F → Dealings Address E E → Dealings Address E E → ℕ → ℕ → Dealt D F E
-dealt disks disks_now nets nets_now doors doors_now faults faults_now = record { disks = deals disks disks_now; nets = deals nets nets_now; doors = hosting doors doors_now faults faults_now }
