@@ -24,7 +24,12 @@ pub record Hosting (D : Type 0) : Type 0 where
   pub faults_now : ℕ
 
 abbrev pub hosting : {H D F E S K : Type 0} → HostMeaning H D F E S K → H → H → Hosting E
-hosting host before now = record { before = host.doors before; now = host.doors now; faults_before = host.faults before; faults_now = host.faults now }
+hosting host before now = record {
+  before = host.doors before;
+  now = host.doors now;
+  faults_before = host.faults before;
+  faults_now = host.faults now;
+}
 
 abbrev pub HostFailed : {D : Type 0} → Hosting D → Type 0
 HostFailed h = Rose h.faults_before h.faults_now
@@ -36,9 +41,11 @@ GaveNothing h = h.now ≡ h.before
 -- it was asked for one door, at this address, and one that it gave went back
 abbrev pub WentBack : {D : Type 0} → Address → Hosting D → Type 0
 WentBack {D} address h =
-    (h.now ≡ gave_none address h.before) ⊎ ((given : D) × (back : D) × (h.now ≡ got_back back (gave_one address given h.before)))
+    (h.now ≡ gave_none address h.before) ⊎
+    ((given : D) × (back : D) × (h.now ≡ got_back back (gave_one address given h.before)))
 
-module _ {D S K : Type 0} (links : D → Dealings (Unit {0}) S (Left S K)) (left : S → Option (List ℕ)) (faults : S → ℕ) (sink_faults : K → ℕ) where
+module _ {D S K : Type 0} (links : D → Dealings (Unit {0}) S (Left S K)) (left : S → Option (List ℕ)) (faults : S → ℕ)
+    (sink_faults : K → ℕ) where
   -- the host gave a door for this address, so many links were served at it, and it went back as they left it
   pub record IsLent (address : Address) (page_bytes number : ℕ) (host : Hosting D) : Type 0 where
     pub given : D
@@ -54,4 +61,5 @@ module _ {D S K : Type 0} (links : D → Dealings (Unit {0}) S (Left S K)) (left
   LendEnds address page_bytes number host out end.WriteFailed =
       IsLent address page_bytes number host × Failed out × AppendsFront out.before out.now (served_line number)
   LendEnds address page_bytes number host out end.HostFailed = HostFailed host × TookNothing out × WentBack address host
-  LendEnds address page_bytes number host out end.NoMemory = TookNothing out × (GaveNothing host ⊎ WentBack address host)
+  LendEnds address page_bytes number host out end.NoMemory =
+      TookNothing out × (GaveNothing host ⊎ WentBack address host)

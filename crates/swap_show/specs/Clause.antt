@@ -48,8 +48,10 @@ pub record BrokeOffIn (t : Script) (number : ℕ) (out : Stream) : Type 0 where
 
 -- what writing a world's transcript leaves, by how it ends
 abbrev pub WrittenBy : List LenderSpec → WorldOf Drive Harbor → Stream → Ending → Type 0
-WrittenBy lenders w out ending.Done = Appends out.before out.now (world_transcript lenders w) × (has_failed w.core.device.history ≡ false)
-WrittenBy lenders w out ending.Faulted = Appends out.before out.now (world_transcript lenders w) × (has_failed w.core.device.history ≡ true)
+WrittenBy lenders w out ending.Done =
+    Appends out.before out.now (world_transcript lenders w) × (has_failed w.core.device.history ≡ false)
+WrittenBy lenders w out ending.Faulted =
+    Appends out.before out.now (world_transcript lenders w) × (has_failed w.core.device.history ≡ true)
 WrittenBy lenders w out ending.WriteFailed = AppendsFront out.before out.now (world_transcript lenders w) × Failed out
 WrittenBy lenders w out _ = ⊥
 
@@ -111,11 +113,14 @@ ShowEnds number source out ending.TooLong = ReadTooMuch source × TookNothing ou
 -- of memory.
 abbrev pub ShowsComplete : Type 0
 ShowsComplete =
-    (number : ℕ) (source out : Stream) (end : Ending) (text : List ℕ) (t : Script) → ShowEnds number source out end → source.before ≡ Some text → length text ≤ TEXT_LIMIT → trace None text ≡ Ok t → ¬ Failed source → ¬ Failed out
+    (number : ℕ) (source out : Stream) (end : Ending) (text : List ℕ) (t : Script) → ShowEnds number source out end
+    → source.before ≡ Some text → length text ≤ TEXT_LIMIT → trace None text ≡ Ok t → ¬ Failed source → ¬ Failed out
     → (end ≡ ending.Done) ⊎ ((end ≡ ending.Faulted) ⊎ (end ≡ ending.NoMemory))
 
 -- and where it isn't a trace, its first line at fault is told
 abbrev pub ShowsRefuse : Type 0
 ShowsRefuse =
-    (number : ℕ) (source out : Stream) (end : Ending) (text : List ℕ) (refused : ScriptRefused) → ShowEnds number source out end → source.before ≡ Some text → length text ≤ TEXT_LIMIT → trace None text ≡ Err refused → ¬ Failed source → ¬ Failed out
+    (number : ℕ) (source out : Stream) (end : Ending) (text : List ℕ) (refused : ScriptRefused)
+    → ShowEnds number source out end → source.before ≡ Some text → length text ≤ TEXT_LIMIT
+    → trace None text ≡ Err refused → ¬ Failed source → ¬ Failed out
     → (end ≡ ending.Refused refused) ⊎ (end ≡ ending.NoMemory)
