@@ -39,6 +39,3 @@ pub fn drills_keep_the_headline()
 pub fn rows()
     ensures drills { DrillRows }
 {}
-
-#[cfg(test)]
-mod tests;

@@ -1,4 +1,3 @@
 pub mod Room
 pub mod Ends
 pub mod Moves
-mod Alone

@@ -7,6 +7,3 @@ mod worker;
 
 pub use file_disk::{FileDisk, NotOpened, make_file};
 pub use worker::Done;
-
-#[cfg(test)]
-mod tests;

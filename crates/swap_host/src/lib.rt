@@ -5,6 +5,3 @@ mod opener;
 mod real_host;
 
 pub use real_host::RealHost;
-
-#[cfg(test)]
-mod tests;

@@ -53,6 +53,3 @@ pub fn rows()
     ensures another { AnotherPageIsGiven }
     ensures lies { LiesOnce }
 {}
-
-#[cfg(test)]
-mod tests;

@@ -10,6 +10,3 @@ mod writer;
 pub use opening::NotOpened;
 pub use post::{Arrival, Item};
 pub use socket_fabric::SocketFabric;
-
-#[cfg(test)]
-mod tests;

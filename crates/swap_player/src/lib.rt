@@ -6,6 +6,3 @@ mod swap;
 
 pub use paging::SwapFault;
 pub use swap::{Gate, Pumped, Swap};
-
-#[cfg(test)]
-mod tests;

@@ -100,6 +100,3 @@ pub fn rows()
     ensures round { HotSlabIsPlacedByARound }
     ensures refused { RefusedRows }
 {}
-
-#[cfg(test)]
-mod tests;

@@ -6,6 +6,3 @@ mod listener;
 mod slot;
 
 pub use links::{NodeFault, serve};
-
-#[cfg(test)]
-mod tests;

@@ -36,6 +36,3 @@ pub fn shows_complete()
     ensures traces { ShowsComplete }
     ensures refuse { ShowsRefuse }
 {}
-
-#[cfg(test)]
-mod tests;
