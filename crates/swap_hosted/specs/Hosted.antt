@@ -15,6 +15,7 @@ use Rattle.swap_trace.specs.Traces.{trace}
 use Rattle.swap_world.specs.World.{new_harbor}
 use Rattle.swap_sock.specs.Dealings.{Dealings, gave_one, gave_none, got_back}
 use Rattle.swap_sock.specs.declared.address.Address.{Address}
+use Rattle.swap_sock.specs.declared.host.Host.{Ghosts as HostMeaning}
 use Rattle.swap_run.specs.Clause.{Stream, Failed, TookNothing, ReadBrokeOff, ReadTooMuch}
 use Rattle.swap_run.specs.declared.Ending.{Ending}
 use Rattle.swap_run.specs.declared.Ending.TheVariants as ending
@@ -26,7 +27,14 @@ abbrev pub memory_disk : DiskMeaning Drive
 memory_disk = record { means = port_of; moves = drive.Moves }
 
 abbrev pub memory_links : FabricMeaning Harbor
-memory_links = record { of = of_harbor; moves = harbor.Moves; fresh = harbor.IsFresh; keeps = KeepsAt; owes = OwesAt; answers = λ page given. page ≡ given }
+memory_links = record {
+  of = of_harbor;
+  moves = harbor.Moves;
+  fresh = harbor.IsFresh;
+  keeps = KeepsAt;
+  owes = OwesAt;
+  answers = λ page given. page ≡ given;
+}
 
 -- a kind of port of a host over a call: what it was asked for, gave and got back
 pub record Deals (N P : Type 0) : Type 0 where
@@ -35,6 +43,17 @@ pub record Deals (N P : Type 0) : Type 0 where
 
 abbrev pub deals : {N P : Type 0} → Dealings N P P → Dealings N P P → Deals N P
 deals before now = record { before = before; now = now }
+
+-- a host's disks, and its links to lenders, over a call; and its count of faults rose in it
+module _ {H D F E S K : Type 0} (host : HostMeaning H D F E S K) (before now : H) where
+  abbrev pub disks_of : Deals (List ℕ) D
+  disks_of = deals (host.disks before) (host.disks now)
+
+  abbrev pub nets_of : Deals (List Address) F
+  nets_of = deals (host.nets before) (host.nets now)
+
+  abbrev pub HostRose : Type 0
+  HostRose = Rose (host.faults before) (host.faults now)
 
 -- none was asked for
 abbrev pub Unasked : {N P : Type 0} → Deals N P → Type 0
@@ -47,7 +66,8 @@ CameBack name given None d = d.now ≡ gave_one name given d.before
 
 -- one was asked for by this name, and none was given: the host failed, or there was no memory
 abbrev pub WasRefused : {N P : Type 0} → N → Deals N P → Type 0 → Ending → Type 0
-WasRefused name d rose end = (d.now ≡ gave_none name d.before) × ((end ≡ ending.NoMemory) ⊎ ((end ≡ ending.HostFailed) × rose))
+WasRefused name d rose end = (d.now ≡ gave_none name d.before)
+    × ((end ≡ ending.NoMemory) ⊎ ((end ≡ ending.HostFailed) × rose))
 
 abbrev pub firsts : {D F : Type 0} → Option (D × F) → Option D
 firsts back = option_map (λ b. b.0) back
@@ -56,31 +76,46 @@ abbrev pub seconds : {D F : Type 0} → Option (D × F) → Option F
 seconds back = option_map (λ b. b.1) back
 
 -- a trace over this disk and lenders in memory; or there was no memory for them
-pub data OverHarbor {D : Type 0} (disk : DiskMeaning D) (t : Script) (number : ℕ) (given : D) (out : Stream) (end : Ending) (back : Option D) : Type 0 where
-  played : (ports : Option (D × Harbor)) → OverEnds disk memory_links t number given (new_harbor t.sizes t.lenders) out end ports → back ≡ firsts ports → OverHarbor disk t number given out end back
+pub data OverHarbor {D : Type 0} (disk : DiskMeaning D) (t : Script) (number : ℕ) (given : D) (out : Stream)
+    (end : Ending) (back : Option D) : Type 0 where
+  played : (ports : Option (D × Harbor)) → OverEnds disk memory_links t number given
+      (new_harbor t.sizes t.lenders) out end ports → back ≡ firsts ports → OverHarbor disk t number given out end back
   unmade : end ≡ ending.NoMemory → back ≡ Some given → TookNothing out → OverHarbor disk t number given out end back
 
 -- a trace over this disk and lenders at these addresses, which the host gave; or it gave none
-pub data OverNet {D F : Type 0} (disk : DiskMeaning D) (net : FabricMeaning F) (t : Script) (number : ℕ) (given : D) (out : Stream) (addresses : List Address) (nets : Deals (List Address) F) (rose : Type 0) (end : Ending) (back : Option D) : Type 0 where
-  played : (links : F) (ports : Option (D × F)) → OverEnds disk net t number given links out end ports → back ≡ firsts ports → CameBack addresses links (seconds ports) nets → OverNet disk net t number given out addresses nets rose end back
-  withheld : WasRefused addresses nets rose end → back ≡ Some given → TookNothing out → OverNet disk net t number given out addresses nets rose end back
-  unasked : Unasked nets → end ≡ ending.NoMemory → back ≡ Some given → TookNothing out → OverNet disk net t number given out addresses nets rose end back
+pub data OverNet {D F : Type 0} (disk : DiskMeaning D) (net : FabricMeaning F) (t : Script) (number : ℕ) (given : D)
+    (out : Stream) (addresses : List Address) (nets : Deals (List Address) F) (rose : Type 0) (end : Ending)
+    (back : Option D) : Type 0 where
+  played : (links : F) (ports : Option (D × F)) → OverEnds disk net t number given links out end ports
+      → back ≡ firsts ports → CameBack addresses links (seconds ports) nets
+      → OverNet disk net t number given out addresses nets rose end back
+  withheld : WasRefused addresses nets rose end → back ≡ Some given → TookNothing out
+      → OverNet disk net t number given out addresses nets rose end back
+  unasked : Unasked nets → end ≡ ending.NoMemory → back ≡ Some given → TookNothing out
+      → OverNet disk net t number given out addresses nets rose end back
 
-module _ {F : Type 0} (net : FabricMeaning F) (t : Script) (number : ℕ) (out : Stream) (nets : Deals (List Address) F) (rose : Type 0) where
+module _ {F : Type 0} (net : FabricMeaning F) (t : Script) (number : ℕ) (out : Stream) (nets : Deals (List Address) F)
+    (rose : Type 0) where
   -- over this disk, and lenders in memory where no addresses are given
   abbrev pub LinksEnd : {D : Type 0} → DiskMeaning D → D → Option (List Address) → Ending → Option D → Type 0
   LinksEnd disk given None end back = OverHarbor disk t number given out end back × Unasked nets
   LinksEnd disk given (Some addresses) end back = OverNet disk net t number given out addresses nets rose end back
 
 -- over a disk in memory; or there was no memory for it
-pub data OverMemory {F : Type 0} (net : FabricMeaning F) (t : Script) (number : ℕ) (out : Stream) (tcp : Option (List Address)) (nets : Deals (List Address) F) (rose : Type 0) (end : Ending) : Type 0 where
-  played : (back : Option Drive) → LinksEnd net t number out nets rose memory_disk (new_drive t.sizes) tcp end back → OverMemory net t number out tcp nets rose end
+pub data OverMemory {F : Type 0} (net : FabricMeaning F) (t : Script) (number : ℕ) (out : Stream)
+    (tcp : Option (List Address)) (nets : Deals (List Address) F) (rose : Type 0) (end : Ending) : Type 0 where
+  played : (back : Option Drive) → LinksEnd net t number out nets rose memory_disk (new_drive t.sizes) tcp end back
+      → OverMemory net t number out tcp nets rose end
   unmade : end ≡ ending.NoMemory → TookNothing out → Unasked nets → OverMemory net t number out tcp nets rose end
 
 -- over a disk at this path, which the host gave; or it gave none
-pub data OverFile {D F : Type 0} (disk : DiskMeaning D) (net : FabricMeaning F) (t : Script) (number : ℕ) (out : Stream) (tcp : Option (List Address)) (disks : Deals (List ℕ) D) (nets : Deals (List Address) F) (rose : Type 0) (path : List ℕ) (end : Ending) : Type 0 where
-  played : (given : D) (back : Option D) → LinksEnd net t number out nets rose disk given tcp end back → CameBack path given back disks → OverFile disk net t number out tcp disks nets rose path end
-  withheld : WasRefused path disks rose end → TookNothing out → Unasked nets → OverFile disk net t number out tcp disks nets rose path end
+pub data OverFile {D F : Type 0} (disk : DiskMeaning D) (net : FabricMeaning F) (t : Script) (number : ℕ) (out : Stream)
+    (tcp : Option (List Address)) (disks : Deals (List ℕ) D) (nets : Deals (List Address) F) (rose : Type 0)
+    (path : List ℕ) (end : Ending) : Type 0 where
+  played : (given : D) (back : Option D) → LinksEnd net t number out nets rose disk given tcp end back
+      → CameBack path given back disks → OverFile disk net t number out tcp disks nets rose path end
+  withheld : WasRefused path disks rose end → TookNothing out → Unasked nets
+      → OverFile disk net t number out tcp disks nets rose path end
 
 -- the source was read to its end, and its text is a trace, over so many addresses where they are given
 pub record ReadTraceOver (tcp : Option ℕ) (source : Stream) (t : Script) : Type 0 where
@@ -101,7 +136,8 @@ abbrev pub reached : Play → Option ℕ
 reached o = option_map (λ addresses. length addresses) o.tcp
 
 -- what a trace's options leave of it: a disk at a path where one is given, else in memory
-module _ {D F : Type 0} (disk : DiskMeaning D) (net : FabricMeaning F) (o : Play) (out : Stream) (disks : Deals (List ℕ) D) (nets : Deals (List Address) F) (rose : Type 0) where
+module _ {D F : Type 0} (disk : DiskMeaning D) (net : FabricMeaning F) (o : Play) (out : Stream)
+    (disks : Deals (List ℕ) D) (nets : Deals (List Address) F) (rose : Type 0) where
   abbrev pub DiskEnds : Script → Option (List ℕ) → Ending → Type 0
   DiskEnds t None end = OverMemory net t o.number out o.tcp nets rose end × Unasked disks
   DiskEnds t (Some path) end = OverFile disk net t o.number out o.tcp disks nets rose path end
@@ -139,6 +175,9 @@ module _ {D F : Type 0} (disk : DiskMeaning D) (net : FabricMeaning F) (o : Play
 -- with a played trace's transcript, or for want of memory.
 abbrev pub HostedCompletes : {D F : Type 0} → DiskMeaning D → FabricMeaning F → Type 0
 HostedCompletes {D} {F} disk net =
-    (o : Play) (source out : Stream) (disks : Deals (List ℕ) D) (nets : Deals (List Address) F) (before after : ℕ) (end : Ending) (text : List ℕ) (t : Script)
-    → HostedEnds disk net o out disks nets (Rose before after) source end → source.before ≡ Some text → length text ≤ TEXT_LIMIT → trace (reached o) text ≡ Ok t
-    → ¬ Failed source → ¬ Failed out → ¬ (Rose before after) → (end ≡ ending.Done) ⊎ ((end ≡ ending.Faulted) ⊎ (end ≡ ending.NoMemory))
+    (o : Play) (source out : Stream) (disks : Deals (List ℕ) D) (nets : Deals (List Address) F) (before after : ℕ)
+    (end : Ending) (text : List ℕ) (t : Script)
+    → HostedEnds disk net o out disks nets (Rose before after) source end → source.before ≡ Some text
+    → length text ≤ TEXT_LIMIT → trace (reached o) text ≡ Ok t
+    → ¬ Failed source → ¬ Failed out → ¬ (Rose before after) → (end ≡ ending.Done)
+    ⊎ ((end ≡ ending.Faulted) ⊎ (end ≡ ending.NoMemory))

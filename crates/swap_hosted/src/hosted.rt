@@ -1,12 +1,11 @@
 // A trace from a source, played by its options over what a host gives.
 ghost use Rattle.std.specs.Prelude.{◌≡◌, ◌≤◌, IfSome, length};
 ghost use Rattle.std.specs.Option.{option_map};
-ghost use Rattle.swap_io.specs.Causes.{Rose};
 ghost use Rattle.swap_trace.specs.Traces.{trace as trace_of};
 ghost use Rattle.swap_options.specs.Play.{asked};
-ghost use Rattle.swap_run.specs.Clause.{stream};
 ghost use Rattle.swap_play.specs.Playing.{IsTrace};
-ghost use Rattle.swap_hosted.specs.Hosted.{DiskEnds, HostedEnds, TextEnds, deals, reached};
+ghost use Rattle.swap_show.specs.Clause.{read_of, written_to};
+ghost use Rattle.swap_hosted.specs.Hosted.{DiskEnds, HostRose, HostedEnds, TextEnds, disks_of, nets_of, reached};
 
 use crate::ports::{over_file, over_memory};
 use std::alloc::Global;
@@ -48,7 +47,7 @@ where
     G: Gate,
     R: Threads + Wait + Sync,
     requires trace { IsTrace trace.now }
-    ensures ends { DiskEnds H.Disk.DiskPort H.Net.Fabric (asked options.now) (stream (K.taken out.old) (K.taken out.new) (K.faults out.old) (K.faults out.new)) (deals (H.disks host.old) (H.disks host.new)) (deals (H.nets host.old) (H.nets host.new)) (Rose (H.faults host.old) (H.faults host.new)) trace.now (asked options.now).disk result }
+    ensures ends { DiskEnds H.Disk.DiskPort H.Net.Fabric (asked options.now) (written_to K.Sink out.old out.new) (disks_of H.Host host.old host.new) (nets_of H.Host host.old host.new) (HostRose H.Host host.old host.new) trace.now (asked options.now).disk result }
     ensures later { K.faults out.old ≤ K.faults out.new }
     ensures host { H.faults host.old ≤ H.faults host.new }
     ensures doors { H.doors host.new ≡ H.doors host.old }
@@ -79,7 +78,7 @@ where
     R: Threads + Wait + Sync,
     requires text { length text.now ≤ TEXT_LIMIT }
     requires lenders { IfSome options.now.tcp (λ list. length list.items ≤ 8) }
-    ensures ends { TextEnds H.Disk.DiskPort H.Net.Fabric (asked options.now) (stream (K.taken out.old) (K.taken out.new) (K.faults out.old) (K.faults out.new)) (deals (H.disks host.old) (H.disks host.new)) (deals (H.nets host.old) (H.nets host.new)) (Rose (H.faults host.old) (H.faults host.new)) (trace_of (reached (asked options.now)) text.now) result }
+    ensures ends { TextEnds H.Disk.DiskPort H.Net.Fabric (asked options.now) (written_to K.Sink out.old out.new) (disks_of H.Host host.old host.new) (nets_of H.Host host.old host.new) (HostRose H.Host host.old host.new) (trace_of (reached (asked options.now)) text.now) result }
     ensures later { K.faults out.old ≤ K.faults out.new }
     ensures host { H.faults host.old ≤ H.faults host.new }
     ensures doors { H.doors host.new ≡ H.doors host.old }
@@ -118,7 +117,7 @@ where
     G: Gate,
     R: Threads + Wait + Sync,
     requires lenders { IfSome options.now.tcp (λ list. length list.items ≤ 8) }
-    ensures ends { HostedEnds H.Disk.DiskPort H.Net.Fabric (asked options.now) (stream (K.taken out.old) (K.taken out.new) (K.faults out.old) (K.faults out.new)) (deals (H.disks host.old) (H.disks host.new)) (deals (H.nets host.old) (H.nets host.new)) (Rose (H.faults host.old) (H.faults host.new)) (stream (S.left source.old) (S.left source.new) (S.faults source.old) (S.faults source.new)) result }
+    ensures ends { HostedEnds H.Disk.DiskPort H.Net.Fabric (asked options.now) (written_to K.Sink out.old out.new) (disks_of H.Host host.old host.new) (nets_of H.Host host.old host.new) (HostRose H.Host host.old host.new) (read_of S.Source source.old source.new) result }
     ensures later { K.faults out.old ≤ K.faults out.new }
     ensures host { H.faults host.old ≤ H.faults host.new }
     ensures doors { H.doors host.new ≡ H.doors host.old }

@@ -15,5 +15,4 @@ use swap_wire::Fabric;
 /// output nor the host fails, is played and its transcript written, or memory is wanted.
 pub fn hosted_completes<D: DiskPort, F: Fabric>()
     ensures { HostedCompletes D.DiskPort F.Fabric }
-{
-}
+{}

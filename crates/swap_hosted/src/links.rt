@@ -1,10 +1,9 @@
 // A trace over a disk, and lenders in memory or at addresses of a host.
 ghost use Rattle.std.specs.Prelude.{◌≡◌, ◌≤◌, length};
-ghost use Rattle.swap_io.specs.Causes.{Rose};
 ghost use Rattle.swap_table.specs.Fits.{IsBlank};
-ghost use Rattle.swap_run.specs.Clause.{stream};
 ghost use Rattle.swap_play.specs.Playing.{IsTrace};
-ghost use Rattle.swap_hosted.specs.Hosted.{OverHarbor, OverNet, deals, firsts};
+ghost use Rattle.swap_show.specs.Clause.{written_to};
+ghost use Rattle.swap_hosted.specs.Hosted.{HostRose, OverHarbor, OverNet, firsts, nets_of};
 
 use std::alloc::Global;
 use std::sync::Wait;
@@ -45,7 +44,7 @@ where
     R: Threads + Wait + Sync,
     requires trace { IsTrace trace.now }
     requires disk { IsBlank trace.now.sizes (D.means disk) }
-    ensures ends { OverHarbor D.DiskPort trace.now number disk (stream (K.taken out.old) (K.taken out.new) (K.faults out.old) (K.faults out.new)) result.0 result.1 }
+    ensures ends { OverHarbor D.DiskPort trace.now number disk (written_to K.Sink out.old out.new) result.0 result.1 }
     ensures later { K.faults out.old ≤ K.faults out.new }
 {
     let script = trace.script();
@@ -82,7 +81,7 @@ where
     R: Threads + Wait + Sync,
     requires trace { IsTrace trace.now }
     requires disk { IsBlank trace.now.sizes (D.means disk) }
-    ensures ends { OverNet D.DiskPort H.Net.Fabric trace.now number disk (stream (K.taken out.old) (K.taken out.new) (K.faults out.old) (K.faults out.new)) addresses.now (deals (H.nets host.old) (H.nets host.new)) (Rose (H.faults host.old) (H.faults host.new)) result.0 result.1 }
+    ensures ends { OverNet D.DiskPort H.Net.Fabric trace.now number disk (written_to K.Sink out.old out.new) addresses.now (nets_of H.Host host.old host.new) (HostRose H.Host host.old host.new) result.0 result.1 }
     ensures later { K.faults out.old ≤ K.faults out.new }
     ensures host { H.faults host.old ≤ H.faults host.new }
     ensures disks { H.disks host.new ≡ H.disks host.old }

@@ -1,11 +1,10 @@
 // A trace by its options: a disk in a file of a host or in memory, lenders at addresses or in memory.
 ghost use Rattle.std.specs.Prelude.{◌≡◌, ◌≤◌};
 ghost use Rattle.std.specs.Option.{option_map};
-ghost use Rattle.swap_io.specs.Causes.{Rose};
 ghost use Rattle.swap_table.specs.Fits.{IsBlank};
-ghost use Rattle.swap_run.specs.Clause.{stream};
 ghost use Rattle.swap_play.specs.Playing.{IsTrace};
-ghost use Rattle.swap_hosted.specs.Hosted.{LinksEnd, OverFile, OverMemory, deals};
+ghost use Rattle.swap_show.specs.Clause.{written_to};
+ghost use Rattle.swap_hosted.specs.Hosted.{HostRose, LinksEnd, OverFile, OverMemory, disks_of, nets_of};
 
 use crate::links::{over_harbor, over_net};
 use std::alloc::Global;
@@ -39,7 +38,7 @@ where
     R: Threads + Wait + Sync,
     requires trace { IsTrace trace.now }
     requires disk { IsBlank trace.now.sizes (D.means disk) }
-    ensures ends { LinksEnd H.Net.Fabric trace.now number (stream (K.taken out.old) (K.taken out.new) (K.faults out.old) (K.faults out.new)) (deals (H.nets host.old) (H.nets host.new)) (Rose (H.faults host.old) (H.faults host.new)) D.DiskPort disk (option_map (λ list. list.now) tcp.entry) result.0 result.1 }
+    ensures ends { LinksEnd H.Net.Fabric trace.now number (written_to K.Sink out.old out.new) (nets_of H.Host host.old host.new) (HostRose H.Host host.old host.new) D.DiskPort disk (option_map (λ list. list.now) tcp.entry) result.0 result.1 }
     ensures later { K.faults out.old ≤ K.faults out.new }
     ensures host { H.faults host.old ≤ H.faults host.new }
     ensures disks { H.disks host.new ≡ H.disks host.old }
@@ -69,7 +68,7 @@ where
     G: Gate,
     R: Threads + Wait + Sync,
     requires trace { IsTrace trace.now }
-    ensures ends { OverMemory H.Net.Fabric trace.now number (stream (K.taken out.old) (K.taken out.new) (K.faults out.old) (K.faults out.new)) (option_map (λ list. list.now) tcp.entry) (deals (H.nets host.old) (H.nets host.new)) (Rose (H.faults host.old) (H.faults host.new)) result }
+    ensures ends { OverMemory H.Net.Fabric trace.now number (written_to K.Sink out.old out.new) (option_map (λ list. list.now) tcp.entry) (nets_of H.Host host.old host.new) (HostRose H.Host host.old host.new) result }
     ensures later { K.faults out.old ≤ K.faults out.new }
     ensures host { H.faults host.old ≤ H.faults host.new }
     ensures disks { H.disks host.new ≡ H.disks host.old }
@@ -102,7 +101,7 @@ where
     G: Gate,
     R: Threads + Wait + Sync,
     requires trace { IsTrace trace.now }
-    ensures ends { OverFile H.Disk.DiskPort H.Net.Fabric trace.now number (stream (K.taken out.old) (K.taken out.new) (K.faults out.old) (K.faults out.new)) (option_map (λ list. list.now) tcp.entry) (deals (H.disks host.old) (H.disks host.new)) (deals (H.nets host.old) (H.nets host.new)) (Rose (H.faults host.old) (H.faults host.new)) path.now result }
+    ensures ends { OverFile H.Disk.DiskPort H.Net.Fabric trace.now number (written_to K.Sink out.old out.new) (option_map (λ list. list.now) tcp.entry) (disks_of H.Host host.old host.new) (nets_of H.Host host.old host.new) (HostRose H.Host host.old host.new) path.now result }
     ensures later { K.faults out.old ≤ K.faults out.new }
     ensures host { H.faults host.old ≤ H.faults host.new }
     ensures doors { H.doors host.new ≡ H.doors host.old }

@@ -9,6 +9,7 @@ use Rattle.swap_script.specs.Lines.{is_word}
 use Rattle.swap_script.specs.Reading.{Script}
 use Rattle.swap_trace.specs.Traces.{trace}
 use Rattle.swap_sock.specs.declared.address.Address.{Address}
+use Rattle.swap_sock.specs.declared.host.Host.{Ghosts as HostMeaning}
 use Rattle.swap_sock.specs.Dealings.{Dealings, Left}
 use Rattle.swap_options.specs.declared.lend.LendOptions.{LendOptions}
 use Rattle.swap_options.specs.Lend.{keeps_limits, lend_options}
@@ -22,7 +23,7 @@ use Rattle.swap_live.specs.declared.live.LiveCommand.{LiveCommand}
 use Rattle.swap_live.specs.declared.live.LiveCommand.TheVariants as live
 use Rattle.swap_live.specs.Lending.{Hosting, HostFailed, GaveNothing, LendEnds, hosting}
 use Rattle.swap_show.specs.Clause.{ShowEnds}
-use Rattle.swap_hosted.specs.Hosted.{Deals, Unasked, HostedEnds, deals, reached}
+use Rattle.swap_hosted.specs.Hosted.{Deals, Unasked, HostedEnds, disks_of, nets_of, reached}
 
 -- what words ask for: to lend, or to play
 pub data Command : Type 0 where
@@ -37,7 +38,8 @@ command_is (live.Play options) = Command.plays (asked options)
 abbrev pub command_of : List (List ℕ) → Option Command
 command_of [] = None
 command_of (word ∷ words) =
-    if is_word (codes "lend") word then option_map Command.lends (lend_options words) else (if is_word (codes "play") word then option_map Command.plays (play_options words) else None)
+    if is_word (codes "lend") word then option_map Command.lends (lend_options words) else
+    (if is_word (codes "play") word then option_map Command.plays (play_options words) else None)
 
 -- its numbers keep their limits
 abbrev pub KeepsLimits : LiveCommand → Type 0
@@ -57,6 +59,10 @@ pub record Dealt (D F E : Type 0) : Type 0 where
   pub nets : Deals (List Address) F
   pub doors : Hosting E
 
+abbrev pub dealt : {H D F E S K : Type 0} → HostMeaning H D F E S K → H → H → Dealt D F E
+dealt host before now =
+    record { disks = disks_of host before now; nets = nets_of host before now; doors = hosting host before now }
+
 -- it was asked for nothing
 abbrev pub AskedNothing : {D F E : Type 0} → Dealt D F E → Type 0
 AskedNothing host = Unasked host.disks × Unasked host.nets × GaveNothing host.doors
@@ -68,7 +74,8 @@ HasFailed host = HostFailed host.doors
 abbrev pub IsUntouched : {D F E : Type 0} → Stream → Stream → Dealt D F E → Type 0
 IsUntouched source out host = TookNothing source × TookNothing out × AskedNothing host
 
-module _ {D F : Type 0} (disk : DiskMeaning D) (net : FabricMeaning F) {E : Type 0} (o : Play) (source out : Stream) (host : Dealt D F E) (e : Ending) where
+module _ {D F : Type 0} (disk : DiskMeaning D) (net : FabricMeaning F) {E : Type 0} (o : Play) (source out : Stream)
+    (host : Dealt D F E) (e : Ending) where
   -- what a trace is played over, by the path and the addresses: in memory where neither is given, which has the whole
   -- headline; else over what the host gave
   abbrev pub EndsOver : Option (List ℕ) → Option (List Address) → Type 0
@@ -80,11 +87,15 @@ module _ {D F : Type 0} (disk : DiskMeaning D) (net : FabricMeaning F) {E : Type
   abbrev pub EndsAsPlaying : Type 0
   EndsAsPlaying = EndsOver o.disk o.tcp × GaveNothing host.doors
 
-module _ {D F : Type 0} (disk : DiskMeaning D) (net : FabricMeaning F) {E S K : Type 0} (links : E → Dealings (Unit {0}) S (Left S K)) (left : S → Option (List ℕ)) (faults : S → ℕ) (sink_faults : K → ℕ) where
+module _ {D F : Type 0} (disk : DiskMeaning D) (net : FabricMeaning F) {E S K : Type 0}
+    (links : E → Dealings (Unit {0}) S (Left S K)) (left : S → Option (List ℕ)) (faults : S → ℕ)
+    (sink_faults : K → ℕ) where
   -- the call ends as lending by these options does; nothing but a door was asked for
   abbrev pub EndsAsLending : LendOptions → Stream → Dealt D F E → Ending → Type 0
   EndsAsLending o out host e =
-      ((lent : LendEnd) × (e ≡ ending_of lent) × LendEnds links left faults sink_faults o.listen o.page_bytes o.links host.doors out lent) × Unasked host.disks × Unasked host.nets
+      ((lent : LendEnd) × (e ≡ ending_of lent)
+      × LendEnds links left faults sink_faults o.listen o.page_bytes o.links host.doors out lent)
+      × Unasked host.disks × Unasked host.nets
 
   -- words that are no form are answered by Usage, or for want of memory to read them
   abbrev pub LiveEnds : Option Command → Stream → Stream → Dealt D F E → Ending → Type 0
@@ -94,7 +105,8 @@ module _ {D F : Type 0} (disk : DiskMeaning D) (net : FabricMeaning F) {E S K : 
   LiveEnds (Some (Command.lends options)) source out host e = TookNothing source × EndsAsLending options out host e
   LiveEnds (Some (Command.plays options)) source out host e = EndsAsPlaying disk net options source out host e
 
-  pub record LiveEndsWith (command : Option Command) (source out err : Stream) (host : Dealt D F E) (status : ℕ) : Type 0 where
+  pub record LiveEndsWith (command : Option Command) (source out err : Stream) (host : Dealt D F E)
+      (status : ℕ) : Type 0 where
     pub end : Ending
     pub holds : LiveEnds command source out host end
     pub code : status ≡ status_of end
@@ -104,16 +116,14 @@ module _ {D F : Type 0} (disk : DiskMeaning D) (net : FabricMeaning F) {E S K : 
   abbrev pub LendsComplete : Type 0
   LendsComplete =
       (options : LendOptions) (source out err : Stream) (host : Dealt D F E) (status : ℕ)
-      → LiveEndsWith (Some (Command.lends options)) source out err host status → ¬ Failed out → ¬ HasFailed host → (status ≡ 0) ⊎ (status ≡ 6)
+      → LiveEndsWith (Some (Command.lends options)) source out err host status → ¬ Failed out → ¬ HasFailed host
+      → (status ≡ 0) ⊎ (status ≡ 6)
 
   -- where the words play, a trace for so many addresses is told and keeps the limit, and neither source, output nor host
   -- fails, the status is 0, 1 where a call failed, or 6 for want of memory
   abbrev pub PlaysComplete : Type 0
   PlaysComplete =
       (o : Play) (source out err : Stream) (host : Dealt D F E) (status : ℕ) (text : List ℕ) (t : Script)
-      → LiveEndsWith (Some (Command.plays o)) source out err host status → source.before ≡ Some text → length text ≤ TEXT_LIMIT → trace (reached o) text ≡ Ok t
+      → LiveEndsWith (Some (Command.plays o)) source out err host status → source.before ≡ Some text
+      → length text ≤ TEXT_LIMIT → trace (reached o) text ≡ Ok t
       → ¬ Failed source → ¬ Failed out → ¬ HasFailed host → (status ≡ 0) ⊎ ((status ≡ 1) ⊎ (status ≡ 6))
-
--- a host over a call, by what it means before and after it
-abbrev pub dealt : {D F E : Type 0} → Dealings (List ℕ) D D → Dealings (List ℕ) D D → Dealings (List Address) F F → Dealings (List Address) F F → Dealings Address E E → Dealings Address E E → ℕ → ℕ → Dealt D F E
-dealt disks disks_now nets nets_now doors doors_now faults faults_now = record { disks = deals disks disks_now; nets = deals nets nets_now; doors = hosting doors doors_now faults faults_now }

@@ -3,7 +3,7 @@
 
 ghost use Rattle.std.specs.Prelude.{◌≡◌, ◌<◌, ◌≤◌, ◌*◌, ◌^◌, ◌++◌, length, decimal};
 ghost use Rattle.swap_lender.specs.Core.{IsLending};
-ghost use Rattle.swap_run.specs.Clause.{stream};
+ghost use Rattle.swap_show.specs.Clause.{written_to};
 ghost use Rattle.swap_live.specs.Lending.{hosting, served_line, LendEnds};
 
 use std::alloc::Global;
@@ -17,9 +17,6 @@ use swap_sock::{Address, Host, HostFault};
 mod live;
 
 pub use live::{LiveCommand, live_completes, run_live};
-
-#[cfg(test)]
-mod tests;
 
 /// How lending ended: the links were served and that was written, it couldn't be written, the host or its door failed, or
 /// memory was wanted.
@@ -73,7 +70,7 @@ where
     requires most { offer.now.page_bytes ≤ 4096 }
     requires limits { IsLending (record { spec = offer.now.spec; page_bytes = offer.now.page_bytes; pages_per_slab = offer.now.pages_per_slab; links = offer.now.links }) }
     requires bytes { offer.now.spec.slots * (offer.now.pages_per_slab * offer.now.page_bytes) < 2 ^ 64 }
-    ensures ends { LendEnds H.Entrance.links H.Entrance.Reader.left H.Entrance.Reader.faults H.Entrance.Writer.faults address.now offer.now.page_bytes offer.now.links (hosting (H.doors host.old) (H.doors host.new) (H.faults host.old) (H.faults host.new)) (stream (K.taken out.old) (K.taken out.new) (K.faults out.old) (K.faults out.new)) result }
+    ensures ends { LendEnds H.Entrance.links H.Entrance.Reader.left H.Entrance.Reader.faults H.Entrance.Writer.faults address.now offer.now.page_bytes offer.now.links (hosting H.Host host.old host.new) (written_to K.Sink out.old out.new) result }
     ensures disks { H.disks host.new ≡ H.disks host.old }
     ensures nets { H.nets host.new ≡ H.nets host.old }
     ensures later { H.faults host.old ≤ H.faults host.new }

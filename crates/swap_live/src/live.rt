@@ -1,7 +1,7 @@
 ghost use Rattle.std.specs.Prelude.{◌≡◌, ◌≤◌, map, true, length, Some, None, IfOk, IfErr, IfSome};
 ghost use Rattle.swap_options.specs.Lend.{keeps_limits};
 ghost use Rattle.swap_options.specs.Play.{asked};
-ghost use Rattle.swap_run.specs.Clause.{stream};
+ghost use Rattle.swap_show.specs.Clause.{read_of, written_to};
 ghost use Rattle.swap_live.specs.Live.{command_is, command_of, dealt, ending_of, KeepsLimits, EndsAsLending, EndsAsPlaying, LiveEnds, LiveEndsWith, LendsComplete, PlaysComplete};
 
 use crate::{LendEnd, Offer, lend};
@@ -69,7 +69,7 @@ where
     K: Sink,
     H: Host,
     requires { keeps_limits options.now ≡ true }
-    ensures ends { EndsAsLending H.Disk.DiskPort H.Net.Fabric H.Entrance.links H.Entrance.Reader.left H.Entrance.Reader.faults H.Entrance.Writer.faults options.now (stream (K.taken out.old) (K.taken out.new) (K.faults out.old) (K.faults out.new)) (dealt (H.disks host.old) (H.disks host.new) (H.nets host.old) (H.nets host.new) (H.doors host.old) (H.doors host.new) (H.faults host.old) (H.faults host.new)) result }
+    ensures ends { EndsAsLending H.Disk.DiskPort H.Net.Fabric H.Entrance.links H.Entrance.Reader.left H.Entrance.Reader.faults H.Entrance.Writer.faults options.now (written_to K.Sink out.old out.new) (dealt H.Host host.old host.new) result }
 {
     limits_let_lend();
     let offer = Offer {
@@ -101,7 +101,7 @@ where
     H::Net: Send,
     G: Gate,
     requires lenders { IfSome options.now.tcp (λ lenders. length lenders.items ≤ 8) }
-    ensures ends { EndsAsPlaying H.Disk.DiskPort H.Net.Fabric (asked options.now) (stream (S.left source.old) (S.left source.new) (S.faults source.old) (S.faults source.new)) (stream (K.taken out.old) (K.taken out.new) (K.faults out.old) (K.faults out.new)) (dealt (H.disks host.old) (H.disks host.new) (H.nets host.old) (H.nets host.new) (H.doors host.old) (H.doors host.new) (H.faults host.old) (H.faults host.new)) result }
+    ensures ends { EndsAsPlaying H.Disk.DiskPort H.Net.Fabric (asked options.now) (read_of S.Source source.old source.new) (written_to K.Sink out.old out.new) (dealt H.Host host.old host.new) result }
 {
     if options.disk.is_none() && options.tcp.is_none() {
         play_source(rt, alloc, options.number, source, out, gate)
@@ -128,7 +128,7 @@ where
     H::Disk: Send,
     H::Net: Send,
     G: Gate,
-    ensures ends { LiveEnds H.Disk.DiskPort H.Net.Fabric H.Entrance.links H.Entrance.Reader.left H.Entrance.Reader.faults H.Entrance.Writer.faults (command_of (map (λ word. word.now) words.now)) (stream (S.left source.old) (S.left source.new) (S.faults source.old) (S.faults source.new)) (stream (K.taken out.old) (K.taken out.new) (K.faults out.old) (K.faults out.new)) (dealt (H.disks host.old) (H.disks host.new) (H.nets host.old) (H.nets host.new) (H.doors host.old) (H.doors host.new) (H.faults host.old) (H.faults host.new)) result }
+    ensures ends { LiveEnds H.Disk.DiskPort H.Net.Fabric H.Entrance.links H.Entrance.Reader.left H.Entrance.Reader.faults H.Entrance.Writer.faults (command_of (map (λ word. word.now) words.now)) (read_of S.Source source.old source.new) (written_to K.Sink out.old out.new) (dealt H.Host host.old host.new) result }
 {
     match command_of(alloc, words) {
         Ok(LiveCommand::Lend(options)) => run_lend(rt, alloc, &options, out, host),
@@ -167,7 +167,7 @@ where
     H::Disk: Send,
     H::Net: Send,
     G: Gate,
-    ensures ends { LiveEndsWith H.Disk.DiskPort H.Net.Fabric H.Entrance.links H.Entrance.Reader.left H.Entrance.Reader.faults H.Entrance.Writer.faults (command_of (map (λ word. word.now) words.now)) (stream (S.left source.old) (S.left source.new) (S.faults source.old) (S.faults source.new)) (stream (K.taken out.old) (K.taken out.new) (K.faults out.old) (K.faults out.new)) (stream (E.taken err.old) (E.taken err.new) (E.faults err.old) (E.faults err.new)) (dealt (H.disks host.old) (H.disks host.new) (H.nets host.old) (H.nets host.new) (H.doors host.old) (H.doors host.new) (H.faults host.old) (H.faults host.new)) result }
+    ensures ends { LiveEndsWith H.Disk.DiskPort H.Net.Fabric H.Entrance.links H.Entrance.Reader.left H.Entrance.Reader.faults H.Entrance.Writer.faults (command_of (map (λ word. word.now) words.now)) (read_of S.Source source.old source.new) (written_to K.Sink out.old out.new) (written_to E.Sink err.old err.new) (dealt H.Host host.old host.new) result }
 {
     let ending = run_words(rt, alloc, words, source, out, host, gate);
     tell_ending(ending, err);

@@ -17,8 +17,10 @@ use Rattle.swap_over.specs.Over.{WasPlayedOver}
 
 -- what writing a world's transcript leaves, by how it ends
 abbrev pub WrittenBy : {D F : Type 0} → List LenderSpec → WorldOf D F → Stream → Ending → Type 0
-WrittenBy lenders w out ending.Done = Appends out.before out.now (world_transcript lenders w) × (has_failed w.core.device.history ≡ false)
-WrittenBy lenders w out ending.Faulted = Appends out.before out.now (world_transcript lenders w) × (has_failed w.core.device.history ≡ true)
+WrittenBy lenders w out ending.Done =
+    Appends out.before out.now (world_transcript lenders w) × (has_failed w.core.device.history ≡ false)
+WrittenBy lenders w out ending.Faulted =
+    Appends out.before out.now (world_transcript lenders w) × (has_failed w.core.device.history ≡ true)
 WrittenBy lenders w out ending.WriteFailed = AppendsFront out.before out.now (world_transcript lenders w) × Failed out
 WrittenBy lenders w out _ = ⊥
 
@@ -26,7 +28,8 @@ WrittenBy lenders w out _ = ⊥
 abbrev pub transcript_over : {D F : Type 0} → Script → WorldOf D F → List ℕ
 transcript_over t w = transcript t.sizes t.lenders w.log w.core.device.history
 
-module _ {D F : Type 0} (disk : DiskMeaning D) (fabric : FabricMeaning F) (t : Script) (number : ℕ) (given : D) (net : F) (out : Stream) where
+module _ {D F : Type 0} (disk : DiskMeaning D) (fabric : FabricMeaning F) (t : Script) (number : ℕ) (given : D)
+    (net : F) (out : Stream) where
   -- a trace was played and out took its transcript, and nothing else; a call failed or none did; and the ports are as the
   -- run left them
   pub record PlayedOver (with_fault : Bool) (back : D × F) : Type 0 where

@@ -1,8 +1,8 @@
 // A trace over ports, and the transcript of what was played.
 ghost use Rattle.std.specs.Prelude.{◌≡◌, ◌≤◌, length};
 ghost use Rattle.swap_table.specs.Fits.{IsBlank};
-ghost use Rattle.swap_run.specs.Clause.{stream};
 ghost use Rattle.swap_play.specs.Playing.{IsTrace};
+ghost use Rattle.swap_show.specs.Clause.{written_to};
 ghost use Rattle.swap_over.specs.Ends.{OverEnds, WrittenBy};
 
 use crate::plays_are_runs;
@@ -28,7 +28,7 @@ fn show<D: DiskPort, F: Fabric, K: Sink>(
     line: &mut LineBuf,
     out: &mut K,
 ) -> Ending
-    ensures ends { WrittenBy lenders.now world.now (stream (K.taken out.old) (K.taken out.new) (K.faults out.old) (K.faults out.new)) result }
+    ensures ends { WrittenBy lenders.now world.now (written_to K.Sink out.old out.new) result }
     ensures later { K.faults out.old ≤ K.faults out.new }
 {
     if print_world(world, lenders, line, out).is_err() {
@@ -66,7 +66,7 @@ pub fn play_over<
     requires trace { IsTrace trace.now }
     requires disk { IsBlank trace.now.sizes (D.means disk) }
     requires fabric { F.fresh fabric (record { sizes = trace.now.sizes; lenders = length trace.now.lenders }) }
-    ensures ends { OverEnds D.DiskPort F.Fabric trace.now number disk fabric (stream (K.taken out.old) (K.taken out.new) (K.faults out.old) (K.faults out.new)) result.0 result.1 }
+    ensures ends { OverEnds D.DiskPort F.Fabric trace.now number disk fabric (written_to K.Sink out.old out.new) result.0 result.1 }
     ensures later { K.faults out.old ≤ K.faults out.new }
 {
     plays_are_runs::<D, F>();

@@ -8,6 +8,7 @@ ghost use Rattle.swap_turn.specs.Standing.{IsFreeOf, newcomer};
 ghost use Rattle.swap_turn.specs.Turns.{entries_of, numbers_from};
 ghost use Rattle.swap_board.specs.Boards.{IsCall, AreOperators};
 ghost use Rattle.swap_board.specs.Works.{IsPoint};
+ghost use Rattle.swap_player.specs.Pumped.{OperatedBy, PumpedAs, PumpedBy};
 ghost use Rattle.swap_player.specs.Seen.{IsWellBy};
 ghost use Rattle.swap_player.specs.Turns.{caller_of, Looked, Pages, PagesAs, GivesBy};
 
@@ -66,6 +67,7 @@ impl<D: DiskPort + Drop, F: Fabric + Drop, N: Naming<D, F>> Swap<D, F, N> {
         requires point { IsPoint N.named.lenders point }
         ensures pass { IsFreeOf self.now pass.new × (pass.new.number ≡ pass.old.number) }
         ensures looked { Looked pass.old pass.new }
+        ensures pumps { PumpedBy D.moves F.moves D.means point result pass.new }
     {
         let mut turn = self.lock.take(rt, pass);
         let moved = turn.value().pump(point);
@@ -73,7 +75,8 @@ impl<D: DiskPort + Drop, F: Fabric + Drop, N: Naming<D, F>> Swap<D, F, N> {
         moved
     }
 
-    /// One turn of a pump, where the gate lets it pass. `Held` has the gate's own `No`.
+    /// One turn of a pump, where the gate lets it pass. `Held` has the gate's own `No`, and the pass is as it was then.
+    /// `Nothing` comes exactly where the point had no effect on the world in that turn.
     pub fn pump<G: Gate, R: Wait>(
         &self,
         rt: &R,
@@ -85,6 +88,7 @@ impl<D: DiskPort + Drop, F: Fabric + Drop, N: Naming<D, F>> Swap<D, F, N> {
         requires point { IsPoint N.named.lenders point }
         ensures pass { IsFreeOf self.now pass.new × (pass.new.number ≡ pass.old.number) }
         ensures looked { Looked pass.old pass.new }
+        ensures pumps { PumpedAs D.moves F.moves D.means point result pass.old pass.new }
     {
         if let Err(no) = gate.may_pass(point) {
             return Pumped::Held(no);
@@ -96,11 +100,13 @@ impl<D: DiskPort + Drop, F: Fabric + Drop, N: Naming<D, F>> Swap<D, F, N> {
         }
     }
 
-    /// The operator's next event, in a turn.
+    /// The operator's next event, in a turn. `Ended` comes exactly where all were made before that turn, `Nothing` exactly
+    /// where the event had no effect; it counts as made then too.
     pub fn operate<R: Wait>(&self, rt: &R, pass: &mut Pass) -> Operated
         requires pass { IsFreeOf self.now pass.old }
         ensures pass { IsFreeOf self.now pass.new × (pass.new.number ≡ pass.old.number) }
         ensures looked { Looked pass.old pass.new }
+        ensures operates { OperatedBy D.moves F.moves N.named.operator result pass.new }
     {
         let mut turn = self.lock.take(rt, pass);
         let operated = turn.value().operate();

@@ -2,6 +2,8 @@
 use Rattle.std.specs.Prelude.{◌≡◌, ◌≤◌, ◌⊎◌, ℕ, Bool, true, false, List, length, Some, None, Result, Ok, Err}
 use Rattle.std.specs.Io.KnownBytes.{Appends}
 use Rattle.swap_io.specs.Causes.{WasReadWhole, AppendsFront}
+use Rattle.swap_io.specs.declared.sources.Source.{Ghosts as SourceMeaning}
+use Rattle.swap_io.specs.declared.sinks.Sink.{Ghosts as SinkMeaning}
 use Rattle.swap_base.specs.declared.geometry.LenderSpec.{LenderSpec}
 use Rattle.swap_disk.specs.Drive.{Drive}
 use Rattle.swap_link.specs.Harbor.{Harbor}
@@ -13,10 +15,18 @@ use Rattle.swap_trace.specs.Traces.{trace}
 use Rattle.swap_world.specs.Runs.{WorldOf}
 use Rattle.swap_run.specs.declared.Ending.{Ending}
 use Rattle.swap_run.specs.declared.Ending.TheVariants as ending
-use Rattle.swap_run.specs.Clause.{Stream, Failed, TookNothing, ReadBrokeOff, ReadTooMuch}
+use Rattle.swap_run.specs.Clause.{Stream, stream, Failed, TookNothing, ReadBrokeOff, ReadTooMuch}
 use Rattle.swap_run.specs.Run.{has_failed}
 use Rattle.swap_show.specs.Printing.{world_transcript}
 use Rattle.swap_show.specs.Shown.{WasShown, IsHeadline}
+
+-- a source over a call
+abbrev pub read_of : {S : Type 0} → SourceMeaning S → S → S → Stream
+read_of source before now = stream (source.left before) (source.left now) (source.faults before) (source.faults now)
+
+-- a sink over a call
+abbrev pub written_to : {K : Type 0} → SinkMeaning K → K → K → Stream
+written_to sink before now = stream (sink.taken before) (sink.taken now) (sink.faults before) (sink.faults now)
 
 -- what is written of a played trace: the transcript of the world's log
 abbrev pub transcript_of : Script → WorldOf Drive Harbor → List ℕ
@@ -38,8 +48,10 @@ pub record BrokeOffIn (t : Script) (number : ℕ) (out : Stream) : Type 0 where
 
 -- what writing a world's transcript leaves, by how it ends
 abbrev pub WrittenBy : List LenderSpec → WorldOf Drive Harbor → Stream → Ending → Type 0
-WrittenBy lenders w out ending.Done = Appends out.before out.now (world_transcript lenders w) × (has_failed w.core.device.history ≡ false)
-WrittenBy lenders w out ending.Faulted = Appends out.before out.now (world_transcript lenders w) × (has_failed w.core.device.history ≡ true)
+WrittenBy lenders w out ending.Done =
+    Appends out.before out.now (world_transcript lenders w) × (has_failed w.core.device.history ≡ false)
+WrittenBy lenders w out ending.Faulted =
+    Appends out.before out.now (world_transcript lenders w) × (has_failed w.core.device.history ≡ true)
 WrittenBy lenders w out ending.WriteFailed = AppendsFront out.before out.now (world_transcript lenders w) × Failed out
 WrittenBy lenders w out _ = ⊥
 
@@ -101,11 +113,14 @@ ShowEnds number source out ending.TooLong = ReadTooMuch source × TookNothing ou
 -- of memory.
 abbrev pub ShowsComplete : Type 0
 ShowsComplete =
-    (number : ℕ) (source out : Stream) (end : Ending) (text : List ℕ) (t : Script) → ShowEnds number source out end → source.before ≡ Some text → length text ≤ TEXT_LIMIT → trace None text ≡ Ok t → ¬ Failed source → ¬ Failed out
+    (number : ℕ) (source out : Stream) (end : Ending) (text : List ℕ) (t : Script) → ShowEnds number source out end
+    → source.before ≡ Some text → length text ≤ TEXT_LIMIT → trace None text ≡ Ok t → ¬ Failed source → ¬ Failed out
     → (end ≡ ending.Done) ⊎ ((end ≡ ending.Faulted) ⊎ (end ≡ ending.NoMemory))
 
 -- and where it isn't a trace, its first line at fault is told
 abbrev pub ShowsRefuse : Type 0
 ShowsRefuse =
-    (number : ℕ) (source out : Stream) (end : Ending) (text : List ℕ) (refused : ScriptRefused) → ShowEnds number source out end → source.before ≡ Some text → length text ≤ TEXT_LIMIT → trace None text ≡ Err refused → ¬ Failed source → ¬ Failed out
+    (number : ℕ) (source out : Stream) (end : Ending) (text : List ℕ) (refused : ScriptRefused)
+    → ShowEnds number source out end → source.before ≡ Some text → length text ≤ TEXT_LIMIT
+    → trace None text ≡ Err refused → ¬ Failed source → ¬ Failed out
     → (end ≡ ending.Refused refused) ⊎ (end ≡ ending.NoMemory)

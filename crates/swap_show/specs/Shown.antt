@@ -33,7 +33,8 @@ pub record IsFirst (t : Script) (w : WorldOf Drive Harbor) : Type 0 where
 pub record IsRunOf (t : Script) (first w : WorldOf Drive Harbor) : Type 0 where
   pub written : List Written
   pub parts : AllByRecursion HasParts written
-  pub run : IsRun drive.Moves harbor.Moves first.core.device first.core.disk first.core.fabric (made_of written) w.core.device w.core.disk w.core.fabric
+  pub run : IsRun drive.Moves harbor.Moves first.core.device first.core.disk first.core.fabric
+      (made_of written) w.core.device w.core.disk w.core.fabric
   pub logged : w.log ≡ logged_of written
   pub legal : IsLegal (zeros t.sizes) w.core.device.history
   pub once : (c : Caller) → c.0 < t.sizes.callers → AreAnsweredOnce c (made_of written) w.core.device
@@ -48,7 +49,8 @@ KeepsLent from acts =
 
 -- what holds of a trace that was played: its run, and what is kept along the acts that connect the lenders and those that
 -- carry the trace out
-pub record IsHeadline (t : Script) (number : ℕ) (first w : WorldOf Drive Harbor) (played : IsPlayedOut drive.Moves harbor.Moves t number first w) : Type 0 where
+pub record IsHeadline (t : Script) (number : ℕ) (first w : WorldOf Drive Harbor)
+    (played : IsPlayedOut drive.Moves harbor.Moves t number first w) : Type 0 where
   pub run : IsRunOf t first w
   pub connecting : KeepsLent first played.connects.acts
   pub carrying : KeepsLent played.connected played.carried.acted.acts
@@ -56,7 +58,8 @@ pub record IsHeadline (t : Script) (number : ℕ) (first w : WorldOf Drive Harbo
 -- so it holds of each text that is a trace, however it was played
 abbrev pub PlaysKeepTheHeadline : Type 0
 PlaysKeepTheHeadline =
-    (text : List ℕ) (t : Script) (number : ℕ) (first w : WorldOf Drive Harbor) (played : IsPlayedOut drive.Moves harbor.Moves t number first w)
+    (text : List ℕ) (t : Script) (number : ℕ) (first w : WorldOf Drive Harbor)
+    (played : IsPlayedOut drive.Moves harbor.Moves t number first w)
     → trace None text ≡ Ok t → IsFirst t first → IsHeadline t number first w played
 
 -- a trace was played, from a world as it is made for it to this one

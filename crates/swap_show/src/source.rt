@@ -2,9 +2,8 @@
 ghost use Rattle.std.specs.Prelude.{◌≡◌, ◌≤◌, All, IfOk, None, length};
 ghost use Rattle.swap_script.specs.Reading.{IsWithinLimits};
 ghost use Rattle.swap_trace.specs.Traces.{trace as trace_of};
-ghost use Rattle.swap_run.specs.Clause.{stream};
 ghost use Rattle.swap_play.specs.Playing.{IsTrace};
-ghost use Rattle.swap_show.specs.Clause.{ShowEnds, TextEnds, TraceEnds, WrittenBy};
+ghost use Rattle.swap_show.specs.Clause.{ShowEnds, TextEnds, TraceEnds, WrittenBy, read_of, written_to};
 ghost use Rattle.swap_show.specs.Shown.{IsFirst};
 
 use crate::plays_keep_the_headline;
@@ -46,7 +45,7 @@ fn show<K: Sink>(
     line: &mut LineBuf,
     out: &mut K,
 ) -> Ending
-    ensures ends { WrittenBy lenders.now world.now (stream (K.taken out.old) (K.taken out.new) (K.faults out.old) (K.faults out.new)) result }
+    ensures ends { WrittenBy lenders.now world.now (written_to K.Sink out.old out.new) result }
     ensures later { K.faults out.old ≤ K.faults out.new }
 {
     if print_world(world, lenders, line, out).is_err() {
@@ -69,7 +68,7 @@ fn play_trace<K: Sink, G: Gate, R: Threads + Wait + Sync>(
     gate: &G,
 ) -> Ending
     requires { IsTrace trace.now }
-    ensures ends { TraceEnds trace.now number (stream (K.taken out.old) (K.taken out.new) (K.faults out.old) (K.faults out.new)) result }
+    ensures ends { TraceEnds trace.now number (written_to K.Sink out.old out.new) result }
     ensures later { K.faults out.old ≤ K.faults out.new }
 {
     let script = trace.script();
@@ -98,7 +97,7 @@ fn play_text<K: Sink, G: Gate, R: Threads + Wait + Sync>(
     gate: &G,
 ) -> Ending
     requires { length text.now ≤ TEXT_LIMIT }
-    ensures ends { TextEnds (trace_of None text.now) number (stream (K.taken out.old) (K.taken out.new) (K.faults out.old) (K.faults out.new)) result }
+    ensures ends { TextEnds (trace_of None text.now) number (written_to K.Sink out.old out.new) result }
     ensures later { K.faults out.old ≤ K.faults out.new }
 {
     match read_trace(text, None) {
@@ -122,7 +121,7 @@ pub fn play_source<S: Source, K: Sink, G: Gate, R: Threads + Wait + Sync>(
     out: &mut K,
     gate: &G,
 ) -> Ending
-    ensures ends { ShowEnds number (stream (S.left source.old) (S.left source.new) (S.faults source.old) (S.faults source.new)) (stream (K.taken out.old) (K.taken out.new) (K.faults out.old) (K.faults out.new)) result }
+    ensures ends { ShowEnds number (read_of S.Source source.old source.new) (written_to K.Sink out.old out.new) result }
     ensures later { K.faults out.old ≤ K.faults out.new }
 {
     plays_keep_the_headline();

@@ -4,6 +4,7 @@ mod drill;
 mod file;
 mod frames;
 mod host;
+mod live;
 mod net;
 mod player;
 mod ports;

@@ -22,3 +22,11 @@ returns-clause-looked g c =
     let seen : h.seen ≡ c.value.result.now.world.core.device.history = ap (λ (s : Standing). s.seen) c.take-turn.ensures.turn ∙ sym (ap (λ (b : BoardOf g.row.D.Denot g.row.F.Denot). b.world.core.device.history) c.value.ensures.value) in
     let earlier : IsEarlier p.seen h.seen = subst (IsEarlier p.seen) (sym (ap (λ (s : Standing). s.seen) c.take-turn.ensures.turn)) c.take-turn.ensures.seen in
     none_turned p h c.give.new.pass now earlier (ap (λ (s : Standing). s.mine) c.take-turn.ensures.turn) c.give.ensures.pass (operated_history g.D.DiskPort.moves g.F.Fabric.moves g.N.Naming.named.operator c.operate-operated.result c.value.result.now c.operate-operated.new.self c.operate-operated.ensures.makes ∙ sym seen)
+
+pub returns-clause-operates : goal.returns-clause-operates
+returns-clause-operates g c = record {
+  was = c.value.result.now;
+  now = c.operate-operated.new.self;
+  operates = c.operate-operated.ensures.makes;
+  seen = ap (λ (s : Standing). s.seen) c.give.ensures.pass;
+}

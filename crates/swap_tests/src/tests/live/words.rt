@@ -1,5 +1,4 @@
 use super::{Log, REPLIES, host};
-use crate::run_live;
 use std::alloc::Global;
 use std::process::Abort;
 use std::sync::{Arc, Mutex, Wait};
@@ -8,6 +7,7 @@ use std::thread::Threads;
 use swap_base::Caller;
 use swap_board::Point;
 use swap_io::{MemSink, MemSource};
+use swap_live::run_live;
 use swap_player::Gate;
 use swap_run::run_lab;
 use swap_sock::{Host, MemHost};

@@ -1,7 +1,6 @@
 ghost use Rattle.std.specs.Prelude.{◌≡◌};
 
 use super::OFFER;
-use crate::{LendEnd, lend};
 use std::alloc::Global;
 use std::fs::{File, Files};
 use std::net::{Net, TcpListener, TcpStream};
@@ -13,6 +12,7 @@ use swap_base::{Geometry, Lease, Lender, Link, Slab};
 use swap_door::socket_address;
 use swap_host::RealHost;
 use swap_io::MemSink;
+use swap_live::{LendEnd, lend};
 use swap_net::SocketFabric;
 use swap_sock::Address;
 use swap_wire::{Fabric, Msg, Sent, Took};

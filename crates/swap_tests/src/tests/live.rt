@@ -1,6 +1,5 @@
 ghost use Rattle.std.specs.Prelude.{◌≡◌, ◌≤◌};
 
-use crate::{LendEnd, Offer, lend};
 use std::alloc::Global;
 use std::sync::{Arc, Mutex, Wait};
 use std::test::Fail;
@@ -8,6 +7,7 @@ use swap_base::{Geometry, Lease, LenderSpec};
 use swap_disk::MemDisk;
 use swap_io::{MemSink, MemSource, Sink, WriteFailed};
 use swap_link::Harbor;
+use swap_live::{LendEnd, Offer, lend};
 use swap_sock::{Address, Counts, Door, Host, HostFault, LinkEnd};
 use swap_wire::Msg;
 
