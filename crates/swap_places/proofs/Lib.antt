@@ -1,0 +1,3 @@
+pub mod Lines
+pub mod Chains
+pub mod Moves
