@@ -1,9 +1,11 @@
 -- A fabric over sockets, as what came of each lender's link. It tells nothing of what is kept or owed.
-use Rattle.std.specs.Prelude.{◌≡◌, ℕ, Bool, true, false, ◌==◌, List, [], ◌∷◌, ◌++◌, ◌⊎◌, length, slice_set, slice_get, Option, None, Some, IsSome}
+use Rattle.std.specs.Prelude.{◌≡◌, ℕ, Bool, true, false, ◌==◌, List, [], ◌∷◌, ◌++◌, ◌⊎◌, length, slice_set, slice_get}
+use Rattle.std.specs.Prelude.{Option, None, Some, IsSome}
 use Rattle.swap_base.specs.declared.Link.{Link}
 use Rattle.swap_wire.specs.declared.fabric.Sent.{Sent}
 use Rattle.swap_wire.specs.declared.fabric.Sent.TheVariants as sent_is
-use Rattle.swap_wire.specs.Fabric.{FabricOf, FabricCall, FabricAnswer, Connect, Send, Take, End, Handed, Brought, NothingCame, LinkLost, TakenFits, parcel_of}
+use Rattle.swap_wire.specs.Fabric.{FabricOf, FabricCall, FabricAnswer, Connect, Send, Take, End}
+use Rattle.swap_wire.specs.Fabric.{Handed, Brought, NothingCame, LinkLost, TakenFits, parcel_of}
 use Rattle.swap_net.specs.declared.post.Arrival.{Arrival}
 use Rattle.swap_net.specs.declared.post.Item.{Item}
 use Rattle.swap_net.specs.declared.post.Item.TheVariants as item_is
@@ -28,8 +30,8 @@ pub record Older (before now : PostState) : Type 0 where
   pub came : now.came ≡ before.came ++ item ∷ []
   pub older : stands_as before.link item.link ≡ false
 
--- an item with these bytes is handed over as what it is: a message with its page, or the end of its link. A message whose
--- bytes aren't as many as a page has ends the link
+-- an item with these bytes is handed over as what it is: a message with its page, or the end of its link. A message
+-- whose bytes aren't as many as a page has ends the link
 abbrev pub HandsOver : ℕ → Item → List ℕ → Handed → Type 0
 HandsOver page_bytes (item_is.Got m) bytes (Brought p) = p ≡ parcel_of m bytes
 HandsOver page_bytes (item_is.Got m) bytes LinkLost = length bytes ≡ page_bytes → ⊥
@@ -66,8 +68,8 @@ pub record Ended (before now : PostState) : Type 0 where
 abbrev pub Opened : Link → PostState → PostState → Type 0
 Opened link before now = (now ≡ record before { link = Some link }) ⊎ Ended before now
 
--- a message goes to the link that stands; else none stands from now on, which says that none stood, or that the queues to
--- its writer are full or the message has no frame
+-- a message goes to the link that stands; else none stands from now on, which says that none stood, or that the queues
+-- to its writer are full or the message has no frame
 abbrev pub Posted : Sent → PostState → PostState → Type 0
 Posted sent_is.Sent before now = IsSome before.link × (now ≡ before)
 Posted sent_is.Down before now = Ended before now

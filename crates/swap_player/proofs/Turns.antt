@@ -1,5 +1,5 @@
 -- What a turn of a call does to the pass that took it.
-use Rattle.std.proofs.Common.{◌≡◌, ◌-◌, ℕ, suc, List, [], ◌∷◌, ◌++◌, length, take, refl, sym, ap, ◌∙◌, subst, arith, append_assoc, Option, None, Some, Result, Ok, Err}
+use Rattle.std.proofs.Common.{◌≡◌, ◌+◌, ◌-◌, ◌<◌, ◌≤◌, ℕ, suc, zero, Bool, true, false, List, [], ◌∷◌, ◌++◌, length, take, refl, sym, ap, ◌∙◌, subst, arith, append_assoc, Option, None, Some, Result, Ok, Err}
 use Rattle.std.proofs.lemmas.List.Elements.{All-nil, All-cons}
 use Rattle.swap_base.specs.declared.EntryNo.{EntryNo}
 use Rattle.swap_base.specs.declared.Caller.{Caller}
@@ -8,11 +8,11 @@ use Rattle.swap_wire.specs.declared.Event.TheVariants as event
 use Rattle.swap_record.specs.History.{History, Row}
 use Rattle.swap_turn.specs.Turns.{IsEarlier, Extends, added_since}
 use Rattle.swap_turn.specs.Standing.{Standing, after_turn}
-use Rattle.swap_board.specs.Boards.{IsAnswered}
+use Rattle.swap_board.specs.Boards.{IsCall, IsAnswered}
 use Rattle.swap_player.specs.declared.paging.SwapFault.{SwapFault}
 use Rattle.swap_player.specs.declared.paging.SwapFault.TheVariants as fault
 use Rattle.swap_player.specs.declared.paging.Ended.{Ended}
-use Rattle.swap_player.specs.Turns.{caller_of, AddsOne, IsSpent, EndsBy, Ends, Answered, Looked, PagesBy, Turns}
+use Rattle.swap_player.specs.Turns.{caller_of, AddsOne, IsSpent, EndsBy, Ends, Answered, Looked, PagesBy, Pages, Turns}
 
 pub none_extends : (c : ℕ) (H now : History) → now ≡ H → Extends c H now
 none_extends c H now same = record { added = []; whole = sym same; own = All-nil _ }

@@ -1,5 +1,5 @@
 -- The history of a world that was reached is ordered, and legal as far as its ports tell.
-use Rattle.std.proofs.Common.{◌≡◌, ℕ, Bool, false, List, [], ◌∷◌, is_some, sym, ap, ◌∙◌, subst, Result, Ok, Err}
+use Rattle.std.proofs.Common.{◌≡◌, ℕ, Bool, true, false, List, [], ◌∷◌, is_some, sym, ap, ◌∙◌, subst, Result, Ok, Err, Option}
 use Rattle.swap_base.specs.Sizes.{Sizes, zeros}
 use Rattle.swap_base.specs.declared.EntryNo.{EntryNo}
 use Rattle.swap_base.specs.declared.Origin.TheVariants as origin

@@ -85,7 +85,8 @@ module _ {S K : Type 0} where
     }
 
     -- some links came and all ended, and then none came
-    pub broke : (page_bytes links : ℕ) (why : NodeFault) (vs : List (Visit S)) (before mid now : Dealings (Unit {0}) S (Left S K)) (ears : List Ear) → length vs ≤ links → AreNumbered page_bytes 0 vs
+    pub broke : (page_bytes links : ℕ) (why : NodeFault) (vs : List (Visit S)) (before mid now : Dealings (Unit {0}) S (Left S K)) (ears : List Ear)
+        → length vs ≤ links → AreNumbered page_bytes 0 vs
         → AskedLast why (all_given (map (λ (v : Visit S). v.given) vs) before) mid
         → IsParted left faults sink_faults vs mid now ears
         → BreaksOff left faults sink_faults page_bytes links why before now
@@ -101,7 +102,8 @@ module _ {S K : Type 0} where
     }
 
     -- memory ran out before any was asked for
-    pub none_came : (page_bytes links : ℕ) (before now : Dealings (Unit {0}) S (Left S K)) → now ≡ before → BreaksOff left faults sink_faults page_bytes links fault.NoMemory before now
+    pub none_came : (page_bytes links : ℕ) (before now : Dealings (Unit {0}) S (Left S K)) → now ≡ before
+        → BreaksOff left faults sink_faults page_bytes links fault.NoMemory before now
     none_came page_bytes links before now same = record {
       givens = [];
       backs = [];

@@ -1,4 +1,4 @@
-use Rattle.std.proofs.Common.{◌∙◌, subst, ℕ, List, Some}
+use Rattle.std.proofs.Common.{◌≡◌, ◌∙◌, subst, ℕ, List, Some}
 use Rattle.swap_player.specs.Turns.{Pages}
 use Rattle.swap_player.proofs.Turns.{looked_still, turns_after}
 use Rattle.swap_player.proofs.swap.Swap.call.Goals as goal

@@ -1,4 +1,4 @@
-use Rattle.std.proofs.Common.{◌∙◌}
+use Rattle.std.proofs.Common.{◌≡◌, ◌∙◌}
 use Rattle.swap_player.proofs.Turns.{looked_still}
 use Rattle.swap_player.proofs.swap.Swap.pump_all.Goals as goal
 
