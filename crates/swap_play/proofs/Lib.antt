@@ -9,3 +9,4 @@ pub mod Seating
 pub mod Operating
 pub mod Idle
 pub mod Ending
+mod Ticketing

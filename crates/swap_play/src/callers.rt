@@ -182,12 +182,10 @@ fn play_seat<D: DiskPort + Drop, F: Fabric + Drop, N: Naming<D, F>, G: Gate, R: 
     let number = pass.number();
     if number < callers {
         let done = play_caller(rt, alloc, swap, trace, &mut pass, gate);
-        busy.fetch_sub(1, Ordering::SeqCst);
         return (pass, done);
     }
     if number == callers {
         let done = operate_all(rt, swap, &mut pass);
-        busy.fetch_sub(1, Ordering::SeqCst);
         return (pass, done);
     }
     pump_while_busy(
@@ -199,6 +197,43 @@ fn play_seat<D: DiskPort + Drop, F: Fabric + Drop, N: Naming<D, F>, G: Gate, R: 
         gate,
     );
     (pass, true)
+}
+
+// What a seat counts as while it is under way to its thread, and there: busy, where it is a caller's or the operator's. So
+// a pump waits for no seat that is let go for want of memory.
+struct Ticket<'a> {
+    busy: Option<&'a AtomicU32>,
+}
+
+impl Drop for Ticket<'_> {
+    fn drop(self) {
+        let Ticket { busy } = self;
+        if let Some(busy) = busy {
+            busy.fetch_sub(1, Ordering::SeqCst);
+        }
+    }
+}
+
+// A ticket for each pass, of the callers and of the operator behind them.
+fn tickets_of<'a>(
+    alloc: Global,
+    passes: Vec<Pass>,
+    callers: u32,
+    busy: &'a AtomicU32,
+) -> Result<Vec<(Pass, Ticket<'a>)>, NoMemory>
+    ensures { IfOk result (λ v. map (λ s. s.0) v.items ≡ passes.items) }
+{
+    let mut seats = Vec::new(alloc);
+    'passes: for pass in passes {
+        let is_busy = pass.number() <= callers;
+        let ticket = Ticket {
+            busy: if is_busy { Some(busy) } else { None },
+        };
+        if seats.push((pass, ticket)).is_err() {
+            return Err(NoMemory);
+        }
+    }
+    Ok(seats)
 }
 
 /// Each seat in a thread of its own, as far as threads can be made: what each leaves, in order.
@@ -222,16 +257,27 @@ pub(crate) fn play_seats<
     ensures len { IfSome result (λ v. vec_len v ≡ vec_len passes) }
     ensures each { IfSome result (λ v. (i : ℕ) (d : _) (e : _) → i < vec_len passes → IsOver swap.now trace.now (slice_index_or passes.items i e) (slice_index_or v.items i d)) }
 {
-    let busy = AtomicU32::new(trace.script().geometry().callers() + 1);
-    let played = thread::map_vec(
+    let callers = trace.script().geometry().callers();
+    let busy = AtomicU32::new(callers + 1);
+    let Ok(seats) = tickets_of(alloc, passes, callers, &busy) else {
+        return None;
+    };
+    let Ok(overs) = thread::map_vec(
         rt,
-        passes,
-        &|pass: Pass| -> (Pass, bool)
-            requires { IsFreeOf swap.now pass × (pass.number < N.named.sizes.callers + N.named.lenders + 2) × (trace.now.sizes ≡ N.named.sizes) × (length trace.now.lenders ≡ N.named.lenders) }
-            ensures { IsOver swap.entry.now trace.entry.now pass result }
-        { play_seat(rt, alloc, swap, trace, pass, &busy, gate) },
-    );
-    played.ok()
+        seats,
+        &|seat: (Pass, Ticket<'_>)| -> (Pass, bool)
+            requires { IsFreeOf swap.now seat.0 × (seat.0.number < N.named.sizes.callers + N.named.lenders + 2) × (trace.now.sizes ≡ N.named.sizes) × (length trace.now.lenders ≡ N.named.lenders) }
+            ensures { IsOver swap.entry.now trace.entry.now seat.entry.0 result }
+        {
+            let (pass, ticket) = seat;
+            let over = play_seat(rt, alloc, swap, trace, pass, &busy, gate);
+            drop(ticket);
+            over
+        },
+    ) else {
+        return None;
+    };
+    Some(overs)
 }
 
 /// The passes that the threads left. None where one of them couldn't make all that it was for.
