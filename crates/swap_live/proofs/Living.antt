@@ -1,6 +1,5 @@
 -- How a call ends, by what the words ask for.
 use Rattle.std.proofs.Common.{◌≡◌, ◌⊎◌, ℕ, List, length, Option, None, Some, Ok, option_map, refl, sym, ap, ◌∙◌, subst, inl, inr}
-use Rattle.std.specs.Prelude.{is_none, true, false}
 use Rattle.std.specs.Io.KnownBytes.{Keeps}
 use Rattle.swap_disk.specs.declared.port.DiskPort.{Ghosts as DiskMeaning}
 use Rattle.swap_wire.specs.declared.fabric.Fabric.{Ghosts as FabricMeaning}
@@ -12,36 +11,20 @@ use Rattle.swap_options.specs.Play.{Play}
 use Rattle.swap_run.specs.declared.Ending.{Ending}
 use Rattle.swap_run.specs.declared.Ending.TheVariants as ending
 use Rattle.swap_run.specs.Clause.{Stream, TookNothing, status_of}
-use Rattle.swap_show.specs.Clause.{ShowEnds, ShowsComplete}
-use Rattle.swap_hosted.specs.Hosted.{Unasked, HostedEnds, HostedCompletes}
+use Rattle.swap_show.specs.Clause.{ShowsComplete}
+use Rattle.swap_hosted.specs.Hosted.{HostedCompletes}
 use Rattle.swap_live.specs.declared.LendEnd.TheVariants as end
-use Rattle.swap_live.specs.Lending.{GaveNothing}
-use Rattle.swap_live.specs.Live.{Command, Dealt, AskedNothing, HasFailed, EndsAsLending, EndsAsPlaying, EndsOver, LiveEnds, PlaysComplete}
+use Rattle.swap_live.specs.Live.{Command, Dealt, AskedNothing, EndsAsLending, EndsAsPlaying, EndsOver, LiveEnds, PlaysComplete}
 
 pub keeps_same : (known : Option (List ℕ)) → Keeps known known
 keeps_same None = tt
 keeps_same (Some bytes) = refl
 
-module _ {D F E : Type 0} (disk : DiskMeaning D) (net : FabricMeaning F) (o : Play) (source out : Stream) (host : Dealt D F E) (e : Ending) where
-  -- neither a path nor addresses are given
-  pub in_memory : {A B : Type 0} (f : A → List ℕ) (g : B → List Address) (path : Option A) (tcp : Option B) → is_none path ≡ true → is_none tcp ≡ true
-      → ShowEnds o.number source out e → Unasked host.disks → Unasked host.nets → EndsOver disk net o source out host e (option_map f path) (option_map g tcp)
-  in_memory f g None None no_path no_tcp ends disks nets = (ends, disks, nets)
-  in_memory f g None (Some list) no_path no_tcp ends disks nets = cc
-  in_memory f g (Some text) tcp no_path no_tcp ends disks nets = cc
-
-  -- one of them is
-  pub over_host : {A B : Type 0} (f : A → List ℕ) (g : B → List Address) (path : Option A) (tcp : Option B) → ¬ ((is_none path ≡ true) × (is_none tcp ≡ true))
-      → HostedEnds disk net o out host.disks host.nets (HasFailed host) source e → EndsOver disk net o source out host e (option_map f path) (option_map g tcp)
-  over_host f g None None given ends = absurd (given (refl, refl))
-  over_host f g None (Some list) given ends = ends
-  over_host f g (Some text) tcp given ends = ends
-
 module _ {D F E : Type 0} (disk : DiskMeaning D) (net : FabricMeaning F) (o : Play) (source out : Stream) (host : Dealt D F E) where
   no_memory : (path : Option (List ℕ)) (tcp : Option (List Address)) → TookNothing out → AskedNothing host → EndsOver disk net o source out host ending.NoMemory path tcp
-  no_memory None None none same = (none, same.0, same.1.0)
-  no_memory None (Some list) none same = inl (none, same.0, same.1.0)
-  no_memory (Some text) tcp none same = inl (none, same.0, same.1.0)
+  no_memory None None none same = (none, same.0, same.1)
+  no_memory None (Some list) none same = inl (none, same.0, same.1)
+  no_memory (Some text) tcp none same = inl (none, same.0, same.1)
 
 module _ {D F E S K : Type 0} (disk : DiskMeaning D) (net : FabricMeaning F) (links : E → Dealings (Unit {0}) S (Left S K)) (left : S → Option (List ℕ)) (faults : S → ℕ) (sink_faults : K → ℕ) where
   pub lent : (command : Option Command) (o : LendOptions) (source out : Stream) (host : Dealt D F E) (e : Ending) → command ≡ Some (Command.lends o) → TookNothing source
@@ -57,8 +40,8 @@ module _ {D F E S K : Type 0} (disk : DiskMeaning D) (net : FabricMeaning F) (li
   pub wanted : (command : Option Command) (source out : Stream) (host : Dealt D F E) → TookNothing source → TookNothing out → AskedNothing host
       → LiveEnds disk net links left faults sink_faults command source out host ending.NoMemory
   wanted None source out host kept none same = (kept, none, same)
-  wanted (Some (Command.lends o)) source out host kept none same = (kept, ((end.NoMemory, refl, (none, inl same.1.1)), same.0, same.1.0))
-  wanted (Some (Command.plays o)) source out host kept none same = (no_memory disk net o source out host o.disk o.tcp none same, same.1.1)
+  wanted (Some (Command.lends o)) source out host kept none same = (kept, ((end.NoMemory, refl, (none, inl same.2)), same.0, same.1))
+  wanted (Some (Command.plays o)) source out host kept none same = (no_memory disk net o source out host o.disk o.tcp none same, same.2)
 
   pub plays_complete : ShowsComplete → HostedCompletes disk net → PlaysComplete disk net links left faults sink_faults
   plays_complete shows hosts o source out err host status text t ended told fits is no_fault no_write no_rise = by_end (which o.disk o.tcp refl refl ended.holds.0)

@@ -3,7 +3,6 @@ use Rattle.std.specs.Prelude.{◌≡◌, ◌≤◌, ℕ, ◌⊎◌, true, if◌t
 use Rattle.std.specs.Prelude.{IfSome}
 use Rattle.swap_disk.specs.declared.port.DiskPort.{Ghosts as DiskMeaning}
 use Rattle.swap_wire.specs.declared.fabric.Fabric.{Ghosts as FabricMeaning}
-use Rattle.swap_io.specs.Causes.{Rose}
 use Rattle.swap_script.specs.declared.TheConstants.{TEXT_LIMIT}
 use Rattle.swap_script.specs.Lines.{is_word}
 use Rattle.swap_script.specs.Reading.{Script}

@@ -31,12 +31,15 @@ fn command_of<'w>(alloc: Global, words: &'w [&'w str]) -> Result<LiveCommand<'w>
     ensures limits { IfOk result KeepsLimits }
     ensures usage { IfErr result (λ why. why ≡ OptionsRefused.Usage → command_of (map (λ word. word.now) words.now) ≡ None) }
 {
-    match words {
-        ["lend", options @ ..] => match read_lend(alloc, options) {
+    let Some((word, options)) = words.split_first() else {
+        return Err(OptionsRefused::Usage);
+    };
+    match *word {
+        "lend" => match read_lend(alloc, options) {
             Ok(options) => Ok(LiveCommand::Lend(options)),
             Err(why) => Err(why),
         },
-        ["play", options @ ..] => match read_play(alloc, options) {
+        "play" => match read_play(alloc, options) {
             Ok(options) => Ok(LiveCommand::Play(options)),
             Err(why) => Err(why),
         },
@@ -103,10 +106,11 @@ where
     requires lenders { IfSome options.now.tcp (λ lenders. length lenders.items ≤ 8) }
     ensures ends { EndsAsPlaying H.Disk.DiskPort H.Net.Fabric (asked options.now) (read_of S.Source source.old source.new) (written_to K.Sink out.old out.new) (dealt H.Host host.old host.new) result }
 {
-    if options.disk.is_none() && options.tcp.is_none() {
-        play_source(rt, alloc, options.number, source, out, gate)
-    } else {
-        play_hosted(rt, alloc, options, source, out, host, gate)
+    match (options.disk, &options.tcp) {
+        (None, None) => play_source(rt, alloc, options.number, source, out, gate),
+        (None, Some(_)) | (Some(_), _) => {
+            play_hosted(rt, alloc, options, source, out, host, gate)
+        }
     }
 }
 

@@ -1,7 +1,11 @@
 -- A fabric over sockets, as what came of each lender's link. It tells nothing of what is kept or owed.
-use Rattle.std.specs.Prelude.{◌≡◌, ℕ, Bool, true, false, ◌==◌, List, [], ◌∷◌, ◌++◌, ◌⊎◌, length, slice_set, slice_get, Option, None, Some}
+use Rattle.std.specs.Prelude.{◌≡◌, ℕ, Bool, true, false, ◌==◌, List, [], ◌∷◌, ◌++◌, ◌⊎◌, length, slice_set, slice_get}
+use Rattle.std.specs.Prelude.{Option, None, Some, IsSome}
 use Rattle.swap_base.specs.declared.Link.{Link}
-use Rattle.swap_wire.specs.Fabric.{FabricOf, FabricCall, FabricAnswer, Take, Handed, Brought, NothingCame, LinkLost, TakenFits, parcel_of}
+use Rattle.swap_wire.specs.declared.fabric.Sent.{Sent}
+use Rattle.swap_wire.specs.declared.fabric.Sent.TheVariants as sent_is
+use Rattle.swap_wire.specs.Fabric.{FabricOf, FabricCall, FabricAnswer, Connect, Send, Take, End}
+use Rattle.swap_wire.specs.Fabric.{Handed, Brought, NothingCame, LinkLost, TakenFits, parcel_of}
 use Rattle.swap_net.specs.declared.post.Arrival.{Arrival}
 use Rattle.swap_net.specs.declared.post.Item.{Item}
 use Rattle.swap_net.specs.declared.post.Item.TheVariants as item_is
@@ -26,8 +30,8 @@ pub record Older (before now : PostState) : Type 0 where
   pub came : now.came ≡ before.came ++ item ∷ []
   pub older : stands_as before.link item.link ≡ false
 
--- an item with these bytes is handed over as what it is: a message with its page, or the end of its link. A message whose
--- bytes aren't as many as a page has ends the link
+-- an item with these bytes is handed over as what it is: a message with its page, or the end of its link. A message
+-- whose bytes aren't as many as a page has ends the link
 abbrev pub HandsOver : ℕ → Item → List ℕ → Handed → Type 0
 HandsOver page_bytes (item_is.Got m) bytes (Brought p) = p ≡ parcel_of m bytes
 HandsOver page_bytes (item_is.Got m) bytes LinkLost = length bytes ≡ page_bytes → ⊥
@@ -55,9 +59,35 @@ pub record TookAt (f : Mesh) (n : ℕ) (handed : Handed) (g : Mesh) : Type 0 whe
   pub posts : g.posts ≡ slice_set f.posts n now
   pub looked : Looked f.is_of.sizes.page_bytes before handed now
 
+-- no link stands, and what came is as it was
+pub record Ended (before now : PostState) : Type 0 where
+  pub link : now.link ≡ None
+  pub came : now.came ≡ before.came
+
+-- a new link stands, or none where its order can't be given
+abbrev pub Opened : Link → PostState → PostState → Type 0
+Opened link before now = (now ≡ record before { link = Some link }) ⊎ Ended before now
+
+-- a message goes to the link that stands; else none stands from now on, which says that none stood, or that the queues
+-- to its writer are full or the message has no frame
+abbrev pub Posted : Sent → PostState → PostState → Type 0
+Posted sent_is.Sent before now = IsSome before.link × (now ≡ before)
+Posted sent_is.Down before now = Ended before now
+
+-- only that post changed, and so
+pub record ChangedAt (f : Mesh) (n : ℕ) (changed : PostState → PostState → Type 0) (g : Mesh) : Type 0 where
+  pub before : PostState
+  pub at : slice_get f.posts n ≡ Some before
+  pub now : PostState
+  pub posts : g.posts ≡ slice_set f.posts n now
+  pub changes : changed before now
+
 abbrev pub Tells : Mesh → (c : FabricCall) → FabricAnswer c → Mesh → Type 0
 Tells f (Take lender) answer g = TookAt f lender.0 answer g
-Tells f _ answer g = Unit {0}
+Tells f (Connect lender link) answer g = ChangedAt f lender.0 (Opened link) g
+Tells f (Send lender parcel) answer g = ChangedAt f lender.0 (Posted answer) g
+Tells f (End lender) answer g = ChangedAt f lender.0 Ended g
+Tells f _ answer g = g.posts ≡ f.posts
 
 abbrev pub Moves : Mesh → (c : FabricCall) → FabricAnswer c → Mesh → Type 0
 Moves f c answer g = (g.is_of ≡ f.is_of) × TakenFits f.is_of.sizes.page_bytes c answer × Tells f c answer g

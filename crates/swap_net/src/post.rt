@@ -1,6 +1,6 @@
 ghost use Rattle.std.specs.Prelude.{◌≡◌, ◌≤◌, length, true, Some};
 ghost use Rattle.swap_wire.specs.Fabric.{handed, carries_page};
-ghost use Rattle.swap_net.specs.Posts.{Looked, stands_as};
+ghost use Rattle.swap_net.specs.Posts.{Ended, Looked, Opened, Posted, stands_as};
 
 use std::marker::Model;
 use std::sync::Wait;
@@ -102,7 +102,9 @@ impl<R: Wait + Copy> Post<R> {
     }
 
     /// A new link, in the place of an older one. Where its order can't be given there is none.
-    pub(crate) fn connect(&mut self, link: Link) {
+    pub(crate) fn connect(&mut self, link: Link)
+        ensures { Opened link self.old self.new }
+    {
         self.link = Some(link);
         if self.orders.push(&self.rt, Order::Connect(link)).is_err() {
             self.link = None;
@@ -111,7 +113,9 @@ impl<R: Wait + Copy> Post<R> {
     }
 
     /// Ends the link that stands. The writer shuts it, or does so when the next one comes.
-    pub(crate) fn end(&mut self) {
+    pub(crate) fn end(&mut self)
+        ensures { Ended self.old self.new }
+    {
         if let Some(link) = self.link {
             let _ = self.orders.push(&self.rt, Order::End(link));
             self.writer.ring();
@@ -122,6 +126,7 @@ impl<R: Wait + Copy> Post<R> {
     /// Gives a message to the writer. A full queue to the peer ends the link.
     pub(crate) fn send(&mut self, msg: &Msg, page: &[u8]) -> Sent
         requires { carries_page msg.now ≡ true → length page.now ≤ 4096 }
+        ensures { Posted result self.old self.new }
     {
         let Some(link) = self.link else {
             return Sent::Down;

@@ -1,10 +1,12 @@
 -- Links that came, one after another, and that ended, one after another.
-use Rattle.std.proofs.Common.{◌≡◌, ℕ, ◌+◌, List, [], ◌∷◌, ◌++◌, length, map, refl, sym, ap, subst, ◌∙◌, arith, Option}
+use Rattle.std.proofs.Common.{◌≡◌, ℕ, ◌+◌, ◌≤◌, List, [], ◌∷◌, ◌++◌, length, map, refl, sym, ap, subst, ◌∙◌, arith, Option, inl}
 use Rattle.swap_base.specs.declared.Link.{Link}
 use Rattle.swap_sock.specs.Dealings.{Dealings, Left, gave_one, got_back}
 use Rattle.swap_node.specs.declared.node.Ear.{Ear}
 use Rattle.swap_serve.specs.Hearing.{IsHeard}
-use Rattle.swap_serve.specs.Serving.{all_given, all_back, AreHeard, IsServed}
+use Rattle.swap_serve.specs.declared.links.NodeFault.{NodeFault}
+use Rattle.swap_serve.specs.declared.links.NodeFault.TheVariants as fault
+use Rattle.swap_serve.specs.Serving.{all_given, all_back, AskedLast, AreHeard, IsServed, BreaksOff}
 use Rattle.swap_serve.specs.Slots.{Visit, AreNumbered, AreKeptBy, IsParted}
 
 link_is : (l : Link) (n : ℕ) → l.0 ≡ n → l ≡ record { 0 = n }
@@ -14,6 +16,10 @@ module _ {S : Type 0} where
   map_last : (vs : List (Visit S)) (v : Visit S) → map (λ (v : Visit S). v.given) (vs ++ v ∷ []) ≡ map (λ (v : Visit S). v.given) vs ++ v.given ∷ []
   map_last [] v = refl
   map_last (x ∷ vs) v = ap (λ (ss : List S). x.given ∷ ss) (map_last vs v)
+
+  as_many_given : (vs : List (Visit S)) → length (map (λ (v : Visit S). v.given) vs) ≡ length vs
+  as_many_given [] = refl
+  as_many_given (x ∷ vs) = omega (arith, as_many_given vs)
 
   pub numbered_last : (page_bytes n : ℕ) (vs : List (Visit S)) (v : Visit S) → AreNumbered page_bytes n vs → v.link.0 ≡ n + length vs → v.page_bytes ≡ page_bytes → AreNumbered page_bytes n (vs ++ v ∷ [])
   numbered_last page_bytes n [] v each link pages = (link_is v.link n (omega (arith, link)), pages, tt)
@@ -76,4 +82,35 @@ module _ {S K : Type 0} where
       number = as_many vs parted.backs ears parted.each ∙ number;
       dealings = parted.dealings ∙ ap (λ (d : Dealings (Unit {0}) S (Left S K)). all_back parted.backs d) came;
       each = heard_all page_bytes 0 vs parted.backs ears each parted.each;
+    }
+
+    -- some links came and all ended, and then none came
+    pub broke : (page_bytes links : ℕ) (why : NodeFault) (vs : List (Visit S)) (before mid now : Dealings (Unit {0}) S (Left S K)) (ears : List Ear)
+        → length vs ≤ links → AreNumbered page_bytes 0 vs
+        → AskedLast why (all_given (map (λ (v : Visit S). v.given) vs) before) mid
+        → IsParted left faults sink_faults vs mid now ears
+        → BreaksOff left faults sink_faults page_bytes links why before now
+    broke page_bytes links why vs before mid now ears few each asked parted = record {
+      givens = map (λ (v : Visit S). v.given) vs;
+      backs = parted.backs;
+      ears = ears;
+      number = omega (arith, few, as_many_given vs);
+      last = mid;
+      asked = asked;
+      dealings = parted.dealings;
+      each = heard_all page_bytes 0 vs parted.backs ears each parted.each;
+    }
+
+    -- memory ran out before any was asked for
+    pub none_came : (page_bytes links : ℕ) (before now : Dealings (Unit {0}) S (Left S K)) → now ≡ before
+        → BreaksOff left faults sink_faults page_bytes links fault.NoMemory before now
+    none_came page_bytes links before now same = record {
+      givens = [];
+      backs = [];
+      ears = [];
+      number = omega arith;
+      last = now;
+      asked = inl same;
+      dealings = refl;
+      each = tt;
     }

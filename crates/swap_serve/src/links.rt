@@ -1,9 +1,9 @@
-ghost use Rattle.std.specs.Prelude.{◌≡◌, ◌<◌, ◌≤◌, ◌*◌, ◌^◌, [], length, map, vec_capacity, IfOk, OnOk, Err};
+ghost use Rattle.std.specs.Prelude.{◌≡◌, ◌<◌, ◌≤◌, ◌*◌, ◌^◌, [], length, map, vec_capacity, IfOk, IfErr, OnOk, Err};
 ghost use Rattle.swap_io.specs.Causes.{Rose};
 ghost use Rattle.swap_lender.specs.Core.{IsLending};
 ghost use Rattle.swap_sock.specs.Dealings.{gave_one};
 ghost use Rattle.swap_serve.specs.Slots.{AreNumbered, IsParted};
-ghost use Rattle.swap_serve.specs.Serving.{all_given, IsServed};
+ghost use Rattle.swap_serve.specs.Serving.{all_given, AskedLast, BreaksOff, IsServed};
 
 use crate::listener::{Buffers, Listener};
 use crate::slot::{Shared, Slot};
@@ -25,7 +25,8 @@ pub enum NodeFault {
 /// lender, or at once where no thread can be made; one that sends what isn't a frame, or a message that it may not send,
 /// ends alone. When all have ended, each reader goes back to the door with its end, in order, and there is one ear for each.
 ///
-/// `HostFailed` comes only where the door's count of faults rose; the links that came before were heard to their end then.
+/// `HostFailed` comes only where the door gave no link and its count of faults rose, and else an `Err` is `NoMemory`. The
+/// links that came before were heard to their end then, and went back to the door; one that came as memory ran out may not.
 pub fn serve<R, D>(
     rt: R,
     alloc: Global,
@@ -44,6 +45,7 @@ where
     requires limits { IsLending (record { spec = spec; page_bytes = page_bytes; pages_per_slab = pages_per_slab; links = links }) }
     requires bytes { spec.slots * (pages_per_slab * page_bytes) < 2 ^ 64 }
     ensures served { IfOk result (λ ears. IsServed D.Reader.left D.Reader.faults D.Writer.faults page_bytes links (D.links door.old) (D.links door.new) ears.items) }
+    ensures breaks { IfErr result (λ why. BreaksOff D.Reader.left D.Reader.faults D.Writer.faults page_bytes links why (D.links door.old) (D.links door.new)) }
     ensures later { D.faults door.old ≤ D.faults door.new }
     ensures cause { result ≡ Err NodeFault.HostFailed → Rose (D.faults door.old) (D.faults door.new) }
 {
@@ -88,6 +90,7 @@ where
     ensures most { length slots.new.items ≤ links }
     ensures each { AreNumbered page_bytes 0 slots.new.items }
     ensures links { OnOk result (D.links door.new ≡ all_given (map (λ v. v.given) slots.new.items) (D.links door.old)) }
+    ensures asked { IfErr result (λ why. AskedLast why (all_given (map (λ v. v.given) slots.new.items) (D.links door.old)) (D.links door.new)) }
     ensures later { D.faults door.old ≤ D.faults door.new }
     ensures cause { result ≡ Err NodeFault.HostFailed → Rose (D.faults door.old) (D.faults door.new) }
 {
@@ -116,6 +119,7 @@ where
     requires most { page_bytes ≤ 4096 }
     ensures slot { IfOk result (λ v. (v.link ≡ link) × (v.page_bytes ≡ page_bytes)) }
     ensures links { IfOk result (λ v. D.links door.new ≡ gave_one tt v.given (D.links door.old)) }
+    ensures asked { IfErr result (λ why. AskedLast why (D.links door.old) (D.links door.new)) }
     ensures later { D.faults door.old ≤ D.faults door.new }
     ensures cause { result ≡ Err NodeFault.HostFailed → Rose (D.faults door.old) (D.faults door.new) }
 {
