@@ -5,7 +5,7 @@ use Rattle.std.proofs.lemmas.Bool.{cases_eq, cond-true, cond-false}
 use Rattle.std.proofs.lemmas.List.{get_or-replicate, length-replicate}
 use Rattle.std.proofs.lemmas.List.FromFn.{length-map-range_with_len, get_or-map-range_with_len, fill_by_all}
 use Rattle.std.proofs.lemmas.Nat.Bits.{bit_at_set_same, bit_at_set_other, bit_at_clear_same, bit_at_clear_other, bit_at-zero, shr_and_one}
-use Rattle.swap_words.specs.Bits.{has}
+use Rattle.swap_bits.specs.Bits.{has}
 use Rattle.swap_words.specs.Words.{is_in, set_of}
 
 pub length-set_of : (words : List ℕ) (n : ℕ) → length (set_of words n) ≡ n

@@ -5,9 +5,9 @@ use Rattle.std.proofs.lemmas.Bool.{cases_eq, cond-true, cond-false}
 use Rattle.std.proofs.lemmas.List.Sums.{sum_by_more}
 use Rattle.std.proofs.lemmas.Nat.{ones_cat, ones_le_self, zero_from_ones, mod-pow-add, mod_below}
 use Rattle.std.proofs.lemmas.Nat.Bits.{bit_at_lowest, bit_at-suc}
-use Rattle.swap_words.specs.Bits.{has, count_in}
+use Rattle.swap_bits.specs.Bits.{has, count_in}
 use Rattle.swap_words.specs.Words.{is_in, set_of}
-use Rattle.swap_words.proofs.Numbers.{counts_parts, counts_one}
+use Rattle.swap_bits.proofs.Numbers.{counts_parts, counts_one}
 use Rattle.swap_words.proofs.Bits.{length-set_of, has_of}
 
 ones_bit : (b : ℕ) → b < 2 → count_ones b ≡ b

@@ -2,7 +2,7 @@
 #![tactic(auto)]
 
 ghost use Rattle.std.specs.Prelude.{◌≡◌, ℕ, ◌+◌, ◌-◌, ◌*◌, ◌/◌, ◌%◌, ◌^◌, ◌<◌, ◌≤◌, length, take, drop, ◌++◌, replicate, sum_by, count_ones, false, if◌then◌else◌, IfOk};
-ghost use Rattle.swap_words.specs.Bits.{no_numbers, has, with_number, without_number, without_range, count_in, is_in_range, AddsOne, TakesOne, TakesRange, CountsParts, CountsOne, KeepsBound};
+ghost use Rattle.swap_bits.specs.Bits.{no_numbers, has, with_number, without_number, without_range, count_in, is_in_range};
 ghost use Rattle.swap_words.specs.Words.{is_in, set_of};
 
 use std::alloc::Global;
@@ -153,15 +153,6 @@ impl PageBits {
         count_in_words(&self.words, first, end)
     }
 }
-/// What each change makes of the set, number by number, and how counts go together.
-pub fn is_a_set()
-    ensures set { AddsOne }
-    ensures clear { TakesOne }
-    ensures clear_range { TakesRange }
-    ensures parts { CountsParts }
-    ensures one { CountsOne }
-    ensures bound { KeepsBound }
-{}
 
 #[cfg(test)]
 mod tests {

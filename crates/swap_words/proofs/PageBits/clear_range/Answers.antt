@@ -1,6 +1,6 @@
 use Rattle.std.proofs.Common.{◌≤◌, length, arith, ap, ◌∙◌, cond, false}
 use Rattle.std.proofs.lemmas.List.{with_items_is}
-use Rattle.swap_words.specs.Bits.{is_in_range, without_range}
+use Rattle.swap_bits.specs.Bits.{is_in_range, without_range}
 use Rattle.swap_words.specs.Words.{is_in, set_of}
 use Rattle.swap_words.proofs.Bits.{bound_of}
 use Rattle.swap_words.proofs.Ranges.{range_taken}

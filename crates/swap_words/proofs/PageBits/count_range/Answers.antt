@@ -1,5 +1,5 @@
 use Rattle.std.proofs.Common.{◌≤◌, length, arith, ap, ◌∙◌}
-use Rattle.swap_words.specs.Bits.{count_in}
+use Rattle.swap_bits.specs.Bits.{count_in}
 use Rattle.swap_words.specs.Words.{set_of}
 use Rattle.swap_words.proofs.Bits.{bound_of}
 use Rattle.swap_words.proofs.PageBits.count_range.Goals as goal

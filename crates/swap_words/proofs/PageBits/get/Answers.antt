@@ -1,6 +1,6 @@
 use Rattle.std.proofs.Common.{◌≡◌, ◌<◌, ◌/◌, ◌%◌, ◌^◌, ◌==◌, length, get_or, bit_and, arith, ap, ◌∙◌}
 use Rattle.std.proofs.lemmas.List.{get_or_default}
-use Rattle.swap_words.specs.Bits.{has}
+use Rattle.swap_bits.specs.Bits.{has}
 use Rattle.swap_words.proofs.Bits.{bound_of, tested}
 use Rattle.swap_words.proofs.PageBits.get.Goals as goal
 
