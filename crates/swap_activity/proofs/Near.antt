@@ -20,7 +20,9 @@ run-value hits earlier =
     ap₂ average (value_kept hits (run earlier)) (hits_counted hits (run earlier) (no_hits earlier))
 
 -- one period more, where w is 5 ^ n
-one_more : (w value next hits exact : ℕ) → 5 * next ≤ one * hits + 4 * value → one * hits + 4 * value ≤ 5 * next + 4 → w * value ≤ exact → exact < w * (value + 5) → (5 * w * next ≤ w * one * hits + 4 * exact) × (w * one * hits + 4 * exact < 5 * w * (next + 5))
+one_more :
+    (w value next hits exact : ℕ) → 5 * next ≤ one * hits + 4 * value → one * hits + 4 * value ≤ 5 * next + 4 → w * value ≤ exact → exact < w * (value + 5)
+    → (5 * w * next ≤ w * one * hits + 4 * exact) × (w * one * hits + 4 * exact < 5 * w * (next + 5))
 one_more w value next hits exact down up low high =
     (omega (arith, mul-le-mul_left w down), omega (arith, mul-le-mul_left w up))
 
@@ -35,6 +37,12 @@ near [] = (omega arith, omega arith)
 near (hits ∷ earlier) =
     let before = near earlier in
     let weight : 5 ^ length (hits ∷ earlier) ≡ 5 * 5 ^ length earlier = pow-succ' 5 (length earlier) in
-    let after = one_more (5 ^ length earlier) (run earlier).value (average (run earlier).value (counted hits)) (counted hits) (exact earlier) (rounded_down _) (by_less_than_five _) before.0 before.1 in
-    subst (λ v. (5 ^ length (hits ∷ earlier) * v ≤ exact (hits ∷ earlier)) × (exact (hits ∷ earlier) < 5 ^ length (hits ∷ earlier) * (v + 5))) (sym (run-value hits earlier))
-    (subst (λ k. (k * average (run earlier).value (counted hits) ≤ exact (hits ∷ earlier)) × (exact (hits ∷ earlier) < k * (average (run earlier).value (counted hits) + 5))) (sym weight) after)
+    let after =
+    one_more (5 ^ length earlier) (run earlier).value (average (run earlier).value (counted hits)) (counted hits) (exact earlier) (rounded_down _)
+    (by_less_than_five _) before.0 before.1 in
+    subst (λ v. (5 ^ length (hits ∷ earlier) * v ≤ exact (hits ∷ earlier)) × (exact (hits ∷ earlier) < 5 ^ length (hits ∷ earlier) * (v + 5)))
+    (sym (run-value hits earlier))
+    (subst
+    (λ k. (k * average (run earlier).value (counted hits) ≤ exact (hits ∷ earlier))
+    × (exact (hits ∷ earlier) < k * (average (run earlier).value (counted hits) + 5)))
+    (sym weight) after)

@@ -52,4 +52,5 @@ exact (hits ∷ earlier) = 5 ^ length earlier * one * counted hits + 4 * exact e
 -- the value is the exact average but for less than 5 units
 abbrev pub IsNearExact : List ℕ → Type 0
 IsNearExact periods =
-    (5 ^ length periods * (run periods).value ≤ exact periods) × (exact periods < 5 ^ length periods * ((run periods).value + 5))
+    (5 ^ length periods * (run periods).value ≤ exact periods)
+    × (exact periods < 5 ^ length periods * ((run periods).value + 5))

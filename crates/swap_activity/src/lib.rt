@@ -9,8 +9,8 @@ use std::marker::Model;
 /// One hit in each period, as a value.
 pub const ONE: u64 = 65_536;
 
-/// A fifth of the hits and four fifths of the value, rounded down. The value is at most `ONE * (2^32 - 1)`, and so is the
-/// result.
+/// A fifth of the hits and four fifths of the value, rounded down. The value is at most `ONE *
+/// (2^32 - 1)`, and so is the result.
 pub fn average(value: u64, m: u32) -> u64
     requires { value ≤ ONE * (2 ^ 32 - 1) }
     ensures average { result ≡ average value m }
@@ -87,7 +87,8 @@ impl Rate {
     }
 }
 
-/// The value of a rate is the exact moving average but for less than 5 units, whatever hits came in its periods.
+/// The value of a rate is the exact moving average but for less than 5 units, whatever hits came in
+/// its periods.
 pub fn near_exact()
     ensures { (periods : List ℕ) → IsNearExact periods }
 {}

@@ -36,13 +36,32 @@ AllBetween low high (m ∷ ms) = (low ≤ m) × (m ≤ high) × AllBetween low h
 one_of : (low high n : ℕ) (ms : List ℕ) → AllBetween low high ms → list_any (λ m. n == m) ms ≡ true → (low ≤ n) × (n ≤ high)
 one_of low high n [] h e = cc
 one_of low high n (m ∷ ms) h e =
-    or_true ((low ≤ n) × (n ≤ high)) (n == m) (list_any (λ m. n == m) ms) (λ same. let is : n ≡ m = eqb-true n m same in (omega (arith, h.0), omega (arith, h.1))) (λ rest. one_of low high n ms h.2 rest) e
+    or_true ((low ≤ n) × (n ≤ high)) (n == m) (list_any (λ m. n == m) ms)
+    (λ same. let is : n ≡ m = eqb-true n m same in (omega (arith, h.0), omega (arith, h.1))) (λ rest. one_of low high n ms h.2 rest) e
 
 pub within_limits : (s : Sizes) → AreInLimits s → IsWithin s
 within_limits s e0 =
     let p : Passes (limits s) = all_pass (limits s) e0 in
     record {
-      page_bytes = one_of 8 4_096 s.page_bytes page_lengths (lit≤ tt, lit≤ tt, (lit≤ tt, lit≤ tt, (lit≤ tt, lit≤ tt, (lit≤ tt, lit≤ tt, (lit≤ tt, lit≤ tt, (lit≤ tt, lit≤ tt, (lit≤ tt, lit≤ tt, (lit≤ tt, lit≤ tt, (lit≤ tt, lit≤ tt, (lit≤ tt, lit≤ tt, tt)))))))))) p.0;
+      page_bytes =
+          one_of 8 4_096 s.page_bytes page_lengths (
+            lit≤ tt,
+            lit≤ tt,
+            (
+              lit≤ tt,
+              lit≤ tt,
+              (
+                lit≤ tt,
+                lit≤ tt,
+                (
+                  lit≤ tt,
+                  lit≤ tt,
+                  (lit≤ tt, lit≤ tt, (lit≤ tt, lit≤ tt, (lit≤ tt, lit≤ tt, (lit≤ tt, lit≤ tt, (lit≤ tt, lit≤ tt, (lit≤ tt, lit≤ tt, tt)))))),
+                ),
+              ),
+            ),
+          )
+          p.0;
       length = p.0;
       pages_per_slab = between 1 65_536 s.pages_per_slab p.1.0;
       slabs = between 1 4_096 s.slabs p.1.1.0;

@@ -7,4 +7,5 @@ use Rattle.swap_base.specs.Sizes.{is_within}
 
 -- each field of a lender, and whether it keeps its limit
 abbrev pub lender_limits : LenderSpec → List (Field × Bool)
-lender_limits s = (Slots, is_within 1 64 s.slots) ∷ (Headroom, is_within 0 64 s.headroom) ∷ (Extra, is_within 0 64 s.extra) ∷ []
+lender_limits s =
+    (Slots, is_within 1 64 s.slots) ∷ (Headroom, is_within 0 64 s.headroom) ∷ (Extra, is_within 0 64 s.extra) ∷ []

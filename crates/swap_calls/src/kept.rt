@@ -109,7 +109,8 @@ impl Model for KeptCall {
 impl KeptCall {
     /// No call, and a place for a page.
     pub fn make(alloc: Global, page_bytes: usize) -> Result<KeptCall, NoMemory>
-        ensures { IfOk result (λ k. k ≡ record { state = CallState.Idle; page = replicate page_bytes 0 }) }
+        ensures { IfOk result
+            (λ k. k ≡ record { state = CallState.Idle; page = replicate page_bytes 0 }) }
     {
         match vec![in alloc; 0u8; page_bytes] {
             Ok(page) => Ok(KeptCall {

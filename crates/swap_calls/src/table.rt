@@ -31,7 +31,12 @@ impl Model for Calls {
 impl Calls {
     /// No call for any of the geometry's callers. No other call of `Calls` takes memory.
     pub fn make(alloc: Global, geometry: &Geometry) -> Result<Calls, NoMemory>
-        ensures { IfOk result (λ t. t ≡ record { calls = all_idle geometry.now.callers; page_bytes = geometry.now.page_bytes }) }
+        ensures { IfOk result
+            (λ t. t
+            ≡ record {
+              calls = all_idle geometry.now.callers;
+              page_bytes = geometry.now.page_bytes;
+            }) }
     {
         let callers = geometry.callers() as usize;
         let page_bytes = geometry.page_bytes() as usize;
@@ -62,7 +67,8 @@ impl Calls {
     pub fn bytes(&self, caller: Caller) -> &[u8]
         requires { caller.0 < length self.now.calls }
         ensures kept { result.now ≡ (call_of self.now.calls caller).bytes }
-        ensures len { length result.now ≡ (if keeps_page (state_of self.now.calls caller) then self.now.page_bytes else 0) }
+        ensures len { length result.now
+            ≡ (if keeps_page (state_of self.now.calls caller) then self.now.page_bytes else 0) }
     {
         let call = &self.calls[caller.0 as usize];
         if call.state().keeps_page() {
@@ -77,7 +83,9 @@ impl Calls {
         requires caller { caller.0 < length self.old.calls }
         requires idle { is_idle (state_of self.old.calls caller) ≡ true }
         requires bytes { length bytes.now ≡ self.old.page_bytes }
-        ensures { self.new ≡ record self.old { calls = waits_for_room self.old.calls caller page since bytes.now } }
+        ensures { self.new
+            ≡ record self.old
+            { calls = waits_for_room self.old.calls caller page since bytes.now } }
     {
         self.calls[caller.0 as usize].keep(CallState::Room { page, since }, bytes);
     }
@@ -86,7 +94,8 @@ impl Calls {
     pub fn begin_read(&mut self, caller: Caller, page: Page, newest: EntryNo, via: Via, since: u64)
         requires caller { caller.0 < length self.old.calls }
         requires may_read { may_read (state_of self.old.calls caller) ≡ true }
-        ensures { self.new ≡ record self.old { calls = reads self.old.calls caller page newest via since } }
+        ensures { self.new
+            ≡ record self.old { calls = reads self.old.calls caller page newest via since } }
     {
         self.calls[caller.0 as usize].set_state(CallState::Reading {
             page,

@@ -15,7 +15,9 @@ pub slot_there : (set place slot : ℕ) → slice_get (slots set) place ≡ Some
 unfolding slots
 slot_there set place slot got = passes (has set) 0 64 place slot got
 
-pub slots-without : (set less place slot : ℕ) → slice_get (slots set) place ≡ Some slot → ((i : ℕ) → i < 64 → has less i ≡ (not (eqb i slot) && has set i)) → slots less ≡ remove (slots set) place
+pub slots-without :
+    (set less place slot : ℕ) → slice_get (slots set) place ≡ Some slot → ((i : ℕ) → i < 64 → has less i ≡ (not (eqb i slot) && has set i))
+    → slots less ≡ remove (slots set) place
 unfolding slots
 slots-without set less place slot got without =
     filter-remove (has set) (has less) 0 64 place slot got (λ i low high. without i (omega arith))
@@ -25,12 +27,19 @@ unfolding slots
 lowest_slot set slot other got within there = first_least (has set) 0 64 slot other got (omega arith) (omega arith) there
 
 -- one pick more
-pub pick_more : (f : ℕ → ℕ → ℕ) (chosen word m : ℕ) (list : List ℕ) → 0 < length list → fold f chosen (take (suc m) (picks word list)) ≡ fold f (f chosen (get_or list (word % length list) 0)) (take m (picks (word / length list) (remove list (word % length list))))
+pub pick_more :
+    (f : ℕ → ℕ → ℕ) (chosen word m : ℕ) (list : List ℕ) → 0 < length list
+    → fold f chosen (take (suc m) (picks word list))
+    ≡ fold f (f chosen (get_or list (word % length list) 0)) (take m (picks (word / length list) (remove list (word % length list))))
 pick_more f chosen word m [] some = absurd (omega arith)
 pick_more f chosen word m (x ∷ xs) some =
     let removed = length-remove (x ∷ xs) (word % length (x ∷ xs)) (mod-lt word {m = length (x ∷ xs)} (omega arith)) in
     let fewer : length xs ≡ length (remove (x ∷ xs) (word % length (x ∷ xs))) = omega arith in
-    ap (λ n. fold f (f chosen (get_or (x ∷ xs) (word % length (x ∷ xs)) 0)) (take m (first_picks n (word / length (x ∷ xs)) (remove (x ∷ xs) (word % length (x ∷ xs)))))) fewer
+    ap
+    (λ n.
+    fold f (f chosen (get_or (x ∷ xs) (word % length (x ∷ xs)) 0))
+    (take m (first_picks n (word / length (x ∷ xs)) (remove (x ∷ xs) (word % length (x ∷ xs))))))
+    fewer
 
 pub record Split (whole chosen left : ℕ) : Type 0 where
   pub part : (i : ℕ) → i < 64 → has whole i ≡ (has chosen i || has left i)
@@ -47,14 +56,20 @@ apart_moved true c l h k = refl
 apart_moved false c l h k = h k
 
 -- one slot more is chosen
-pub moved : (whole chosen left chosen' left' slot : ℕ) → Split whole chosen left → has left slot ≡ true → ((i : ℕ) → i < 64 → has chosen' i ≡ (eqb i slot || has chosen i)) → ((i : ℕ) → i < 64 → has left' i ≡ (not (eqb i slot) && has left i)) → Split whole chosen' left'
+pub moved :
+    (whole chosen left chosen' left' slot : ℕ) → Split whole chosen left → has left slot ≡ true
+    → ((i : ℕ) → i < 64 → has chosen' i ≡ (eqb i slot || has chosen i)) → ((i : ℕ) → i < 64 → has left' i ≡ (not (eqb i slot) && has left i))
+    → Split whole chosen' left'
 moved whole chosen left chosen' left' slot split there with_it without_it = record {
-  part = λ i within. part_moved (eqb i slot) (has chosen i) (has left i) (has whole i) (split.part i within) (λ same. ap (has left) (eqb-true i slot same) ∙ there) ∙ sym (ap₂ (λ a b. a || b) (with_it i within) (without_it i within));
+  part =
+      λ i within. part_moved (eqb i slot) (has chosen i) (has left i) (has whole i) (split.part i within) (λ same. ap (has left) (eqb-true i slot same) ∙ there)
+      ∙ sym (ap₂ (λ a b. a || b) (with_it i within) (without_it i within));
   apart = λ i within is. without_it i within ∙ apart_moved (eqb i slot) (has chosen i) (has left i) (split.apart i within) (sym (with_it i within) ∙ is);
 }
 
 -- sizes: one slot less, and one slot more
-pub size-without : (set less slot : ℕ) → slot < 64 → has set slot ≡ true → ((i : ℕ) → i < 64 → has less i ≡ (not (eqb i slot) && has set i)) → size less + 1 ≡ size set
+pub size-without :
+    (set less slot : ℕ) → slot < 64 → has set slot ≡ true → ((i : ℕ) → i < 64 → has less i ≡ (not (eqb i slot) && has set i)) → size less + 1 ≡ size set
 unfolding slots
 size-without set less slot within there without =
     length-less (has set) (has less) 0 64 slot (omega arith) (omega arith) there (λ i low high. without i (omega arith))
@@ -65,7 +80,9 @@ taken_back false s m is out = sym is
 
 pub size-with : (set more slot : ℕ) → slot < 64 → has set slot ≡ false → ((i : ℕ) → i < 64 → has more i ≡ (eqb i slot || has set i)) → size more ≡ size set + 1
 size-with set more slot within out with_it =
-    sym (size-without more set slot within (with_it slot within ∙ ap (λ b. b || has set slot) (eq-eqb slot slot refl)) (λ i inside. taken_back (eqb i slot) (has set i) (has more i) (with_it i inside) (λ same. ap (has set) (eqb-true i slot same) ∙ out)))
+    sym
+    (size-without more set slot within (with_it slot within ∙ ap (λ b. b || has set slot) (eq-eqb slot slot refl))
+    (λ i inside. taken_back (eqb i slot) (has set i) (has more i) (with_it i inside) (λ same. ap (has set) (eqb-true i slot same) ∙ out)))
 
 pub has-zero : (slot : ℕ) → has 0 slot ≡ false
 has-zero slot = ap (λ b. eqb b 1) (bit_at-zero slot)
@@ -86,7 +103,11 @@ not_chosen true l apart left = absurd (both_ways l (apart refl) left)
 not_chosen false l apart left = refl
 
 -- the chosen ones stay below those left
-pub below_more : (rates : List ℕ) (chosen left chosen' left' slot : ℕ) → ((i j : ℕ) → i < 64 → j < 64 → has chosen i ≡ true → has left j ≡ true → IsBelow rates i j) → ((j : ℕ) → j < 64 → has left j ≡ true → (j ≡ slot) ⊎ IsBelow rates slot j) → ((i : ℕ) → i < 64 → has chosen' i ≡ (eqb i slot || has chosen i)) → ((i : ℕ) → i < 64 → has left' i ≡ (not (eqb i slot) && has left i)) → (i j : ℕ) → i < 64 → j < 64 → has chosen' i ≡ true → has left' j ≡ true → IsBelow rates i j
+pub below_more :
+    (rates : List ℕ) (chosen left chosen' left' slot : ℕ) → ((i j : ℕ) → i < 64 → j < 64 → has chosen i ≡ true → has left j ≡ true → IsBelow rates i j)
+    → ((j : ℕ) → j < 64 → has left j ≡ true → (j ≡ slot) ⊎ IsBelow rates slot j) → ((i : ℕ) → i < 64 → has chosen' i ≡ (eqb i slot || has chosen i))
+    → ((i : ℕ) → i < 64 → has left' i ≡ (not (eqb i slot) && has left i)) → (i j : ℕ) → i < 64 → j < 64 → has chosen' i ≡ true → has left' j ≡ true
+    → IsBelow rates i j
 below_more rates chosen left chosen' left' slot below least with_it without_it i j iw jw is there =
     let parts = and_parts (not (eqb j slot)) (has left j) (sym (without_it j jw) ∙ there) in
     elim (or_cases (eqb i slot) (has chosen i) (sym (with_it i iw) ∙ is)) [
@@ -107,13 +128,17 @@ got_read [] k x got = cc
 got_read (y ∷ ys) zero x got = cc
 got_read (y ∷ ys) (suc k) x got = got_read ys k x got
 
-pub picks_step : (f : ℕ → ℕ → ℕ) (chosen chosen' rest next left left' place slot count taken whole : ℕ) → taken < count → 0 < size left → place ≡ rest % size left → next ≡ rest / size left → slice_get (slots left) place ≡ Some slot → chosen' ≡ f chosen slot → slots left' ≡ remove (slots left) place → fold f chosen (take (count - taken) (picks rest (slots left))) ≡ whole → fold f chosen' (take (count - (taken + 1)) (picks next (slots left'))) ≡ whole
+pub picks_step :
+    (f : ℕ → ℕ → ℕ) (chosen chosen' rest next left left' place slot count taken whole : ℕ) → taken < count → 0 < size left → place ≡ rest % size left
+    → next ≡ rest / size left → slice_get (slots left) place ≡ Some slot → chosen' ≡ f chosen slot → slots left' ≡ remove (slots left) place
+    → fold f chosen (take (count - taken) (picks rest (slots left))) ≡ whole → fold f chosen' (take (count - (taken + 1)) (picks next (slots left'))) ≡ whole
 picks_step f chosen chosen' rest next left left' place slot count taken whole early some place_is next_is got chosen_is left_is before =
     let one_more : count - taken ≡ suc (count - (taken + 1)) = omega arith in
     let more = pick_more f chosen rest (count - (taken + 1)) (slots left) some in
     let read = got_read (slots left) place slot got in
     ap (λ l. fold f chosen' (take (count - (taken + 1)) (picks next l))) (left_is ∙ ap (λ k. remove (slots left) k) place_is)
-    ∙ ap₂ (λ a w. fold f a (take (count - (taken + 1)) (picks w (remove (slots left) (rest % length (slots left)))))) (chosen_is ∙ ap (f chosen) (read ∙ ap (λ k. get_or (slots left) k 0) place_is)) next_is
+    ∙ ap₂ (λ a w. fold f a (take (count - (taken + 1)) (picks w (remove (slots left) (rest % length (slots left))))))
+    (chosen_is ∙ ap (f chosen) (read ∙ ap (λ k. get_or (slots left) k 0) place_is)) next_is
     ∙ sym more ∙ ap (λ k. fold f chosen (take k (picks rest (slots left)))) (sym one_more) ∙ before
 
 pub is_part : (whole chosen left slot : ℕ) → Split whole chosen left → slot < 64 → has chosen slot ≡ true → has whole slot ≡ true

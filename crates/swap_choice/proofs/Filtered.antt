@@ -15,7 +15,9 @@ pub record Passes (p : ℕ → Bool) (a d s : ℕ) : Type 0 where
   pub high : s < a + d
   pub test : p s ≡ true
 
-passes_head : (p : ℕ → Bool) (a d k s : ℕ) (rest : List ℕ) (b : Bool) → p a ≡ b → slice_get (cond b (a ∷ rest) rest) k ≡ Some s → ((j : ℕ) → slice_get rest j ≡ Some s → Passes p (a + 1) d s) → Passes p a (suc d) s
+passes_head :
+    (p : ℕ → Bool) (a d k s : ℕ) (rest : List ℕ) (b : Bool) → p a ≡ b → slice_get (cond b (a ∷ rest) rest) k ≡ Some s
+    → ((j : ℕ) → slice_get rest j ≡ Some s → Passes p (a + 1) d s) → Passes p a (suc d) s
 passes_head p a d zero s rest true is got later =
     let same : a ≡ s = cc in
     record { low = omega arith; high = omega arith; test = ap p (sym same) ∙ is }
@@ -34,7 +36,9 @@ passes p a zero k s got = absurd (none_some got)
 passes p a (suc d) k s got =
     passes_head p a d k s (filter p (range_with_len (a + 1) d)) (p a) refl got (λ j. passes p (a + 1) d j s)
 
-first_head : (p : ℕ → Bool) (a s j : ℕ) (rest : List ℕ) (b : Bool) → p a ≡ b → slice_get (cond b (a ∷ rest) rest) 0 ≡ Some s → a ≤ j → p j ≡ true → (slice_get rest 0 ≡ Some s → a + 1 ≤ j → s ≤ j) → s ≤ j
+first_head :
+    (p : ℕ → Bool) (a s j : ℕ) (rest : List ℕ) (b : Bool) → p a ≡ b → slice_get (cond b (a ∷ rest) rest) 0 ≡ Some s → a ≤ j → p j ≡ true
+    → (slice_get rest 0 ≡ Some s → a + 1 ≤ j → s ≤ j) → s ≤ j
 first_head p a s j rest true is got low pass later =
     let same : a ≡ s = cc in
     omega arith
@@ -53,7 +57,14 @@ first_least p a (suc d) s j got low high pass =
 kept : (p q : ℕ → Bool) (s i : ℕ) → (i ≡ s → ⊥) → q i ≡ (not (eqb i s) && p i) → q i ≡ p i
 kept p q s i other is = is ∙ ap (λ b. not b && p i) (ne_eqb i s other)
 
-remove_head : (p q : ℕ → Bool) (a d k s : ℕ) (b : Bool) → p a ≡ b → slice_get (cond b (a ∷ filter p (range_with_len (a + 1) d)) (filter p (range_with_len (a + 1) d))) k ≡ Some s → ((i : ℕ) → a ≤ i → i < a + suc d → q i ≡ (not (eqb i s) && p i)) → ((j : ℕ) → slice_get (filter p (range_with_len (a + 1) d)) j ≡ Some s → filter q (range_with_len (a + 1) d) ≡ remove (filter p (range_with_len (a + 1) d)) j) → cond (q a) (a ∷ filter q (range_with_len (a + 1) d)) (filter q (range_with_len (a + 1) d)) ≡ remove (cond b (a ∷ filter p (range_with_len (a + 1) d)) (filter p (range_with_len (a + 1) d))) k
+remove_head :
+    (p q : ℕ → Bool) (a d k s : ℕ) (b : Bool) → p a ≡ b
+    → slice_get (cond b (a ∷ filter p (range_with_len (a + 1) d)) (filter p (range_with_len (a + 1) d))) k ≡ Some s
+    → ((i : ℕ) → a ≤ i → i < a + suc d → q i ≡ (not (eqb i s) && p i))
+    → ((j : ℕ) → slice_get (filter p (range_with_len (a + 1) d)) j ≡ Some s
+    → filter q (range_with_len (a + 1) d) ≡ remove (filter p (range_with_len (a + 1) d)) j)
+    → cond (q a) (a ∷ filter q (range_with_len (a + 1) d)) (filter q (range_with_len (a + 1) d))
+    ≡ remove (cond b (a ∷ filter p (range_with_len (a + 1) d)) (filter p (range_with_len (a + 1) d))) k
 remove_head p q a d zero s true is got without later =
     let same : a ≡ s = cc in
     let out : q a ≡ false = without a (omega arith) (omega arith) ∙ ap (λ b. not b && p a) (eq-eqb a s same) in
@@ -68,7 +79,9 @@ remove_head p q a d k s false is got without later =
     ap (λ b. cond b (a ∷ filter q (range_with_len (a + 1) d)) (filter q (range_with_len (a + 1) d))) out ∙ later k got
 
 -- to take one out of the test takes it out of the list
-pub filter-remove : (p q : ℕ → Bool) (a d k s : ℕ) → slice_get (filter p (range_with_len a d)) k ≡ Some s → ((i : ℕ) → a ≤ i → i < a + d → q i ≡ (not (eqb i s) && p i)) → filter q (range_with_len a d) ≡ remove (filter p (range_with_len a d)) k
+pub filter-remove :
+    (p q : ℕ → Bool) (a d k s : ℕ) → slice_get (filter p (range_with_len a d)) k ≡ Some s → ((i : ℕ) → a ≤ i → i < a + d → q i ≡ (not (eqb i s) && p i))
+    → filter q (range_with_len a d) ≡ remove (filter p (range_with_len a d)) k
 filter-remove p q a zero k s got without = absurd (none_some got)
 filter-remove p q a (suc d) k s got without =
     remove_head p q a d k s (p a) refl got without (λ j more. filter-remove p q (a + 1) d j s more (λ i low high. without i (omega arith) (omega arith)))
@@ -79,7 +92,11 @@ length_pair false false a xs ys same len = len
 length_pair true false a xs ys same len = cc
 length_pair false true a xs ys same len = cc
 
-length_head : (p q : ℕ → Bool) (a d s : ℕ) (b : Bool) → b ≡ eqb a s → p s ≡ true → s < a + suc d → ((i : ℕ) → a ≤ i → i < a + suc d → q i ≡ (not (eqb i s) && p i)) → (a + 1 ≤ s → length (filter q (range_with_len (a + 1) d)) + 1 ≡ length (filter p (range_with_len (a + 1) d))) → a ≤ s → length (cond (q a) (a ∷ filter q (range_with_len (a + 1) d)) (filter q (range_with_len (a + 1) d))) + 1 ≡ length (cond (p a) (a ∷ filter p (range_with_len (a + 1) d)) (filter p (range_with_len (a + 1) d)))
+length_head :
+    (p q : ℕ → Bool) (a d s : ℕ) (b : Bool) → b ≡ eqb a s → p s ≡ true → s < a + suc d → ((i : ℕ) → a ≤ i → i < a + suc d → q i ≡ (not (eqb i s) && p i))
+    → (a + 1 ≤ s → length (filter q (range_with_len (a + 1) d)) + 1 ≡ length (filter p (range_with_len (a + 1) d))) → a ≤ s
+    → length (cond (q a) (a ∷ filter q (range_with_len (a + 1) d)) (filter q (range_with_len (a + 1) d))) + 1
+    ≡ length (cond (p a) (a ∷ filter p (range_with_len (a + 1) d)) (filter p (range_with_len (a + 1) d)))
 length_head p q a d s true is pass high without later low =
     let same : a ≡ s = eqb-true a s (sym is) in
     let out : q a ≡ false = without a (omega arith) (omega arith) ∙ ap (λ b. not b && p a) (eq-eqb a s same) in
@@ -94,7 +111,10 @@ length_head p q a d s false is pass high without later low =
     length_pair (q a) (p a) a (filter q (range_with_len (a + 1) d)) (filter p (range_with_len (a + 1) d)) stays (later (omega arith))
 
 -- and makes it one shorter
-pub length-less : (p q : ℕ → Bool) (a d s : ℕ) → a ≤ s → s < a + d → p s ≡ true → ((i : ℕ) → a ≤ i → i < a + d → q i ≡ (not (eqb i s) && p i)) → length (filter q (range_with_len a d)) + 1 ≡ length (filter p (range_with_len a d))
+pub length-less :
+    (p q : ℕ → Bool) (a d s : ℕ) → a ≤ s → s < a + d → p s ≡ true → ((i : ℕ) → a ≤ i → i < a + d → q i ≡ (not (eqb i s) && p i))
+    → length (filter q (range_with_len a d)) + 1 ≡ length (filter p (range_with_len a d))
 length-less p q a zero s low high pass without = absurd (omega arith)
 length-less p q a (suc d) s low high pass without =
-    length_head p q a d s (eqb a s) refl pass high without (λ above. length-less p q (a + 1) d s above (omega arith) pass (λ i below up. without i (omega arith) (omega arith))) low
+    length_head p q a d s (eqb a s) refl pass high without
+    (λ above. length-less p q (a + 1) d s above (omega arith) pass (λ i below up. without i (omega arith) (omega arith))) low

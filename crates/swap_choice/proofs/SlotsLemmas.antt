@@ -16,14 +16,18 @@ has-beyond set slot small beyond = ap (λ b. eqb b 1) (bit_at_above set 64 slot 
 pub has-with : (set slot i : ℕ) → slot < 64 → has (bit_or set (1 * 2 ^ slot % 2 ^ 64)) i ≡ (eqb i slot || has set i)
 has-with set slot i within =
     elim (cases_eq i slot) [
-      | inl same ↦ ap (λ k. has (bit_or set (1 * 2 ^ slot % 2 ^ 64)) k) same ∙ ap (λ b. eqb b 1) (bit_at_set_same w64 set slot within) ∙ ap (λ b. b || has set i) (sym (eq-eqb i slot same))
+      | inl same ↦
+          ap (λ k. has (bit_or set (1 * 2 ^ slot % 2 ^ 64)) k) same ∙ ap (λ b. eqb b 1) (bit_at_set_same w64 set slot within)
+          ∙ ap (λ b. b || has set i) (sym (eq-eqb i slot same))
       | inr other ↦ ap (λ b. eqb b 1) (bit_at_set_other w64 set slot within i other) ∙ ap (λ b. b || has set i) (sym (ne_eqb i slot other))
     ]
 
 pub has-without : (set slot i : ℕ) → slot < 64 → i < 64 → has (bit_and set (bit_not w64 (1 * 2 ^ slot % 2 ^ 64))) i ≡ (not (eqb i slot) && has set i)
 has-without set slot i within inside =
     elim (cases_eq i slot) [
-      | inl same ↦ ap (λ k. has (bit_and set (bit_not w64 (1 * 2 ^ slot % 2 ^ 64))) k) same ∙ ap (λ b. eqb b 1) (bit_at_clear_same w64 set slot within) ∙ ap (λ b. not b && has set i) (sym (eq-eqb i slot same))
+      | inl same ↦
+          ap (λ k. has (bit_and set (bit_not w64 (1 * 2 ^ slot % 2 ^ 64))) k) same ∙ ap (λ b. eqb b 1) (bit_at_clear_same w64 set slot within)
+          ∙ ap (λ b. not b && has set i) (sym (eq-eqb i slot same))
       | inr other ↦ ap (λ b. eqb b 1) (bit_at_clear_other w64 set slot within i inside other) ∙ ap (λ b. not b && has set i) (sym (ne_eqb i slot other))
     ]
 
@@ -51,14 +55,16 @@ pub ones-length : (d n : ℕ) → n < 2 ^ d → ones n ≡ length (filter (has n
 ones-length zero n small = omega (arith, ones-le 0 n small)
 ones-length (suc d) n small =
     ones_step n
-    ∙ ap₂ (λ b k. b + k) (sym (bit_at_lowest n) ∙ low_bit (bit_at n 0) (bit_at-lt n 0)) (ones-length d (n / 2) (omega (arith, pow-succ' 2 d)) ∙ sym (halved n 0 d))
+    ∙ ap₂ (λ b k. b + k) (sym (bit_at_lowest n) ∙ low_bit (bit_at n 0) (bit_at-lt n 0))
+    (ones-length d (n / 2) (omega (arith, pow-succ' 2 d)) ∙ sym (halved n 0 d))
     ∙ sym (length-cond (has n 0) 0 (filter (has n) (range_with_len 1 d)))
 
 pub ones-size : (set : ℕ) → set < 2 ^ 64 → ones set ≡ size set
 unfolding slots
 ones-size set small = ones-length 64 set small
 
-pub slot_at_is : (set place : ℕ) (r : Option ℕ) → option_map (λ x. x) r ≡ slice_get (filter (has set) (range_with_len 0 64)) place → r ≡ slice_get (slots set) place
+pub slot_at_is :
+    (set place : ℕ) (r : Option ℕ) → option_map (λ x. x) r ≡ slice_get (filter (has set) (range_with_len 0 64)) place → r ≡ slice_get (slots set) place
 unfolding slots
 slot_at_is set place None h = h
 slot_at_is set place (Some x) h = h

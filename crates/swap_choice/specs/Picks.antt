@@ -6,7 +6,8 @@ abbrev pub first_picks : ℕ → ℕ → List ℕ → List ℕ
 first_picks zero word list = []
 first_picks (suc n) word [] = []
 first_picks (suc n) word (x ∷ xs) =
-    slice_index (x ∷ xs) (word % length (x ∷ xs)) ∷ first_picks n (word / length (x ∷ xs)) (remove (x ∷ xs) (word % length (x ∷ xs)))
+    slice_index (x ∷ xs) (word % length (x ∷ xs))
+    ∷ first_picks n (word / length (x ∷ xs)) (remove (x ∷ xs) (word % length (x ∷ xs)))
 
 -- the whole list, in the order in which the word picks it
 abbrev pub picks : ℕ → List ℕ → List ℕ

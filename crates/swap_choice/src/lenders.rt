@@ -32,8 +32,10 @@ pub fn first_pick(word: u64, n: usize) -> (usize, u64)
 /// The first two of the word's picks from the fresh lenders and then from the others.
 pub fn two_lenders(word: u64, fresh: &[u32], other: &[u32]) -> Asked
     ensures asked { result ≡ asked word fresh.now other.now }
-    ensures members { (lender : ℕ) → Contains (named result) lender → Contains (fresh.now ++ other.now) lender }
-    ensures different { IsDistinct nat_eq (fresh.now ++ other.now) → IsDistinct nat_eq (named result) }
+    ensures members { (lender : ℕ) → Contains (named result) lender
+        → Contains (fresh.now ++ other.now) lender }
+    ensures different { IsDistinct nat_eq (fresh.now ++ other.now)
+        → IsDistinct nat_eq (named result) }
 {
     joined(two_of(word, fresh), two_of(word, other))
 }

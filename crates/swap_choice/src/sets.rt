@@ -46,7 +46,8 @@ fn least_slot(rates: &[u64; 64], set: u64) -> u32
     requires { 0 < size set }
     ensures range { result < 64 }
     ensures member { IsTrue (has set result) }
-    ensures least { (slot : ℕ) → slot < 64 → IsTrue (has set slot) → (slot ≡ result) ⊎ IsBelow rates.now result slot }
+    ensures least { (slot : ℕ) → slot < 64 → IsTrue (has set slot)
+        → (slot ≡ result) ⊎ IsBelow rates.now result slot }
 {
     let mut best = slot_at(set, 0).unwrap();
     for slot in 0..SLOTS {

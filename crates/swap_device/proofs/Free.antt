@@ -22,13 +22,20 @@ find_none p [] all = refl
 find_none p (x ∷ xs) all = ap (λ b. cond b (Some x) (find p xs)) all.0 ∙ find_none p xs all.1
 
 -- no read of a caller that may read, and no write of a page of which no copy flies
-pub read_free : (T : Bool) (A : List ℕ → List ℕ → Type 0) (d : Device) (p : Port) (c : Caller) → FitsDisk T A d p → may_read (state_of d.calls c) ≡ true → find (is_flight_of (which.Read c)) p.flights ≡ None
+pub read_free :
+    (T : Bool) (A : List ℕ → List ℕ → Type 0) (d : Device) (p : Port) (c : Caller) → FitsDisk T A d p → may_read (state_of d.calls c) ≡ true
+    → find (is_flight_of (which.Read c)) p.flights ≡ None
 read_free T A d p c k may =
-    find_none (is_flight_of (which.Read c)) p.flights (All-implies (IsExpected T _ _ d.queue d.calls) _ p.flights (λ f x. other_read T _ _ d.queue d.calls c f (may_read_waits (state_of d.calls c) may).0 x) k.agrees.expected)
+    find_none (is_flight_of (which.Read c)) p.flights
+    (All-implies (IsExpected T _ _ d.queue d.calls) _ p.flights
+    (λ f x. other_read T _ _ d.queue d.calls c f (may_read_waits (state_of d.calls c) may).0 x) k.agrees.expected)
 
-pub write_free : (T : Bool) (A : List ℕ → List ℕ → Type 0) (d : Device) (p : Port) (pg : Page) → FitsDisk T A d p → flying d.queue pg ≡ None → find (is_flight_of (which.Write pg)) p.flights ≡ None
+pub write_free :
+    (T : Bool) (A : List ℕ → List ℕ → Type 0) (d : Device) (p : Port) (pg : Page) → FitsDisk T A d p → flying d.queue pg ≡ None
+    → find (is_flight_of (which.Write pg)) p.flights ≡ None
 write_free T A d p pg k none =
-    find_none (is_flight_of (which.Write pg)) p.flights (All-implies (IsExpected T _ _ d.queue d.calls) _ p.flights (λ f x. other_write T _ _ d.queue d.calls pg f none x) k.agrees.expected)
+    find_none (is_flight_of (which.Write pg)) p.flights
+    (All-implies (IsExpected T _ _ d.queue d.calls) _ p.flights (λ f x. other_write T _ _ d.queue d.calls pg f none x) k.agrees.expected)
 
 -- a page that can be read from its lender can be asked for there
 pub source_target : (d : Device) (p : Page) (a : Lender × Lease) → source d p ≡ Some a → target d.sizes d.remote p ≡ Some a

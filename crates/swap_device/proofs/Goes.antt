@@ -18,11 +18,15 @@ use Rattle.swap_table.proofs.Sends.{slab_within}
 use Rattle.swap_table.proofs.Waits.{Target, target_is}
 use Rattle.swap_device.specs.State.{MayGo, MayGoTo}
 
-target_goes : (keeps : Keeping) (owes : Owing) (s : Sizes) (n : ℕ) (H : History) (cs : Calls) (r : Remote) (p : Page) (at : Lender × Lease) → Serves keeps owes s n H cs r → IsWithin s → p.0 < pages_of s → Target s r p at → MayGo s r p at.0 × (at.0.0 < n)
+target_goes :
+    (keeps : Keeping) (owes : Owing) (s : Sizes) (n : ℕ) (H : History) (cs : Calls) (r : Remote) (p : Page) (at : Lender × Lease) → Serves keeps owes s n H cs r
+    → IsWithin s → p.0 < pages_of s → Target s r p at → MayGo s r p at.0 × (at.0.0 < n)
 target_goes keeps owes s n H cs r p at k within page t =
     let lender : at.0.0 < n = (k.link at.0).lender t.up in
-    let fits : SlabFits s r.links (slab_for s p) (Mapped at.0 at.1 t.flying) = let P : SlabState → Type 0 = λ y. SlabFits s r.links (slab_for s p) y in subst P t.mapped (k.slab (slab_for s p) (slab_within s p.0 page)) in
-    let fewer : flying_for s (slab_for s p) (ring_of r.links at.0) ≤ length (ring_of r.links at.0) = count_by-le-length (is_for_slab s (slab_for s p)) (ring_of r.links at.0) in
+    let fits : SlabFits s r.links (slab_for s p) (Mapped at.0 at.1 t.flying) = let P : SlabState → Type 0 = λ y. SlabFits s r.links (slab_for s p) y in
+    subst P t.mapped (k.slab (slab_for s p) (slab_within s p.0 page)) in
+    let fewer : flying_for s (slab_for s p) (ring_of r.links at.0) ≤ length (ring_of r.links at.0) =
+    count_by-le-length (is_for_slab s (slab_for s p)) (ring_of r.links at.0) in
     let window : s.window ≤ 64 = within.window.1 in
     let flying : t.flying < MOST_FLYING = omega (arith, fits.1, fewer, t.room, window) in (
       record {
@@ -34,7 +38,9 @@ target_goes keeps owes s n H cs r p at k within page t =
       lender,
     )
 
-pub may_go : (keeps : Keeping) (owes : Owing) (s : Sizes) (n : ℕ) (H : History) (cs : Calls) (r : Remote) (p : Page) (at : Option (Lender × Lease)) → Serves keeps owes s n H cs r → IsWithin s → p.0 < pages_of s → ((a : Lender × Lease) → at ≡ Some a → target s r p ≡ Some a) → MayGoTo s r n p at
+pub may_go :
+    (keeps : Keeping) (owes : Owing) (s : Sizes) (n : ℕ) (H : History) (cs : Calls) (r : Remote) (p : Page) (at : Option (Lender × Lease))
+    → Serves keeps owes s n H cs r → IsWithin s → p.0 < pages_of s → ((a : Lender × Lease) → at ≡ Some a → target s r p ≡ Some a) → MayGoTo s r n p at
 may_go keeps owes s n H cs r p None k within page is = tt
 may_go keeps owes s n H cs r p (Some at) k within page is = target_goes keeps owes s n H cs r p at k within page (target_is s r p at (is at refl))
 

@@ -54,7 +54,9 @@ answered_none d l m bytes (Some (request.Write p e)) = go (write_reply m)
   where
     go : (o : Option (Lease × ℕ)) → RaisesNone d (write_answered d l p e o)
     go None = tt
-    go (Some at) = none_if d (names_page d.sizes d.remote l p at.0 at.1) _ (refl, λ n up. answered_up d.remote.links l n (subst (λ (ls : List LinkState). is_up ls n ≡ true) (paged _ (settled_for d.sizes d.remote l p)) up))
+    go (Some at) =
+        none_if d (names_page d.sizes d.remote l p at.0 at.1) _
+        (refl, λ n up. answered_up d.remote.links l n (subst (λ (ls : List LinkState). is_up ls n ≡ true) (paged _ (settled_for d.sizes d.remote l p)) up))
       where
         paged : (b : Bool) (r : Remote) → (with_page_if b r p).links ≡ r.links
         paged true r = refl
@@ -82,17 +84,24 @@ heard_none d l m bytes o = go (rate_asked m) (taken_back m)
     go None None = answered_none d l m bytes o
 
 -- so what is heard leaves the device of what it was
-heard_raises : (d now : Device) (l : Lender) (m : Msg) (bytes : List ℕ) (o : Option Request) (a : Answer) → heard_of d l m bytes o ≡ Some (heard_with now a) → RaisesNone d (Some (heard_with now a))
+heard_raises :
+    (d now : Device) (l : Lender) (m : Msg) (bytes : List ℕ) (o : Option Request) (a : Answer) → heard_of d l m bytes o ≡ Some (heard_with now a)
+    → RaisesNone d (Some (heard_with now a))
 heard_raises d now l m bytes o a is = subst (λ (x : Option Heard). RaisesNone d x) is (heard_none d l m bytes o)
 
-pub heard_of_was : (d now : Device) (l : Lender) (m : Msg) (bytes : List ℕ) (o : Option Request) (a : Answer) → heard_of d l m bytes o ≡ Some (heard_with now a) → of_device now ≡ of_device d
+pub heard_of_was :
+    (d now : Device) (l : Lender) (m : Msg) (bytes : List ℕ) (o : Option Request) (a : Answer) → heard_of d l m bytes o ≡ Some (heard_with now a)
+    → of_device now ≡ of_device d
 heard_of_was d now l m bytes o a is = (heard_raises d now l m bytes o a is).0
 
 pub lender_heard : (d now : Device) (l : Lender) → of_device now ≡ of_device d → l.0 < d.lenders → l.0 < now.lenders
 lender_heard d now l same within = subst (λ (o : FabricOf). l.0 < o.lenders) (sym same) within
 
 module _ {D F : Type 0} where
-  pub ready_heard : (fabric : FabricMeaning F) (core : Core D F) (now : Device) (l : Lender) (m : Msg) (bytes : List ℕ) (o : Option Request) (a : Answer) (spare : ℕ) → heard_of core.device l m bytes o ≡ Some (heard_with now a) → IsReady fabric core → IsReady fabric (record { device = now; disk = core.disk; fabric = core.fabric; spare = spare })
+  pub ready_heard :
+      (fabric : FabricMeaning F) (core : Core D F) (now : Device) (l : Lender) (m : Msg) (bytes : List ℕ) (o : Option Request) (a : Answer) (spare : ℕ)
+      → heard_of core.device l m bytes o ≡ Some (heard_with now a) → IsReady fabric core
+      → IsReady fabric (record { device = now; disk = core.disk; fabric = core.fabric; spare = spare })
   ready_heard fabric core now l m bytes o a spare is h =
       let raises = heard_raises core.device now l m bytes o a is in
       let same : of_device now ≡ of_device core.device = raises.0 in
@@ -104,16 +113,24 @@ module _ {D F : Type 0} where
 
 module _ {D F : Type 0} (disk_moves : D → (c : DiskCall) → DiskAnswer c → D → Type 0) (moves : F → (c : FabricCall) → FabricAnswer c → F → Type 0) where
   -- a message that isn't heard ends its link
-  pub unheard : (k k' : D) (f f1 f' : F) (d e : Device) (l : Lender) (m : Msg) (o : Option Heard) → o ≡ None → moves f (End l) tt f1 → Along disk_moves moves (lose d l) k f1 k' f' e → Along disk_moves moves (understood d l m o) k f k' f' (e, LinkStep.Lied)
+  pub unheard :
+      (k k' : D) (f f1 f' : F) (d e : Device) (l : Lender) (m : Msg) (o : Option Heard) → o ≡ None → moves f (End l) tt f1
+      → Along disk_moves moves (lose d l) k f1 k' f' e → Along disk_moves moves (understood d l m o) k f k' f' (e, LinkStep.Lied)
   unheard k k' f f1 f' d e l m o is ended along =
-      subst (λ x. Along disk_moves moves (understood d l m x) k f k' f' (e, LinkStep.Lied)) (sym is) (tt, f1, ended, Along-answering disk_moves moves (with_step link.Lied) (lose d l) k f1 k' f' e along)
+      subst (λ x. Along disk_moves moves (understood d l m x) k f k' f' (e, LinkStep.Lied)) (sym is)
+      (tt, f1, ended, Along-answering disk_moves moves (with_step link.Lied) (lose d l) k f1 k' f' e along)
 
-  pub heard_along : (k k' : D) (f f' : F) (d e : Device) (l : Lender) (m : Msg) (o : Option Heard) (h : Heard) → o ≡ Some h → Along disk_moves moves (follow h l) k f k' f' e → Along disk_moves moves (understood d l m o) k f k' f' (e, LinkStep.Got m)
+  pub heard_along :
+      (k k' : D) (f f' : F) (d e : Device) (l : Lender) (m : Msg) (o : Option Heard) (h : Heard) → o ≡ Some h → Along disk_moves moves (follow h l) k f k' f' e
+      → Along disk_moves moves (understood d l m o) k f k' f' (e, LinkStep.Got m)
   heard_along k k' f f' d e l m o h is along =
-      subst (λ x. Along disk_moves moves (understood d l m x) k f k' f' (e, LinkStep.Got m)) (sym is) (Along-answering disk_moves moves (with_step (link.Got m)) (follow h l) k f k' f' e along)
+      subst (λ x. Along disk_moves moves (understood d l m x) k f k' f' (e, LinkStep.Got m)) (sym is)
+      (Along-answering disk_moves moves (with_step (link.Got m)) (follow h l) k f k' f' e along)
 
 -- a message is heard as it is with its page in a buffer
-read_is : (d : Device) (l : Lender) (c : Caller) (p : Page) (bytes : List ℕ) (m : Msg) → read_answered d l c p (parcel_of m bytes).page (read_reply m) ≡ read_answered d l c p bytes (read_reply m)
+read_is :
+    (d : Device) (l : Lender) (c : Caller) (p : Page) (bytes : List ℕ) (m : Msg)
+    → read_answered d l c p (parcel_of m bytes).page (read_reply m) ≡ read_answered d l c p bytes (read_reply m)
 read_is d l c p bytes (msg.Hello version page_bytes pages_per_slab) = refl
 read_is d l c p bytes (msg.Query slab) = refl
 read_is d l c p bytes (msg.Borrow slab) = refl

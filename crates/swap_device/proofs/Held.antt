@@ -17,16 +17,25 @@ length-lent n b xs eb ex = simp (length-take, length-append, length-drop) (omega
 
 module _ {D F : Type 0} (disk : DiskMeaning D) (fabric : FabricMeaning F) where
   -- they agree, and so the type's invariant holds
-  pub held_from : (told : Bool) (core now : Core D F) (page page' : List ℕ) → IsDevice disk fabric core page → AgreeWith disk fabric told now.device now.disk now.fabric × (of_device now.device ≡ of_device core.device) → length page' ≡ length page → IsDevice disk fabric now page'
+  pub held_from :
+      (told : Bool) (core now : Core D F) (page page' : List ℕ) → IsDevice disk fabric core page
+      → AgreeWith disk fabric told now.device now.disk now.fabric × (of_device now.device ≡ of_device core.device) → length page' ≡ length page
+      → IsDevice disk fabric now page'
   held_from told core now page page' h after len = record {
     agree = subst (λ b. AgreeWith disk fabric b now.device now.disk now.fabric) (sym after.0.0.disk.agrees.tells) after.0;
     page_len = len ∙ h.page_len ∙ ap (λ (o : FabricOf). o.sizes.page_bytes) (sym after.1);
   }
 
-  pub held_along : {R : Type 0} (told : Bool) (program : Device → Prog (Device × R)) (core now : Core D F) (answer : R) (page page' : List ℕ) → IsDevice disk fabric core page → AgreesAfter disk fabric told (program core.device) core.device core.disk core.fabric
+  pub held_along :
+      {R : Type 0} (told : Bool) (program : Device → Prog (Device × R)) (core now : Core D F) (answer : R) (page page' : List ℕ)
+      → IsDevice disk fabric core page
+      → AgreesAfter disk fabric told (program core.device) core.device core.disk core.fabric
       → Went disk.moves fabric.moves program core now answer → length page' ≡ length page → IsDevice disk fabric now page'
   held_along told program core now answer page page' h after went len =
-      held_from told core now page page' h (Leads-Along disk.moves fabric.moves (program core.device) core.disk core.fabric now.disk now.fabric (now.device, answer) _ after went) len
+      held_from told core now page page' h
+      (Leads-Along disk.moves fabric.moves (program core.device) core.disk core.fabric now.disk now.fabric (now.device, answer) _ after went) len
 
-  pub new_held : (s : Sizes) (n : ℕ) (k : D) (f : F) (spare : ℕ) (page : List ℕ) → AgreeWith disk fabric (is_some (disk.means k).blocks) (new s n) k f → length page ≡ s.page_bytes → IsDevice disk fabric (record { device = new s n; disk = k; fabric = f; spare = spare }) page
+  pub new_held :
+      (s : Sizes) (n : ℕ) (k : D) (f : F) (spare : ℕ) (page : List ℕ) → AgreeWith disk fabric (is_some (disk.means k).blocks) (new s n) k f
+      → length page ≡ s.page_bytes → IsDevice disk fabric (record { device = new s n; disk = k; fabric = f; spare = spare }) page
   new_held s n k f spare page agrees len = record { agree = agrees; page_len = len }

@@ -18,7 +18,9 @@ use Rattle.swap_table.proofs.Agree.{get_or-map_idle}
 use Rattle.swap_device.specs.State.{Agree, IsReady, LeavesRest}
 
 -- a link that has a new state is up only where it was, or where the new state is
-up_set : (links : List LinkState) (i j : ℕ) (x : LinkState) → (x.up ≡ true → (get_or links i down).up ≡ true) → (get_or (set links i x) j down).up ≡ true → (get_or links j down).up ≡ true
+up_set :
+    (links : List LinkState) (i j : ℕ) (x : LinkState) → (x.up ≡ true → (get_or links i down).up ≡ true) → (get_or (set links i x) j down).up ≡ true
+    → (get_or links j down).up ≡ true
 up_set [] i j x was up = up
 up_set (y ∷ links) zero zero x was up = was up
 up_set (y ∷ links) zero (suc j) x was up = up
@@ -71,9 +73,12 @@ module _ {D F : Type 0} where
   pub agree_ready : (disk : DiskMeaning D) (fabric : FabricMeaning F) (core : Core D F) → Agree disk fabric core → IsReady fabric core
   agree_ready disk fabric core h = record { of = h.1; few = h.0.serves.few; lead = λ l up. (h.0.serves.link l).lender up }
 
-  pub ready_lost : (fabric : FabricMeaning F) (core : Core D F) (l : Lender) → IsReady fabric core → IsReady fabric (record core { device = lost core.device l })
+  pub ready_lost :
+      (fabric : FabricMeaning F) (core : Core D F) (l : Lender) → IsReady fabric core → IsReady fabric (record core { device = lost core.device l })
   ready_lost fabric core l h = record { of = h.of; few = h.few; lead = λ m up. h.lead m (lost_up core.device.remote.links l m up) }
 
   -- a page-out that is accepted changes no link
-  pub entered_ready : (fabric : FabricMeaning F) (core : Core D F) (c : Caller) (p : Page) (bytes : List ℕ) (spare : ℕ) → IsReady fabric core → IsReady fabric (record core { device = enter core.device c p bytes; spare = spare })
+  pub entered_ready :
+      (fabric : FabricMeaning F) (core : Core D F) (c : Caller) (p : Page) (bytes : List ℕ) (spare : ℕ) → IsReady fabric core
+      → IsReady fabric (record core { device = enter core.device c p bytes; spare = spare })
   entered_ready fabric core c p bytes spare h = record { of = h.of; few = h.few; lead = h.lead }

@@ -36,13 +36,17 @@ waits_is l p (Reading q n (via.Lender m) arrived.Failed newer since) w = absurd 
 waits_is l p (Reading q n (via.Lender m) arrived.Lost newer since) w = absurd w
 
 -- at least the oldest request flies for its page's slab, which is at the lender
-flies : (s : Sizes) (links : List LinkState) (slab : Slab) (l : Lender) (x : Request) (rest : List Request) (state : SlabState) → SlabFits s links slab state → IsLeasedFrom l state → ring_of links l ≡ x ∷ rest → is_for_slab s slab x ≡ true → 0 < flying_of state
+flies :
+    (s : Sizes) (links : List LinkState) (slab : Slab) (l : Lender) (x : Request) (rest : List Request) (state : SlabState) → SlabFits s links slab state
+    → IsLeasedFrom l state → ring_of links l ≡ x ∷ rest → is_for_slab s slab x ≡ true → 0 < flying_of state
 flies s links slab l x rest state fits leased ring here = go state fits leased
   where
     some : (m : Lender) (flying : ℕ) → flying ≡ flying_for s slab (ring_of links m) → m.0 ≡ l.0 → 0 < flying
     some m flying is same =
         let at : ring_of links m ≡ x ∷ rest = ap (λ n. ring_of links (record { 0 = n })) same ∙ ring in
-        let all : flying ≡ one_if true + flying_for s slab rest = is ∙ ap (flying_for s slab) at ∙ flying-cons s slab x rest ∙ ap (λ b. one_if b + flying_for s slab rest) here in omega (arith, all)
+        let all : flying ≡ one_if true + flying_for s slab rest =
+        is ∙ ap (flying_for s slab) at ∙ flying-cons s slab x rest ∙ ap (λ b. one_if b + flying_for s slab rest) here in
+        omega (arith, all)
 
     go : (state : SlabState) → SlabFits s links slab state → IsLeasedFrom l state → 0 < flying_of state
     go Local fits leased = absurd leased
@@ -51,15 +55,25 @@ flies s links slab l x rest state fits leased ring here = go state fits leased
     go (Mapped m lease flying) fits leased = some m flying fits.1 leased
     go (Draining m lease flying) fits leased = some m flying fits.1 leased
 
-flies_one : (keeps : Keeping) (owes : Owing) (n : ℕ) (d : Device) (l : Lender) (p : Page) (x : Request) (rest : List Request) → Serves keeps owes d.sizes n d.history d.calls d.remote → p.0 < pages_of d.sizes → IsLeasedFrom l (state_for d.sizes d.remote.slabs p) → ring_of d.remote.links l ≡ x ∷ rest
+flies_one :
+    (keeps : Keeping) (owes : Owing) (n : ℕ) (d : Device) (l : Lender) (p : Page) (x : Request) (rest : List Request)
+    → Serves keeps owes d.sizes n d.history d.calls d.remote → p.0 < pages_of d.sizes → IsLeasedFrom l (state_for d.sizes d.remote.slabs p)
+    → ring_of d.remote.links l ≡ x ∷ rest
     → is_for_slab d.sizes (slab_for d.sizes p) x ≡ true → 0 < flying_of (state_for d.sizes d.remote.slabs p)
-flies_one keeps owes n d l p x rest k within leased ring here = flies d.sizes d.remote.links (slab_for d.sizes p) l x rest (state_for d.sizes d.remote.slabs p) (k.slab (slab_for d.sizes p) (slab_within d.sizes p.0 within)) leased ring here
+flies_one keeps owes n d l p x rest k within leased ring here =
+    flies d.sizes d.remote.links (slab_for d.sizes p) l x rest (state_for d.sizes d.remote.slabs p)
+    (k.slab (slab_for d.sizes p) (slab_within d.sizes p.0 within)) leased ring here
 
-pub served : (keeps : Keeping) (owes : Owing) (n : ℕ) (d : Device) (l : Lender) → Serves keeps owes d.sizes n d.history d.calls d.remote → IsServed d l (oldest (ring_of d.remote.links l))
+pub served :
+    (keeps : Keeping) (owes : Owing) (n : ℕ) (d : Device) (l : Lender) → Serves keeps owes d.sizes n d.history d.calls d.remote
+    → IsServed d l (oldest (ring_of d.remote.links l))
 served keeps owes n d l k = go (oldest (ring_of d.remote.links l)) refl
   where
     awaited : (x : Request) (f : Front (ring_of d.remote.links l) x) → IsAwaited d.sizes d.history d.calls d.remote.slabs l x
-    awaited x f = let all : AllByRecursion (IsAwaited d.sizes d.history d.calls d.remote.slabs l) (x ∷ f.rest) = subst (λ ys. AllByRecursion (IsAwaited d.sizes d.history d.calls d.remote.slabs l) ys) f.is (k.link l).awaited in all.0
+    awaited x f =
+        let all : AllByRecursion (IsAwaited d.sizes d.history d.calls d.remote.slabs l) (x ∷ f.rest) =
+        subst (λ ys. AllByRecursion (IsAwaited d.sizes d.history d.calls d.remote.slabs l) ys) f.is (k.link l).awaited in
+        all.0
 
     go : (o : Option Request) → oldest (ring_of d.remote.links l) ≡ o → IsServed d l o
     go None is = tt
@@ -71,5 +85,9 @@ served keeps owes n d l k = go (oldest (ring_of d.remote.links l)) refl
         (a.0, flies_one keeps owes n d l p (request.Write p e) f.rest k a.0 a.1 f.is (eq-eqb (slab_of d.sizes p.0) (slab_of d.sizes p.0) refl))
     go (Some (request.Read c p)) is =
         let f = front_of (ring_of d.remote.links l) (request.Read c p) is in
-        let a = awaited (request.Read c p) f in
-        (a.0, a.1, flies_one keeps owes n d l p (request.Read c p) f.rest k a.1 a.2 f.is (eq-eqb (slab_of d.sizes p.0) (slab_of d.sizes p.0) refl), waits_is l p (state_of d.calls c) a.3)
+        let a = awaited (request.Read c p) f in (
+          a.0,
+          a.1,
+          flies_one keeps owes n d l p (request.Read c p) f.rest k a.1 a.2 f.is (eq-eqb (slab_of d.sizes p.0) (slab_of d.sizes p.0) refl),
+          waits_is l p (state_of d.calls c) a.3,
+        )

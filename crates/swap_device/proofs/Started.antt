@@ -32,7 +32,8 @@ pub record IsFront (q : Queue) (pg : Page) (entry : EntryNo) : Type 0 where
   pub is_next : next q pg ≡ Some copy
   pub is_entry : copy.entry ≡ entry
 
-front_by : (q : Queue) (line : List Page) (pg : Page) (entry : EntryNo) → q.line ≡ line → Some (pg, entry) ≡ started_answer (front_of q line) → IsFront q pg entry
+front_by :
+    (q : Queue) (line : List Page) (pg : Page) (entry : EntryNo) → q.line ≡ line → Some (pg, entry) ≡ started_answer (front_of q line) → IsFront q pg entry
 front_by q [] pg entry el e = cc
 front_by q (r ∷ line) pg entry el e = go (next q r) refl e
   where
@@ -41,7 +42,13 @@ front_by q (r ∷ line) pg entry el e = go (next q r) refl e
     go (Some copy) en e =
         let same : (pg, entry) ≡ (r, copy.entry) = some_is e in
         let page : pg ≡ r = ap (λ x. x.0) same in
-        record { line = line; copy = copy; is_line = subst (λ x. q.line ≡ x ∷ line) (sym page) el; is_next = subst (λ x. next q x ≡ Some copy) (sym page) en; is_entry = sym (ap (λ x. x.1) same) }
+        record {
+          line = line;
+          copy = copy;
+          is_line = subst (λ x. q.line ≡ x ∷ line) (sym page) el;
+          is_next = subst (λ x. next q x ≡ Some copy) (sym page) en;
+          is_entry = sym (ap (λ x. x.1) same);
+        }
       where
         some_is : {X : Type 0} {x y : X} → Some x ≡ Some y → x ≡ y
         some_is e = cc
@@ -49,11 +56,17 @@ front_by q (r ∷ line) pg entry el e = go (next q r) refl e
 pub front_is : (q : Queue) (pg : Page) (entry : EntryNo) → Some (pg, entry) ≡ started_answer (front q) → IsFront q pg entry
 front_is q pg entry e = front_by q q.line pg entry refl e
 
-front_in_line : (T : Bool) (A : List ℕ → List ℕ → Type 0) (p : Port) (d : Device) (pg : Page) (entry : EntryNo) → FitsDisk T A d p → IsFront d.queue pg entry → IsInLine (pages_of d.sizes) d.queue pg
+front_in_line :
+    (T : Bool) (A : List ℕ → List ℕ → Type 0) (p : Port) (d : Device) (pg : Page) (entry : EntryNo) → FitsDisk T A d p → IsFront d.queue pg entry
+    → IsInLine (pages_of d.sizes) d.queue pg
 front_in_line T A p d pg entry h f =
-    let all : AllByRecursion (IsInLine (pages_of d.sizes) d.queue) (pg ∷ f.line) = subst (λ l. AllByRecursion (IsInLine (pages_of d.sizes) d.queue) l) f.is_line h.agrees.in_line in all.0
+    let all : AllByRecursion (IsInLine (pages_of d.sizes) d.queue) (pg ∷ f.line) =
+    subst (λ l. AllByRecursion (IsInLine (pages_of d.sizes) d.queue) l) f.is_line h.agrees.in_line in
+    all.0
 
-pub start_free : (T : Bool) (A : List ℕ → List ℕ → Type 0) (p : Port) (d : Device) (pg : Page) (entry : EntryNo) → FitsDisk T A d p → Some (pg, entry) ≡ started_answer (front d.queue) → find (is_flight_of (which.Write pg)) p.flights ≡ None
+pub start_free :
+    (T : Bool) (A : List ℕ → List ℕ → Type 0) (p : Port) (d : Device) (pg : Page) (entry : EntryNo) → FitsDisk T A d p
+    → Some (pg, entry) ≡ started_answer (front d.queue) → find (is_flight_of (which.Write pg)) p.flights ≡ None
 start_free T A p d pg entry h answer = write_free T A d p pg h (front_in_line T A p d pg entry h (front_is d.queue pg entry answer)).2
 
 -- no more copies fly than there are
@@ -70,14 +83,17 @@ few_fly (x ∷ ps) =
     few (Some y) n = omega arith
 
 -- there is room at the disk for a write of the copy at the front
-pub start_room : (T : Bool) (A : List ℕ → List ℕ → Type 0) (p : Port) (d : Device) (pg : Page) (entry : EntryNo) → FitsDisk T A d p → Some (pg, entry) ≡ started_answer (front d.queue) → IsQueue d.sizes (start d.queue) → writes_in p.flights < p.sizes.queue
+pub start_room :
+    (T : Bool) (A : List ℕ → List ℕ → Type 0) (p : Port) (d : Device) (pg : Page) (entry : EntryNo) → FitsDisk T A d p
+    → Some (pg, entry) ≡ started_answer (front d.queue) → IsQueue d.sizes (start d.queue) → writes_in p.flights < p.sizes.queue
 start_room T A p d pg entry h answer q =
     let f = front_is d.queue pg entry answer in
     let line = front_in_line T A p d pg entry h f in
     let x : Places = record { flying = next d.queue pg; next = None } in
     let places : (start d.queue).places ≡ set d.queue.places pg.0 x = ap (λ l. (start_of d.queue l).places) f.is_line in
     let fits : pg.0 < length d.queue.places = omega (arith, h.agrees.places_len, line.0) in
-    let more : count_by flies (set d.queue.places pg.0 x) ≡ count_by flies d.queue.places + 1 = count_by-set_more flies d.queue.places pg.0 x (record { flying = None; next = None }) fits (ap is_some f.is_next) (ap is_some line.2) in
+    let more : count_by flies (set d.queue.places pg.0 x) ≡ count_by flies d.queue.places + 1 =
+    count_by-set_more flies d.queue.places pg.0 x (record { flying = None; next = None }) fits (ap is_some f.is_next) (ap is_some line.2) in
     let few : count_by flies (start d.queue).places ≤ sum_by copies_at (start d.queue).places = few_fly (start d.queue).places in
     let same : count_by flies (start d.queue).places ≡ count_by flies d.queue.places + 1 = ap (λ ps. count_by flies ps) places ∙ more in
     let within : sum_by copies_at (start d.queue).places ≤ (start d.queue).capacity = q.within in
@@ -103,15 +119,20 @@ waited : (T : Bool) (N : ℕ) (d : Device) (f : Flight) → IsExpected T N d.siz
 waited T N d (Write pg bytes) w = tt
 waited T N d (Read c pg) w = (w.0, waited_state pg (state_of d.calls c) w.2)
 
-in_flight : (T : Bool) (A : List ℕ → List ℕ → Type 0) (p now : Port) (d : Device) (t : Taken) (h : FitsDisk T A d p) (takes : Takes p (Some t) now) → IsExpected T (pages_of d.sizes) d.sizes.callers d.queue d.calls takes.flight
+in_flight :
+    (T : Bool) (A : List ℕ → List ℕ → Type 0) (p now : Port) (d : Device) (t : Taken) (h : FitsDisk T A d p) (takes : Takes p (Some t) now)
+    → IsExpected T (pages_of d.sizes) d.sizes.callers d.queue d.calls takes.flight
 in_flight T A p now d t h takes = found (IsExpected _ _ _ d.queue d.calls) t.done.which p.flights takes.flight takes.was h.agrees.expected
 
-pub writes_back : (T : Bool) (A : List ℕ → List ℕ → Type 0) (p now : Port) (d : Device) (t : Taken) → FitsDisk T A d p → Takes p (Some t) now → WritesBack d.queue t.done.which t.done.page
+pub writes_back :
+    (T : Bool) (A : List ℕ → List ℕ → Type 0) (p now : Port) (d : Device) (t : Taken) → FitsDisk T A d p → Takes p (Some t) now
+    → WritesBack d.queue t.done.which t.done.page
 writes_back T A p now d t h takes =
     let P : DiskDone → Type 0 = λ x. WritesBack d.queue x.which x.page in
     subst P (sym takes.is) (flew _ _ _ d.queue d.calls takes.flight (in_flight T A p now d t h takes))
 
-pub reads_back : (T : Bool) (A : List ℕ → List ℕ → Type 0) (p now : Port) (d : Device) (t : Taken) → FitsDisk T A d p → Takes p (Some t) now → ReadsBack d t.done.which
+pub reads_back :
+    (T : Bool) (A : List ℕ → List ℕ → Type 0) (p now : Port) (d : Device) (t : Taken) → FitsDisk T A d p → Takes p (Some t) now → ReadsBack d t.done.which
 reads_back T A p now d t h takes =
     let P : DiskDone → Type 0 = λ x. ReadsBack d x.which in
     subst P (sym takes.is) (waited _ _ d takes.flight (in_flight T A p now d t h takes))

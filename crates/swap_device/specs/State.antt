@@ -54,7 +54,8 @@ pub record Standing : Type 0 where
 abbrev pub IsNewest : ℕ → List (Option EntryNo) → History → Type 0
 IsNewest pages newest H = (p : Page) → p.0 < pages → slice_index_or newest p.0 None ≡ last H p
 
-pub record AreTables (s : Sizes) (book : Book) (queue : Backlog) (calls : CallTable) (newest : List (Option EntryNo)) (remote : Table) (rates : List Activity) : Type 0 where
+pub record AreTables (s : Sizes) (book : Book) (queue : Backlog) (calls : CallTable) (newest : List (Option EntryNo))
+    (remote : Table) (rates : List Activity) : Type 0 where
   pub remote_sizes : remote.sizes ≡ s
   pub record_page : book.page_bytes ≡ s.page_bytes
   pub queue_sizes : queue.sizes ≡ s
@@ -69,17 +70,25 @@ abbrev pub Agree : {D F : Type 0} → DiskMeaning D → FabricMeaning F → Core
 Agree disk fabric core = AgreeWith disk fabric (is_some (disk.means core.disk).blocks) core.device core.disk core.fabric
 
 -- they agree, and there is room for a page on its way
-pub record IsDevice {D F : Type 0} (disk : DiskMeaning D) (fabric : FabricMeaning F) (core : Core D F) (page : List ℕ) : Type 0 where
+pub record IsDevice {D F : Type 0} (disk : DiskMeaning D) (fabric : FabricMeaning F) (core : Core D F)
+    (page : List ℕ) : Type 0 where
   pub agree : Agree disk fabric core
   pub page_len : length page ≡ core.device.sizes.page_bytes
 
 -- a call went along its program: disk and fabric did what it asked, and the device is what it gave, with its answer
-abbrev pub Went : {D F R : Type 0} → (D → (c : DiskCall) → DiskAnswer c → D → Type 0) → (F → (c : FabricCall) → FabricAnswer c → F → Type 0) → (Device → Prog (Device × R)) → Core D F → Core D F → R → Type 0
-Went disk_moves moves program before now answer = Along disk_moves moves (program before.device) before.disk before.fabric now.disk now.fabric (now.device, answer)
+abbrev pub Went :
+    {D F R : Type 0} → (D → (c : DiskCall) → DiskAnswer c → D → Type 0)
+    → (F → (c : FabricCall) → FabricAnswer c → F → Type 0) → (Device → Prog (Device × R)) → Core D F → Core D F → R
+    → Type 0
+Went disk_moves moves program before now answer =
+    Along disk_moves moves (program before.device) before.disk before.fabric now.disk now.fabric (now.device, answer)
 
 -- so one whose program gives the device alone
-abbrev pub Became : {D F : Type 0} → (D → (c : DiskCall) → DiskAnswer c → D → Type 0) → (F → (c : FabricCall) → FabricAnswer c → F → Type 0) → (Device → Prog Device) → Core D F → Core D F → Type 0
-Became disk_moves moves program before now = Along disk_moves moves (program before.device) before.disk before.fabric now.disk now.fabric now.device
+abbrev pub Became :
+    {D F : Type 0} → (D → (c : DiskCall) → DiskAnswer c → D → Type 0)
+    → (F → (c : FabricCall) → FabricAnswer c → F → Type 0) → (Device → Prog Device) → Core D F → Core D F → Type 0
+Became disk_moves moves program before now =
+    Along disk_moves moves (program before.device) before.disk before.fabric now.disk now.fabric now.device
 
 -- the fabric is of the device, and each link that is up leads to one of its lenders
 pub record IsReady {D F : Type 0} (fabric : FabricMeaning F) (core : Core D F) : Type 0 where
@@ -94,7 +103,8 @@ pub record LeavesRest {D F : Type 0} (before now : Core D F) : Type 0 where
   pub links_made : now.device.links_made ≡ before.device.links_made
   pub disk : now.disk ≡ before.disk
   pub spare : now.spare ≡ before.spare
-  pub reads : (c : Caller) → may_read (state_of before.device.calls c) ≡ true → may_read (state_of now.device.calls c) ≡ true
+  pub reads :
+      (c : Caller) → may_read (state_of before.device.calls c) ≡ true → may_read (state_of now.device.calls c) ≡ true
 
 -- a link is lost, of so many at most; after the last one no choice is looked at
 abbrev pub fallen : ℕ → Device → Lender → Prog Device
@@ -156,7 +166,8 @@ abbrev pub CameFor : Page → EntryNo → Via → CallState → Type 0
 CameFor page newest via state = (since : ℕ) × (state ≡ Reading page newest via arrived.Came false since)
 
 abbrev pub FailedFor : Page → ℕ → CallState → Type 0
-FailedFor page since state = (newest : EntryNo) × ((via : Via) × (state ≡ Reading page newest via arrived.Failed false since))
+FailedFor page since state =
+    (newest : EntryNo) × ((via : Via) × (state ≡ Reading page newest via arrived.Failed false since))
 
 -- a write that came back is of a copy that flies; a read that came back is waited for
 abbrev pub WritesBack : Queue → DiskWhich → Page → Type 0
@@ -208,11 +219,15 @@ Waits (ins.Wait via) = Unit {0}
 -- a request that is answered: a slab is borrowed from this lender, a write or a read is under way, and a caller waits
 abbrev pub IsServed : Device → Lender → Option Request → Type 0
 IsServed d lender None = Unit {0}
-IsServed d lender (Some (request.Query slab)) = (slab.0 < d.sizes.slabs) × (slabs.asks lender (slabs.state_of d.remote.slabs slab) ≡ true)
-IsServed d lender (Some (request.Borrow slab)) = (slab.0 < d.sizes.slabs) × (slabs.state_of d.remote.slabs slab ≡ Borrowing lender)
-IsServed d lender (Some (request.Write page entry)) = (page.0 < pages_of d.sizes) × (0 < flying_of (state_for d.sizes d.remote.slabs page))
+IsServed d lender (Some (request.Query slab)) =
+    (slab.0 < d.sizes.slabs) × (slabs.asks lender (slabs.state_of d.remote.slabs slab) ≡ true)
+IsServed d lender (Some (request.Borrow slab)) =
+    (slab.0 < d.sizes.slabs) × (slabs.state_of d.remote.slabs slab ≡ Borrowing lender)
+IsServed d lender (Some (request.Write page entry)) =
+    (page.0 < pages_of d.sizes) × (0 < flying_of (state_for d.sizes d.remote.slabs page))
 IsServed d lender (Some (request.Read caller page)) =
-    (caller.0 < d.sizes.callers) × (page.0 < pages_of d.sizes) × (0 < flying_of (state_for d.sizes d.remote.slabs page)) × (is_waiting (state_of d.calls caller) ≡ true)
+    (caller.0 < d.sizes.callers) × (page.0 < pages_of d.sizes) × (0 < flying_of (state_for d.sizes d.remote.slabs page))
+    × (is_waiting (state_of d.calls caller) ≡ true)
 
 -- what is heard of a message whose page stands in a buffer
 abbrev pub answered_of : Device → Lender → Msg → List ℕ → Option Request → Option Heard

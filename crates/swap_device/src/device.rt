@@ -44,15 +44,16 @@ impl<D: DiskPort, F: Fabric> Model for DeviceCore<D, F> {
 }
 
 impl<D: DiskPort, F: Fabric> DeviceCore<D, F> {
-    /// A page-out's first step; its slab is hit. It answers `Room` exactly where the queue has no room for the page. `Done` names the
-    /// lender that the page was sent to.
+    /// A page-out's first step; its slab is hit. It answers `Room` exactly where the queue has no
+    /// room for the page. `Done` names the lender that the page was sent to.
     pub fn out(&mut self, caller: Caller, page: Page, bytes: &[u8]) -> OutStep
         requires caller { caller.0 < self.old.device.sizes.callers }
         requires page { page.0 < pages_of self.old.device.sizes }
         requires bytes { length bytes.now ≡ self.old.device.sizes.page_bytes }
         requires idle { is_idle (state_of self.old.device.calls caller) ≡ true }
         requires spare { 0 < self.old.spare }
-        ensures moved { Went D.moves F.moves (λ d. out d caller page bytes.now) self.old self.new result }
+        ensures moved { Went D.moves F.moves
+            (λ d. out d caller page bytes.now) self.old self.new result }
         ensures room { KeepsRoom self.old self.new }
     {
         self.page_out(caller, page, bytes)
@@ -65,16 +66,18 @@ impl<D: DiskPort, F: Fabric> DeviceCore<D, F> {
         requires bytes { length bytes.now ≡ self.old.device.sizes.page_bytes }
         requires idle { is_idle (state_of self.old.device.calls caller) ≡ true }
         requires spare { 0 < self.old.spare }
-        ensures moved { Went D.moves F.moves (λ d. out d caller page bytes.now) self.old self.new result }
+        ensures moved { Went D.moves F.moves
+            (λ d. out d caller page bytes.now) self.old self.new result }
         ensures room { KeepsRoom self.old self.new }
     {
         calls_keep::<D, F>();
         self.machine.out(caller, page, bytes)
     }
 
-    /// A page-in's first step; its slab is hit. It answers `Wait` exactly where it started a read: where the page has a newest entry and
-    /// the queue has no copy of it. The read goes to the lender that has the page, where its link takes one more
-    /// request, and else to the disk. After `Done` the buffer holds the page.
+    /// A page-in's first step; its slab is hit. It answers `Wait` exactly where it started a read:
+    /// where the page has a newest entry and the queue has no copy of it. The read goes to the
+    /// lender that has the page, where its link takes one more request, and else to the disk. After
+    /// `Done` the buffer holds the page.
     pub fn read(&mut self, caller: Caller, page: Page, buf: &mut [u8]) -> InStep
         requires caller { caller.0 < self.old.device.sizes.callers }
         requires page { page.0 < pages_of self.old.device.sizes }
@@ -89,11 +92,12 @@ impl<D: DiskPort, F: Fabric> DeviceCore<D, F> {
         self.machine.read(caller, page, buf)
     }
 
-    /// A later step of a call. A page-out that waits answers `Room` exactly where the queue still has no room and no
-    /// disk write failed since its first step, and `Fault` where one did. A page-in answers `Wait` exactly where its
-    /// read hasn't come back, `Again` exactly where it started another because a page-out of the page was accepted
-    /// since the last start or because the link was lost, and `Fault` exactly where its own read of the disk came back
-    /// failed and no page-out of the page was accepted since.
+    /// A later step of a call. A page-out that waits answers `Room` exactly where the queue still
+    /// has no room and no disk write failed since its first step, and `Fault` where one did. A
+    /// page-in answers `Wait` exactly where its read hasn't come back, `Again` exactly where it
+    /// started another because a page-out of the page was accepted since the last start or because
+    /// the link was lost, and `Fault` exactly where its own read of the disk came back failed and
+    /// no page-out of the page was accepted since.
     /// After a page-in's `Done` the buffer holds the page.
     pub fn finish(&mut self, caller: Caller, buf: &mut [u8]) -> Step
         requires caller { caller.0 < self.old.device.sizes.callers }
@@ -117,7 +121,8 @@ impl<D: DiskPort, F: Fabric> DeviceCore<D, F> {
         self.machine.disk_start(&mut self.page)
     }
 
-    /// Takes an operation that the disk has finished. `Nothing` comes exactly where the disk gave none.
+    /// Takes an operation that the disk has finished. `Nothing` comes exactly where the disk gave
+    /// none.
     pub fn disk_take(&mut self) -> DiskStep
         requires writes { self.old.device.failed_writes + 1 < 2 ^ 64 }
         requires reads { self.old.device.failed_reads + 1 < 2 ^ 64 }
@@ -128,7 +133,8 @@ impl<D: DiskPort, F: Fabric> DeviceCore<D, F> {
         self.machine.disk_take(&mut self.page)
     }
 
-    /// Lets an operation of a disk in memory finish: the disk's answer, and nothing else of the device changes.
+    /// Lets an operation of a disk in memory finish: the disk's answer, and nothing else of the
+    /// device changes.
     pub fn disk_finish(&mut self, which: DiskWhich, ok: bool) -> bool
         ensures device { self.new.device ≡ self.old.device }
         ensures fabric { self.new.fabric ≡ self.old.fabric }
@@ -139,10 +145,11 @@ impl<D: DiskPort, F: Fabric> DeviceCore<D, F> {
         self.machine.let_finish(which, ok)
     }
 
-    /// Takes a message from a lender's link. `Nothing` comes exactly where the link is down or the fabric gave nothing,
-    /// `Lost` where the fabric said that the link is lost, and `Lied` exactly where the message is none that the device
-    /// allows: it neither answers the oldest request of the link, nor asks for the rate of a slab that is mapped there,
-    /// nor takes such a slab back. The link is then ended.
+    /// Takes a message from a lender's link. `Nothing` comes exactly where the link is down or the
+    /// fabric gave nothing,
+    /// `Lost` where the fabric said that the link is lost, and `Lied` exactly where the message is
+    /// none that the device allows: it neither answers the oldest request of the link, nor asks for
+    /// the rate of a slab that is mapped there, nor takes such a slab back. The link is then ended.
     pub fn link_take(&mut self, lender: Lender) -> LinkStep
         requires { lender.0 < self.old.device.lenders }
         ensures moved { Went D.moves F.moves (λ d. link_take d lender) self.old self.new result }
@@ -152,8 +159,8 @@ impl<D: DiskPort, F: Fabric> DeviceCore<D, F> {
         self.machine.link_take(lender, &mut self.page)
     }
 
-    /// Each slab's period ends, and the hottest local slab is asked for, of two lenders whose link is up that the word
-    /// picks. None exactly where nobody was asked.
+    /// Each slab's period ends, and the hottest local slab is asked for, of two lenders whose link
+    /// is up that the word picks. None exactly where nobody was asked.
     pub fn tick(&mut self, word: u64) -> Option<Placed>
         ensures moved { Went D.moves F.moves (λ d. tick d word) self.old self.new result }
         ensures room { KeepsRoom self.old self.new }
@@ -162,8 +169,8 @@ impl<D: DiskPort, F: Fabric> DeviceCore<D, F> {
         self.machine.tick(word)
     }
 
-    /// Asks a lender to lend a slab. False exactly where the slab isn't local or the link takes no request now; then
-    /// nothing changes.
+    /// Asks a lender to lend a slab. False exactly where the slab isn't local or the link takes no
+    /// request now; then nothing changes.
     pub fn map(&mut self, slab: Slab, lender: Lender) -> bool
         requires slab { slab.0 < self.old.device.sizes.slabs }
         requires lender { lender.0 < self.old.device.lenders }
@@ -174,8 +181,8 @@ impl<D: DiskPort, F: Fabric> DeviceCore<D, F> {
         self.machine.map(slab, lender)
     }
 
-    /// Makes a link to a lender, in place of the one that is up, and greets it. None exactly where 4,294,967,295 links
-    /// were made; then nothing changes.
+    /// Makes a link to a lender, in place of the one that is up, and greets it. None exactly where
+    /// 4,294,967,295 links were made; then nothing changes.
     pub fn connect(&mut self, lender: Lender) -> Option<Link>
         requires { lender.0 < self.old.device.lenders }
         ensures moved { Went D.moves F.moves (λ d. connect d lender) self.old self.new result }
@@ -185,7 +192,8 @@ impl<D: DiskPort, F: Fabric> DeviceCore<D, F> {
         self.machine.connect(lender)
     }
 
-    /// Lets a lender take the next message of its link: the fabric's answer, and nothing else of the device changes.
+    /// Lets a lender take the next message of its link: the fabric's answer, and nothing else of
+    /// the device changes.
     pub fn give(&mut self, lender: Lender) -> Gave
         requires { lender.0 < self.old.device.lenders }
         ensures device { self.new.device ≡ self.old.device }
@@ -202,14 +210,16 @@ impl<D: DiskPort, F: Fabric> DeviceCore<D, F> {
         requires { lender.0 < self.old.device.lenders }
         ensures device { self.new.device ≡ self.old.device }
         ensures disk { self.new.disk ≡ self.old.disk }
-        ensures moved { F.moves self.old.fabric (Cut lender to_lender to_device) result self.new.fabric }
+        ensures moved { F.moves self.old.fabric
+            (Cut lender to_lender to_device) result self.new.fabric }
         ensures spare { self.new.spare ≡ self.old.spare }
     {
         calls_keep::<D, F>();
         self.machine.cut(lender, to_lender, to_device)
     }
 
-    /// Makes a lender in memory start anew: the fabric's answer, and nothing else of the device changes.
+    /// Makes a lender in memory start anew: the fabric's answer, and nothing else of the device
+    /// changes.
     pub fn crash(&mut self, lender: Lender) -> bool
         requires { lender.0 < self.old.device.lenders }
         ensures device { self.new.device ≡ self.old.device }
@@ -221,7 +231,8 @@ impl<D: DiskPort, F: Fabric> DeviceCore<D, F> {
         self.machine.crash(lender)
     }
 
-    /// Tells a lender in memory how much its host uses: the fabric's answer, and nothing else of the device changes.
+    /// Tells a lender in memory how much its host uses: the fabric's answer, and nothing else of
+    /// the device changes.
     pub fn host(&mut self, lender: Lender, used: u32, word: u64) -> Option<Hosted>
         requires { lender.0 < self.old.device.lenders }
         ensures device { self.new.device ≡ self.old.device }
@@ -237,7 +248,8 @@ impl<D: DiskPort, F: Fabric> DeviceCore<D, F> {
     pub fn reserve(&mut self, calls: u32) -> Result<(), ReserveRefused>
         ensures ok { OnOk result (self.new ≡ record self.old { spare = max self.old.spare calls }) }
         ensures err { OnErr result (self.new ≡ self.old) }
-        ensures too_many { (result ≡ Err ReserveRefused.TooMany) ↔ (4_194_304 < length self.old.device.history + calls) }
+        ensures too_many { (result ≡ Err ReserveRefused.TooMany)
+            ↔ (4_194_304 < length self.old.device.history + calls) }
     {
         self.machine.state.reserve(calls)
     }
@@ -312,8 +324,8 @@ impl<D: DiskPort, F: Fabric> DeviceCore<D, F> {
 }
 
 impl<D: DiskPort + Drop, F: Fabric + Drop> DeviceCore<D, F> {
-    /// A device that nothing happened to, over a disk of its geometry that nothing was asked of, and a fabric that is
-    /// as made for its geometry and so many lenders.
+    /// A device that nothing happened to, over a disk of its geometry that nothing was asked of,
+    /// and a fabric that is as made for its geometry and so many lenders.
     pub fn make(
         alloc: Global,
         geometry: Geometry,
@@ -324,7 +336,14 @@ impl<D: DiskPort + Drop, F: Fabric + Drop> DeviceCore<D, F> {
         requires disk { IsBlank geometry (D.means disk) }
         requires lenders { lenders ≤ MOST_LENDERS }
         requires fabric { F.fresh fabric (record { sizes = geometry; lenders = lenders }) }
-        ensures { IfOk result (λ core. core ≡ record { device = new geometry lenders; disk = disk; fabric = fabric; spare = 0 }) }
+        ensures { IfOk result
+            (λ core. core
+            ≡ record {
+              device = new geometry lenders;
+              disk = disk;
+              fabric = fabric;
+              spare = 0;
+            }) }
     {
         calls_keep::<D, F>();
         ports_promise::<D, F>();

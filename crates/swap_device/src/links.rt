@@ -32,7 +32,8 @@ impl<D: DiskPort, F: Fabric> Machine<D, F> {
         requires lender { lender.0 < self.old.device.lenders }
         requires may { MayFollow self.old.device.sizes (Some answer) }
         requires ready { IsReady F.Fabric self.old }
-        ensures moved { Became D.moves F.moves (λ d. follow (heard_with d answer) lender) self.old self.new }
+        ensures moved { Became D.moves F.moves
+            (λ d. follow (heard_with d answer) lender) self.old self.new }
         ensures rest { LeavesRest self.old self.new }
     {
         self.say(lender, answer.word);
@@ -43,9 +44,15 @@ impl<D: DiskPort, F: Fabric> Machine<D, F> {
     fn understand(&mut self, lender: Lender, msg: Msg, bytes: &[u8]) -> LinkStep
         requires lender { lender.0 < self.old.device.lenders }
         requires bytes { length bytes.now ≡ self.old.device.sizes.page_bytes }
-        requires front { IsServed self.old.device lender (rings.oldest (rings.ring_of self.old.device.remote.links lender)) }
+        requires front { IsServed self.old.device lender
+            (rings.oldest (rings.ring_of self.old.device.remote.links lender)) }
         requires ready { IsReady F.Fabric self.old }
-        ensures moved { Went D.moves F.moves (λ d. understood d lender msg (heard_of self.old.device lender msg bytes.now (rings.oldest (rings.ring_of self.old.device.remote.links lender)))) self.old self.new result }
+        ensures moved { Went D.moves F.moves
+            (λ d.
+            understood d lender msg
+            (heard_of self.old.device lender msg bytes.now
+            (rings.oldest (rings.ring_of self.old.device.remote.links lender))))
+            self.old self.new result }
         ensures spare { self.new.spare ≡ self.old.spare }
         ensures history { self.new.device.history ≡ self.old.device.history }
     {
@@ -223,7 +230,9 @@ fn hear_query(state: &mut State, lender: Lender, slab: Slab, msg: &Msg) -> Optio
     requires lender { lender.0 < MOST_LENDERS }
     requires slab { slab.0 < state.old.device.sizes.slabs }
     requires asks { IsTrue (asks lender (state_of state.old.device.remote.slabs slab)) }
-    ensures heard { IsHeard (query_answered state.old.device lender slab (query_reply msg.now)) state.old.device state.new.device result }
+    ensures heard { IsHeard
+        (query_answered state.old.device lender slab (query_reply msg.now)) state.old.device
+        state.new.device result }
     ensures may { MayFollow state.old.device.sizes result }
     ensures spare { state.new.spare ≡ state.old.spare }
     ensures history { state.new.device.history ≡ state.old.device.history }
@@ -241,7 +250,9 @@ fn hear_borrow(state: &mut State, lender: Lender, slab: Slab, msg: &Msg) -> Opti
     requires lender { lender.0 < MOST_LENDERS }
     requires slab { slab.0 < state.old.device.sizes.slabs }
     requires borrowing { state_of state.old.device.remote.slabs slab ≡ SlabState.Borrowing lender }
-    ensures heard { IsHeard (borrow_answered state.old.device lender slab (borrow_reply msg.now)) state.old.device state.new.device result }
+    ensures heard { IsHeard
+        (borrow_answered state.old.device lender slab (borrow_reply msg.now)) state.old.device
+        state.new.device result }
     ensures may { MayFollow state.old.device.sizes result }
     ensures spare { state.new.spare ≡ state.old.spare }
     ensures history { state.new.device.history ≡ state.old.device.history }
@@ -271,8 +282,11 @@ fn hear_write(
 ) -> Option<Answer>
     requires lender { lender.0 < MOST_LENDERS }
     requires page { page.0 < pages_of state.old.device.sizes }
-    requires flying { 0 < flying_of (state_for state.old.device.sizes state.old.device.remote.slabs page) }
-    ensures heard { IsHeard (write_answered state.old.device lender page entry (write_reply msg.now)) state.old.device state.new.device result }
+    requires flying { 0
+        < flying_of (state_for state.old.device.sizes state.old.device.remote.slabs page) }
+    ensures heard { IsHeard
+        (write_answered state.old.device lender page entry (write_reply msg.now))
+        state.old.device state.new.device result }
     ensures may { MayFollow state.old.device.sizes result }
     ensures spare { state.new.spare ≡ state.old.spare }
     ensures history { state.new.device.history ≡ state.old.device.history }
@@ -298,8 +312,11 @@ fn hear_read(
     requires page { page.0 < pages_of state.old.device.sizes }
     requires bytes { length bytes.now ≡ state.old.device.sizes.page_bytes }
     requires waiting { is_waiting (calls_state_of state.old.device.calls caller) ≡ true }
-    requires flying { 0 < flying_of (state_for state.old.device.sizes state.old.device.remote.slabs page) }
-    ensures heard { IsHeard (read_answered state.old.device lender caller page bytes.now (read_reply msg.now)) state.old.device state.new.device result }
+    requires flying { 0
+        < flying_of (state_for state.old.device.sizes state.old.device.remote.slabs page) }
+    ensures heard { IsHeard
+        (read_answered state.old.device lender caller page bytes.now (read_reply msg.now))
+        state.old.device state.new.device result }
     ensures may { MayFollow state.old.device.sizes result }
     ensures spare { state.new.spare ≡ state.old.spare }
     ensures history { state.new.device.history ≡ state.old.device.history }
@@ -315,8 +332,12 @@ fn hear_read(
 fn hear_answer(state: &mut State, lender: Lender, msg: &Msg, bytes: &[u8]) -> Option<Answer>
     requires lender { lender.0 < MOST_LENDERS }
     requires bytes { length bytes.now ≡ state.old.device.sizes.page_bytes }
-    requires front { IsServed state.old.device lender (rings.oldest (rings.ring_of state.old.device.remote.links lender)) }
-    ensures heard { IsHeard (answered_of state.old.device lender msg.now bytes.now (rings.oldest (rings.ring_of state.old.device.remote.links lender))) state.old.device state.new.device result }
+    requires front { IsServed state.old.device lender
+        (rings.oldest (rings.ring_of state.old.device.remote.links lender)) }
+    ensures heard { IsHeard
+        (answered_of state.old.device lender msg.now bytes.now
+        (rings.oldest (rings.ring_of state.old.device.remote.links lender)))
+        state.old.device state.new.device result }
     ensures may { MayFollow state.old.device.sizes result }
     ensures spare { state.new.spare ≡ state.old.spare }
     ensures history { state.new.device.history ≡ state.old.device.history }
@@ -335,7 +356,10 @@ fn hear_answer(state: &mut State, lender: Lender, msg: &Msg, bytes: &[u8]) -> Op
 // A lender asks for the rate of a slab.
 fn tell_rate(state: &State, lender: Lender, lease: Lease) -> Option<Answer>
     requires lender { lender.0 < MOST_LENDERS }
-    ensures heard { IsHeard (rate_told state.now.device lease (mapped_by state.now.device.remote.slabs lender lease)) state.now.device state.now.device result }
+    ensures heard { IsHeard
+        (rate_told state.now.device lease
+        (mapped_by state.now.device.remote.slabs lender lease))
+        state.now.device state.now.device result }
     ensures may { MayFollow state.now.device.sizes result }
 {
     let slab = state.mapped_by(lender, lease)?;
@@ -349,7 +373,9 @@ fn tell_rate(state: &State, lender: Lender, lease: Lease) -> Option<Answer>
 // A lender takes a slab back.
 fn evict(state: &mut State, lender: Lender, lease: Lease) -> Option<Answer>
     requires lender { lender.0 < MOST_LENDERS }
-    ensures heard { IsHeard (evicted state.old.device (mapped_by state.old.device.remote.slabs lender lease)) state.old.device state.new.device result }
+    ensures heard { IsHeard
+        (evicted state.old.device (mapped_by state.old.device.remote.slabs lender lease))
+        state.old.device state.new.device result }
     ensures may { MayFollow state.old.device.sizes result }
     ensures spare { state.new.spare ≡ state.old.spare }
     ensures history { state.new.device.history ≡ state.old.device.history }
@@ -362,8 +388,12 @@ fn evict(state: &mut State, lender: Lender, lease: Lease) -> Option<Answer>
 fn hear(state: &mut State, lender: Lender, msg: &Msg, bytes: &[u8]) -> Option<Answer>
     requires lender { lender.0 < MOST_LENDERS }
     requires bytes { length bytes.now ≡ state.old.device.sizes.page_bytes }
-    requires front { IsServed state.old.device lender (rings.oldest (rings.ring_of state.old.device.remote.links lender)) }
-    ensures heard { IsHeard (heard_of state.old.device lender msg.now bytes.now (rings.oldest (rings.ring_of state.old.device.remote.links lender))) state.old.device state.new.device result }
+    requires front { IsServed state.old.device lender
+        (rings.oldest (rings.ring_of state.old.device.remote.links lender)) }
+    ensures heard { IsHeard
+        (heard_of state.old.device lender msg.now bytes.now
+        (rings.oldest (rings.ring_of state.old.device.remote.links lender)))
+        state.old.device state.new.device result }
     ensures may { MayFollow state.old.device.sizes result }
     ensures spare { state.new.spare ≡ state.old.spare }
     ensures history { state.new.device.history ≡ state.old.device.history }

@@ -8,14 +8,14 @@ use swap_disk::DiskPort;
 use swap_slabs::MOST_LENDERS;
 use swap_wire::{Fabric, Msg, Sent};
 
-// How many links may be lost one after another. Each loss after the first is of a link that was up, and puts it down; no
-// link is raised between two of them. So no more follow on the first than there are lenders, and a loss with none left to
-// follow is never reached.
+// How many links may be lost one after another. Each loss after the first is of a link that was up,
+// and puts it down; no link is raised between two of them. So no more follow on the first than
+// there are lenders, and a loss with none left to follow is never reached.
 pub(crate) const MOST_LOSSES: u32 = MOST_LENDERS + 1;
 
 impl<D: DiskPort, F: Fabric> Machine<D, F> {
-    // A link is lost, and at most so many with it: the slabs at its lender are local, the calls that wait through it are
-    // lost, and each slab that asked its lender waits no more.
+    // A link is lost, and at most so many with it: the slabs at its lender are local, the calls
+    // that wait through it are lost, and each slab that asked its lender waits no more.
     #[cycle(losing)]
     fn fall(&mut self, more: u32, lender: Lender)
         requires lender { lender.0 < self.old.device.lenders }
@@ -40,7 +40,8 @@ impl<D: DiskPort, F: Fabric> Machine<D, F> {
     fn give_up(&mut self, more: u32, lender: Lender, slab: Slab)
         requires slab { slab.0 < self.old.device.sizes.slabs }
         requires ready { IsReady F.Fabric self.old }
-        ensures moved { Became D.moves F.moves (λ d. given_up (fallen more) d lender slab) self.old self.new }
+        ensures moved { Became D.moves F.moves
+            (λ d. given_up (fallen more) d lender slab) self.old self.new }
         ensures ready { IsReady F.Fabric self.new }
         ensures rest { LeavesRest self.old self.new }
     {
@@ -55,7 +56,8 @@ impl<D: DiskPort, F: Fabric> Machine<D, F> {
     pub(crate) fn choose(&mut self, more: u32, choice: Option<(Slab, Lender)>)
         requires choice { MayBorrow self.old.device.sizes choice }
         requires ready { IsReady F.Fabric self.old }
-        ensures moved { Became D.moves F.moves (λ d. choose (fallen more) d choice) self.old self.new }
+        ensures moved { Became D.moves F.moves
+            (λ d. choose (fallen more) d choice) self.old self.new }
         ensures ready { IsReady F.Fabric self.new }
         ensures rest { LeavesRest self.old self.new }
     {

@@ -22,17 +22,25 @@ impl<D: DiskPort, F: Fabric> Model for Machine<D, F> {
 
     ghost Value = { Core D F };
 
-    ghost view = { λ m. record { device = m.state.device; disk = m.disk; fabric = m.fabric; spare = m.state.spare } };
+    ghost view = { λ m.
+        record {
+          device = m.state.device;
+          disk = m.disk;
+          fabric = m.fabric;
+          spare = m.state.spare;
+        } };
 }
 
 impl<D: DiskPort, F: Fabric> Machine<D, F> {
     /// Sends a message on a lender's link.
     pub fn send(&mut self, lender: Lender, msg: &Msg, page: &[u8]) -> Sent
         requires lender { lender.0 < self.old.device.lenders }
-        requires page { carries_page msg.now ≡ true → length page.now ≡ self.old.device.sizes.page_bytes }
+        requires page { carries_page msg.now ≡ true
+            → length page.now ≡ self.old.device.sizes.page_bytes }
         requires of { F.of self.old.fabric ≡ of_device self.old.device }
         ensures rest { self.new ≡ record self.old { fabric = self.new.fabric } }
-        ensures moved { F.moves self.old.fabric (Send lender (parcel_of msg.now page.now)) result self.new.fabric }
+        ensures moved { F.moves self.old.fabric
+            (Send lender (parcel_of msg.now page.now)) result self.new.fabric }
         ensures of { F.of self.new.fabric ≡ of_device self.old.device }
     {
         self.fabric.send(lender, msg, page)
@@ -44,7 +52,8 @@ impl<D: DiskPort, F: Fabric> Machine<D, F> {
         requires page { length page.old ≡ self.old.device.sizes.page_bytes }
         requires of { F.of self.old.fabric ≡ of_device self.old.device }
         ensures rest { self.new ≡ record self.old { fabric = self.new.fabric } }
-        ensures moved { F.moves self.old.fabric (Take lender) (handed result page.new) self.new.fabric }
+        ensures moved { F.moves self.old.fabric (Take lender)
+            (handed result page.new) self.new.fabric }
         ensures of { F.of self.new.fabric ≡ of_device self.old.device }
     {
         self.fabric.take(lender, page)
@@ -93,7 +102,8 @@ impl<D: DiskPort, F: Fabric> Machine<D, F> {
     pub fn cut(&mut self, lender: Lender, to_lender: u32, to_device: u32) -> bool
         requires { lender.0 < (F.of self.old.fabric).lenders }
         ensures rest { self.new ≡ record self.old { fabric = self.new.fabric } }
-        ensures moved { F.moves self.old.fabric (Cut lender to_lender to_device) result self.new.fabric }
+        ensures moved { F.moves self.old.fabric
+            (Cut lender to_lender to_device) result self.new.fabric }
     {
         self.fabric.cut(lender, to_lender, to_device)
     }

@@ -14,16 +14,19 @@ use swap_table::Placed;
 use swap_wire::{Fabric, Msg, Sent};
 
 impl<D: DiskPort, F: Fabric> Machine<D, F> {
-    // Asks for a slab of one lender, or of a second beside the first. True where the query was sent.
+    // Asks for a slab of one lender, or of a second beside the first. True where the query was
+    // sent.
     fn query(&mut self, slab: Slab, first: Option<Lender>, lender: Lender) -> bool
         requires slab { slab.0 < self.old.device.sizes.slabs }
         requires lender { lender.0 < MOST_LENDERS }
         requires alone { IsAskedAlone first lender (state_of self.old.device.remote.slabs slab) }
         requires ready { IsReady F.Fabric self.old }
-        ensures moved { Went D.moves F.moves (λ d. query d slab first lender) self.old self.new result }
+        ensures moved { Went D.moves F.moves
+            (λ d. query d slab first lender) self.old self.new result }
         ensures ready { IsReady F.Fabric self.new }
         ensures rest { LeavesRest self.old self.new }
-        ensures asking { result ≡ true → first ≡ None → state_of self.new.device.remote.slabs slab ≡ SlabState.Asking (pair_of lender None) }
+        ensures asking { result ≡ true → first ≡ None
+            → state_of self.new.device.remote.slabs slab ≡ SlabState.Asking (pair_of lender None) }
     {
         if !self.state.may_ask(slab, first, lender) {
             return false;
@@ -71,9 +74,11 @@ impl<D: DiskPort, F: Fabric> Machine<D, F> {
         requires slab { slab.0 < self.old.device.sizes.slabs }
         requires second { second.0 < MOST_LENDERS }
         requires other { second.0 ≡ first.0 → ⊥ }
-        requires alone { sent ≡ true → state_of self.old.device.remote.slabs slab ≡ SlabState.Asking (pair_of first None) }
+        requires alone { sent ≡ true
+            → state_of self.old.device.remote.slabs slab ≡ SlabState.Asking (pair_of first None) }
         requires ready { IsReady F.Fabric self.old }
-        ensures moved { Went D.moves F.moves (λ d. ask_second slab first second (d, sent)) self.old self.new result }
+        ensures moved { Went D.moves F.moves
+            (λ d. ask_second slab first second (d, sent)) self.old self.new result }
         ensures rest { LeavesRest self.old self.new }
     {
         if !sent {

@@ -33,7 +33,8 @@ use swap_remote::Remote;
 use swap_rings::Request;
 use swap_slabs::{Chosen, MOST_LENDERS};
 
-/// A device's tables. The newest entry of a page stands beside the history, which has it as its last page-out.
+/// A device's tables. The newest entry of a page stands beside the history, which has it as its
+/// last page-out.
 #[derive(Drop)]
 pub(crate) struct State {
     geometry: Geometry,
@@ -70,7 +71,8 @@ impl Model for State {
       spare = t.entries.spare;
     } };
 
-    ghost invariant = { λ t. AreTables t.geometry t.entries t.queue t.calls t.newest.items t.remote t.rates };
+    ghost invariant = { λ t.
+        AreTables t.geometry t.entries t.queue t.calls t.newest.items t.remote t.rates };
 }
 
 // A page-out enters the history, the queue, and the table of newest entries.
@@ -91,9 +93,12 @@ fn enter(
     requires room { IsTrue (has_room queue.old.queue page) }
     ensures name { result ≡ next_name history.old.history }
     ensures history { history.new ≡ written history.old caller page Op.PageOut bytes.now }
-    ensures queue { queue.new.queue ≡ put queue.old.queue page (record { entry = next_name history.old.history; bytes = bytes.now }) }
+    ensures queue { queue.new.queue
+        ≡ put queue.old.queue page
+        (record { entry = next_name history.old.history; bytes = bytes.now }) }
     ensures sizes { queue.new.sizes ≡ queue.old.sizes }
-    ensures newest { newest.new ≡ slice_set newest.old page.0 (Some (next_name history.old.history)) }
+    ensures newest { newest.new
+        ≡ slice_set newest.old page.0 (Some (next_name history.old.history)) }
 {
     let name = history.push_out(caller, page, bytes);
     queue.put(page, name, bytes);
@@ -135,7 +140,11 @@ impl State {
         requires bytes { length bytes.now ≡ self.old.device.sizes.page_bytes }
         requires room { IsTrue (has_room self.old.device.queue page) }
         requires spare { 0 < self.old.spare }
-        ensures state { self.new ≡ record { device = enter self.old.device caller page bytes.now; spare = self.old.spare - 1 } }
+        ensures state { self.new
+            ≡ record {
+              device = enter self.old.device caller page bytes.now;
+              spare = self.old.spare - 1;
+            } }
         ensures name { result ≡ next_name self.old.device.history }
     {
         self.geometry.limits();
@@ -165,7 +174,11 @@ impl State {
         requires caller { caller.0 < self.old.device.sizes.callers }
         requires bytes { length bytes.now ≡ self.old.device.sizes.page_bytes }
         requires spare { 0 < self.old.spare }
-        ensures state { self.new ≡ record { device = give self.old.device caller page named origin bytes.now; spare = self.old.spare - 1 } }
+        ensures state { self.new
+            ≡ record {
+              device = give self.old.device caller page named origin bytes.now;
+              spare = self.old.spare - 1;
+            } }
         ensures name { result ≡ next_name self.old.device.history }
     {
         self.geometry.limits();
@@ -179,7 +192,13 @@ impl State {
         requires caller { caller.0 < self.old.device.sizes.callers }
         requires bytes { length zeros.now ≡ self.old.device.sizes.page_bytes }
         requires spare { 0 < self.old.spare }
-        ensures state { self.new ≡ record { device = fault self.old.device caller page CallKind.PageIn since self.old.device.failed_reads zeros.now; spare = self.old.spare - 1 } }
+        ensures state { self.new
+            ≡ record {
+              device =
+                  fault self.old.device caller page CallKind.PageIn since
+                  self.old.device.failed_reads zeros.now;
+              spare = self.old.spare - 1;
+            } }
         ensures name { result ≡ next_name self.old.device.history }
     {
         self.geometry.limits();
@@ -196,7 +215,14 @@ impl State {
         requires caller { caller.0 < self.old.device.sizes.callers }
         requires kept { keeps_page (state_of self.old.device.calls caller) ≡ true }
         requires spare { 0 < self.old.spare }
-        ensures state { self.new ≡ record { device = fault self.old.device caller page CallKind.PageOut since self.old.device.failed_writes (call_of self.old.device.calls caller).bytes; spare = self.old.spare - 1 } }
+        ensures state { self.new
+            ≡ record {
+              device =
+                  fault self.old.device caller page CallKind.PageOut since
+                  self.old.device.failed_writes
+                  (call_of self.old.device.calls caller).bytes;
+              spare = self.old.spare - 1;
+            } }
         ensures name { result ≡ next_name self.old.device.history }
     {
         self.geometry.limits();
@@ -214,7 +240,8 @@ impl State {
         requires caller { caller.0 < self.old.device.sizes.callers }
         requires idle { is_idle (state_of self.old.device.calls caller) ≡ true }
         requires bytes { length bytes.now ≡ self.old.device.sizes.page_bytes }
-        ensures { self.new ≡ record self.old { device = wait_for_room self.old.device caller page bytes.now } }
+        ensures { self.new
+            ≡ record self.old { device = wait_for_room self.old.device caller page bytes.now } }
     {
         let since = self.failed_writes;
         self.calls.begin_room(caller, page, since, bytes);
@@ -224,7 +251,8 @@ impl State {
     pub fn wait_for_disk(&mut self, caller: Caller, page: Page, newest: EntryNo)
         requires caller { caller.0 < self.old.device.sizes.callers }
         requires may_read { may_read (state_of self.old.device.calls caller) ≡ true }
-        ensures { self.new ≡ record self.old { device = wait_for_disk self.old.device caller page newest } }
+        ensures { self.new
+            ≡ record self.old { device = wait_for_disk self.old.device caller page newest } }
     {
         let since = self.failed_reads;
         self.calls
@@ -256,7 +284,9 @@ impl State {
 
     /// The hottest local slab.
     pub fn hottest(&self) -> Option<Slab>
-        ensures slab { result ≡ rates.hottest self.now.device.sizes.hot self.now.device.remote.slabs self.now.device.rates }
+        ensures slab { result
+            ≡ rates.hottest self.now.device.sizes.hot self.now.device.remote.slabs
+            self.now.device.rates }
         ensures within { IfSome result (λ slab. slab.0 < self.now.device.sizes.slabs) }
     {
         self.remote.keeps();
@@ -268,7 +298,9 @@ impl State {
         requires { length buf.old ≡ self.old.device.sizes.page_bytes }
         ensures answer { result ≡ started_answer (front self.old.device.queue) }
         ensures bytes { buf.new ≡ started_bytes (front self.old.device.queue) buf.old }
-        ensures state { self.new ≡ record self.old { device = record self.old.device { queue = start self.old.device.queue } } }
+        ensures state { self.new
+            ≡ record self.old
+            { device = record self.old.device { queue = start self.old.device.queue } } }
     {
         self.queue.start(buf)
     }
@@ -276,8 +308,11 @@ impl State {
     /// A write came back ok.
     pub fn wrote(&mut self, page: Page) -> EntryNo
         requires { IsSome (flying self.old.device.queue page) }
-        ensures entry { IfSome (flying self.old.device.queue page) (λ (copy : Copy). result ≡ copy.entry) }
-        ensures state { self.new ≡ record self.old { device = record self.old.device { queue = done self.old.device.queue page } } }
+        ensures entry { IfSome (flying self.old.device.queue page)
+            (λ (copy : Copy). result ≡ copy.entry) }
+        ensures state { self.new
+            ≡ record self.old
+            { device = record self.old.device { queue = done self.old.device.queue page } } }
     {
         self.queue.done(page)
     }
@@ -286,8 +321,17 @@ impl State {
     pub fn write_failed(&mut self, page: Page) -> Failed
         requires flies { IsSome (flying self.old.device.queue page) }
         requires count { self.old.device.failed_writes + 1 < 2 ^ 64 }
-        ensures answer { IfSome (flying self.old.device.queue page) (λ (copy : Copy). result ≡ failed_answer (next self.old.device.queue page) copy.entry) }
-        ensures state { self.new ≡ record self.old { device = record self.old.device { queue = failed self.old.device.queue page; failed_writes = self.old.device.failed_writes + 1 } } }
+        ensures answer { IfSome (flying self.old.device.queue page)
+            (λ (copy : Copy). result
+            ≡ failed_answer (next self.old.device.queue page) copy.entry) }
+        ensures state { self.new
+            ≡ record self.old {
+              device =
+                  record self.old.device {
+                    queue = failed self.old.device.queue page;
+                    failed_writes = self.old.device.failed_writes + 1;
+                  };
+            } }
     {
         self.failed_writes += 1;
         self.queue.failed(page)
@@ -298,7 +342,11 @@ impl State {
         requires caller { caller.0 < self.old.device.sizes.callers }
         requires waiting { is_waiting (state_of self.old.device.calls caller) ≡ true }
         requires bytes { length bytes.now ≡ self.old.device.sizes.page_bytes }
-        ensures { self.new ≡ record self.old { device = record self.old.device { calls = came self.old.device.calls caller bytes.now } } }
+        ensures { self.new
+            ≡ record self.old {
+              device =
+                  record self.old.device { calls = came self.old.device.calls caller bytes.now };
+            } }
     {
         self.calls.came(caller, bytes);
     }
@@ -308,7 +356,14 @@ impl State {
         requires caller { caller.0 < self.old.device.sizes.callers }
         requires waiting { is_waiting (state_of self.old.device.calls caller) ≡ true }
         requires count { self.old.device.failed_reads + 1 < 2 ^ 64 }
-        ensures { self.new ≡ record self.old { device = record self.old.device { calls = failed_call self.old.device.calls caller; failed_reads = self.old.device.failed_reads + 1 } } }
+        ensures { self.new
+            ≡ record self.old {
+              device =
+                  record self.old.device {
+                    calls = failed_call self.old.device.calls caller;
+                    failed_reads = self.old.device.failed_reads + 1;
+                  };
+            } }
     {
         self.failed_reads += 1;
         self.calls.failed(caller);
@@ -318,7 +373,8 @@ impl State {
     pub fn reserve(&mut self, n: u32) -> Result<(), ReserveRefused>
         ensures ok { OnOk result (self.new ≡ record self.old { spare = max self.old.spare n }) }
         ensures err { OnErr result (self.new ≡ self.old) }
-        ensures too_many { (result ≡ Err ReserveRefused.TooMany) ↔ (4_194_304 < length self.old.device.history + n) }
+        ensures too_many { (result ≡ Err ReserveRefused.TooMany)
+            ↔ (4_194_304 < length self.old.device.history + n) }
     {
         self.entries.reserve(n)
     }
@@ -366,7 +422,8 @@ impl State {
     pub fn newest_copy(&self, page: Page, buf: &mut [u8]) -> Option<EntryNo>
         requires page { page.0 < pages_of self.now.device.sizes }
         requires buf { length buf.old ≡ self.now.device.sizes.page_bytes }
-        ensures entry { result ≡ option_map (λ (copy : Copy). copy.entry) (newest self.now.device.queue page) }
+        ensures entry { result
+            ≡ option_map (λ (copy : Copy). copy.entry) (newest self.now.device.queue page) }
         ensures bytes { buf.new ≡ bytes_or (newest self.now.device.queue page) buf.old }
     {
         self.queue.newest(page, buf)
@@ -474,7 +531,9 @@ impl State {
 
     /// The lenders that a word picks to be asked for a slab.
     pub fn to_ask(&self, word: u64) -> Asked
-        ensures asked { result ≡ choice.asked word (remote.fresh self.now.device.remote) (remote.others self.now.device.remote) }
+        ensures asked { result
+            ≡ choice.asked word (remote.fresh self.now.device.remote)
+            (remote.others self.now.device.remote) }
         ensures lenders { AreAsked result }
     {
         self.remote.to_ask(word)
@@ -493,7 +552,9 @@ impl State {
         requires { lender.0 < MOST_LENDERS }
         ensures slab { result ≡ remote.mapped_by self.now.device.remote.slabs lender lease }
         ensures within { IfSome result (λ slab. slab.0 < self.now.device.sizes.slabs) }
-        ensures mapped { IfSome result (λ slab. IsTrue (slabs.is_mapped (slabs.state_of self.now.device.remote.slabs slab))) }
+        ensures mapped { IfSome result
+            (λ slab.
+            IsTrue (slabs.is_mapped (slabs.state_of self.now.device.remote.slabs slab))) }
     {
         self.remote.mapped_by(lender, lease)
     }
@@ -509,7 +570,9 @@ impl State {
     /// Whether a message names a page.
     pub fn names_page(&self, lender: Lender, page: Page, lease: Lease, place: u32) -> bool
         requires { page.0 < pages_of self.now.device.sizes }
-        ensures { result ≡ remote.names_page self.now.device.sizes self.now.device.remote lender page lease place }
+        ensures { result
+            ≡ remote.names_page self.now.device.sizes self.now.device.remote lender page lease
+            place }
     {
         self.remote.names_page(lender, page, lease, place)
     }
@@ -540,7 +603,8 @@ impl State {
     pub fn write_sent(&mut self, lender: Lender, page: Page, entry: EntryNo)
         requires page { page.0 < pages_of self.old.device.sizes }
         requires may { MayGo self.old.device.sizes self.old.device.remote page lender }
-        ensures { self.new ≡ record self.old { device = write_sent self.old.device lender page entry } }
+        ensures { self.new
+            ≡ record self.old { device = write_sent self.old.device lender page entry } }
     {
         self.remote
             .sent_for(lender, page, Request::Write { page, entry });
@@ -552,7 +616,8 @@ impl State {
         requires page { page.0 < pages_of self.old.device.sizes }
         requires may { MayGo self.old.device.sizes self.old.device.remote page lender }
         requires may_read { may_read (state_of self.old.device.calls caller) ≡ true }
-        ensures { self.new ≡ record self.old { device = read_sent self.old.device lender caller page newest } }
+        ensures { self.new
+            ≡ record self.old { device = read_sent self.old.device lender caller page newest } }
     {
         let since = self.failed_reads;
         self.remote
@@ -566,20 +631,35 @@ impl State {
         requires slab { slab.0 < self.old.device.sizes.slabs }
         requires lender { lender.0 < MOST_LENDERS }
         requires state { MayAsk first lender (slabs.state_of self.old.device.remote.slabs slab) }
-        requires room { length (rings.ring_of self.old.device.remote.links lender) < self.old.device.sizes.window }
-        ensures { self.new ≡ record self.old { device = record self.old.device { remote = remote.query_sent self.old.device.remote slab first lender } } }
+        requires room { length (rings.ring_of self.old.device.remote.links lender)
+            < self.old.device.sizes.window }
+        ensures { self.new
+            ≡ record self.old {
+              device =
+                  record self.old.device
+                  { remote = remote.query_sent self.old.device.remote slab first lender };
+            } }
     {
         self.remote.query_sent(slab, first, lender);
     }
 
-    /// A lender that was asked tells how many slots are free. The answer is the slab, with the lender that is chosen for
-    /// it once no reply is waited for.
+    /// A lender that was asked tells how many slots are free. The answer is the slab, with the
+    /// lender that is chosen for it once no reply is waited for.
     pub fn told(&mut self, lender: Lender, slab: Slab, free: u32) -> Option<(Slab, Lender)>
         requires slab { slab.0 < self.old.device.sizes.slabs }
         requires lender { lender.0 < MOST_LENDERS }
-        requires asks { IsTrue (slabs.asks lender (slabs.state_of self.old.device.remote.slabs slab)) }
-        ensures state { self.new ≡ record self.old { device = record self.old.device { remote = remote.told self.old.device.remote lender slab free } } }
-        ensures choice { result ≡ chosen_for slab (slabs.answer_choice (slabs.state_of self.old.device.remote.slabs slab) lender (Reply.Free free)) }
+        requires asks { IsTrue
+            (slabs.asks lender (slabs.state_of self.old.device.remote.slabs slab)) }
+        ensures state { self.new
+            ≡ record self.old {
+              device =
+                  record self.old.device
+                  { remote = remote.told self.old.device.remote lender slab free };
+            } }
+        ensures choice { result
+            ≡ chosen_for slab
+            (slabs.answer_choice (slabs.state_of self.old.device.remote.slabs slab) lender
+            (Reply.Free free)) }
         ensures within { MayBorrow self.old.device.sizes result }
     {
         self.remote.keeps();
@@ -589,9 +669,18 @@ impl State {
     /// A lender that was asked is gone. The answer is as of `told`.
     pub fn gone(&mut self, lender: Lender, slab: Slab) -> Option<(Slab, Lender)>
         requires slab { slab.0 < self.old.device.sizes.slabs }
-        requires asks { IsTrue (slabs.asks lender (slabs.state_of self.old.device.remote.slabs slab)) }
-        ensures state { self.new ≡ record self.old { device = record self.old.device { remote = remote.gone self.old.device.remote lender slab } } }
-        ensures choice { result ≡ chosen_for slab (slabs.answer_choice (slabs.state_of self.old.device.remote.slabs slab) lender Reply.Gone) }
+        requires asks { IsTrue
+            (slabs.asks lender (slabs.state_of self.old.device.remote.slabs slab)) }
+        ensures state { self.new
+            ≡ record self.old {
+              device =
+                  record self.old.device
+                  { remote = remote.gone self.old.device.remote lender slab };
+            } }
+        ensures choice { result
+            ≡ chosen_for slab
+            (slabs.answer_choice
+            (slabs.state_of self.old.device.remote.slabs slab) lender Reply.Gone) }
         ensures within { MayBorrow self.old.device.sizes result }
     {
         self.remote.keeps();
@@ -603,7 +692,12 @@ impl State {
         requires slab { slab.0 < self.old.device.sizes.slabs }
         requires lender { lender.0 < MOST_LENDERS }
         requires may { may_map self.old.device slab lender ≡ true }
-        ensures { self.new ≡ record self.old { device = record self.old.device { remote = remote.borrow_sent self.old.device.remote slab lender } } }
+        ensures { self.new
+            ≡ record self.old {
+              device =
+                  record self.old.device
+                  { remote = remote.borrow_sent self.old.device.remote slab lender };
+            } }
     {
         self.remote.borrow_sent(slab, lender);
     }
@@ -612,9 +706,15 @@ impl State {
     pub fn lent(&mut self, lender: Lender, slab: Slab, lease: Lease)
         requires slab { slab.0 < self.old.device.sizes.slabs }
         requires lender { lender.0 < MOST_LENDERS }
-        requires borrowing { slabs.state_of self.old.device.remote.slabs slab ≡ SlabState.Borrowing lender }
+        requires borrowing { slabs.state_of self.old.device.remote.slabs slab
+            ≡ SlabState.Borrowing lender }
         requires lease { slabs.by_lease self.old.device.remote.slabs lender lease ≡ None }
-        ensures { self.new ≡ record self.old { device = record self.old.device { remote = remote.lent self.old.device.remote lender slab lease } } }
+        ensures { self.new
+            ≡ record self.old {
+              device =
+                  record self.old.device
+                  { remote = remote.lent self.old.device.remote lender slab lease };
+            } }
     {
         self.remote.lent(lender, slab, lease);
     }
@@ -623,20 +723,39 @@ impl State {
     pub fn refused(&mut self, lender: Lender, slab: Slab)
         requires slab { slab.0 < self.old.device.sizes.slabs }
         requires lender { lender.0 < MOST_LENDERS }
-        requires borrowing { slabs.state_of self.old.device.remote.slabs slab ≡ SlabState.Borrowing lender }
-        ensures { self.new ≡ record self.old { device = record self.old.device { remote = remote.refused self.old.device.remote lender slab } } }
+        requires borrowing { slabs.state_of self.old.device.remote.slabs slab
+            ≡ SlabState.Borrowing lender }
+        ensures { self.new
+            ≡ record self.old {
+              device =
+                  record self.old.device
+                  { remote = remote.refused self.old.device.remote lender slab };
+            } }
     {
         self.remote.refused(lender, slab);
     }
 
-    /// A write came back from a lender: remote memory can be read where it was of the page's newest entry. The lease of
-    /// its slab is given back where that was the last request to fly for a slab that drains.
+    /// A write came back from a lender: remote memory can be read where it was of the page's newest
+    /// entry. The lease of its slab is given back where that was the last request to fly for a slab
+    /// that drains.
     pub fn written(&mut self, lender: Lender, page: Page, entry: EntryNo) -> Option<Lease>
         requires page { page.0 < pages_of self.old.device.sizes }
         requires lender { lender.0 < MOST_LENDERS }
-        requires flying { 0 < slabs.flying_of (remote.state_for self.old.device.sizes self.old.device.remote.slabs page) }
-        ensures state { self.new ≡ record self.old { device = record self.old.device { remote = remote.written self.old.device.sizes self.old.device.remote lender page (is_newest (last self.old.device.history page) entry) } } }
-        ensures lease { result ≡ slabs.settled_lease (remote.state_for self.old.device.sizes self.old.device.remote.slabs page) }
+        requires flying { 0
+            < slabs.flying_of
+            (remote.state_for self.old.device.sizes self.old.device.remote.slabs page) }
+        ensures state { self.new
+            ≡ record self.old {
+              device =
+                  record self.old.device {
+                    remote =
+                        remote.written self.old.device.sizes self.old.device.remote lender page
+                        (is_newest (last self.old.device.history page) entry);
+                  };
+            } }
+        ensures lease { result
+            ≡ slabs.settled_lease
+            (remote.state_for self.old.device.sizes self.old.device.remote.slabs page) }
     {
         let newest = is_newest(self.newest[page.0 as usize], entry);
         self.remote.written(lender, page, newest)
@@ -655,26 +774,48 @@ impl State {
         requires lender { lender.0 < MOST_LENDERS }
         requires bytes { length bytes.now ≡ self.old.device.sizes.page_bytes }
         requires waiting { is_waiting (state_of self.old.device.calls caller) ≡ true }
-        requires flying { 0 < slabs.flying_of (remote.state_for self.old.device.sizes self.old.device.remote.slabs page) }
-        ensures state { self.new ≡ record self.old { device = record self.old.device { remote = remote.settled_for self.old.device.sizes self.old.device.remote lender page; calls = came self.old.device.calls caller bytes.now } } }
-        ensures lease { result ≡ slabs.settled_lease (remote.state_for self.old.device.sizes self.old.device.remote.slabs page) }
+        requires flying { 0
+            < slabs.flying_of
+            (remote.state_for self.old.device.sizes self.old.device.remote.slabs page) }
+        ensures state { self.new
+            ≡ record self.old {
+              device =
+                  record self.old.device {
+                    remote =
+                        remote.settled_for self.old.device.sizes self.old.device.remote lender page;
+                    calls = came self.old.device.calls caller bytes.now;
+                  };
+            } }
+        ensures lease { result
+            ≡ slabs.settled_lease
+            (remote.state_for self.old.device.sizes self.old.device.remote.slabs page) }
     {
         self.calls.came(caller, bytes);
         self.remote.settled_for(lender, page)
     }
 
-    /// A mapped slab is taken back: it drains. Its lease is given back where no request flies for it.
+    /// A mapped slab is taken back: it drains. Its lease is given back where no request flies for
+    /// it.
     pub fn evict(&mut self, slab: Slab) -> Option<Lease>
         requires slab { slab.0 < self.old.device.sizes.slabs }
-        requires mapped { IsTrue (slabs.is_mapped (slabs.state_of self.old.device.remote.slabs slab)) }
-        ensures state { self.new ≡ record self.old { device = record self.old.device { remote = remote.evicted self.old.device.sizes self.old.device.remote slab } } }
-        ensures lease { result ≡ slabs.evicted_lease (slabs.state_of self.old.device.remote.slabs slab) }
+        requires mapped { IsTrue
+            (slabs.is_mapped (slabs.state_of self.old.device.remote.slabs slab)) }
+        ensures state { self.new
+            ≡ record self.old {
+              device =
+                  record self.old.device {
+                    remote =
+                        remote.evicted self.old.device.sizes self.old.device.remote slab;
+                  };
+            } }
+        ensures lease { result
+            ≡ slabs.evicted_lease (slabs.state_of self.old.device.remote.slabs slab) }
     {
         self.remote.evict(slab)
     }
 
-    /// A link was lost: its slabs are local, and the calls that wait through it are lost. The slabs that asked its lender
-    /// still wait.
+    /// A link was lost: its slabs are local, and the calls that wait through it are lost. The slabs
+    /// that asked its lender still wait.
     pub fn lost(&mut self, lender: Lender)
         requires { lender.0 < MOST_LENDERS }
         ensures { self.new ≡ record self.old { device = lost self.old.device lender } }

@@ -37,10 +37,12 @@ impl<D: DiskPort, F: Fabric> Machine<D, F> {
         target: Option<(Lender, Lease)>,
     ) -> Option<Lender>
         requires page { page.0 < pages_of self.old.device.sizes }
-        requires target { MayGoTo self.old.device.sizes self.old.device.remote self.old.device.lenders page target }
+        requires target { MayGoTo self.old.device.sizes self.old.device.remote
+            self.old.device.lenders page target }
         requires bytes { length bytes.now ≡ self.old.device.sizes.page_bytes }
         requires ready { IsReady F.Fabric self.old }
-        ensures moved { Went D.moves F.moves (λ d. write_to d page entry bytes.now target) self.old self.new result }
+        ensures moved { Went D.moves F.moves
+            (λ d. write_to d page entry bytes.now target) self.old self.new result }
         ensures spare { self.new.spare ≡ self.old.spare }
         ensures history { self.new.device.history ≡ self.old.device.history }
     {
@@ -66,7 +68,8 @@ impl<D: DiskPort, F: Fabric> Machine<D, F> {
         requires room { has_room self.old.device.queue page ≡ true }
         requires spare { 0 < self.old.spare }
         requires agree { Agree D.DiskPort F.Fabric self.old }
-        ensures moved { Went D.moves F.moves (λ d. accept d caller page bytes.now) self.old self.new result.1 }
+        ensures moved { Went D.moves F.moves
+            (λ d. accept d caller page bytes.now) self.old self.new result.1 }
         ensures name { result.0 ≡ next_name self.old.device.history }
         ensures room { KeepsRoom self.old self.new }
         ensures out { EndsInOut self.new.device.history }
@@ -85,7 +88,8 @@ impl<D: DiskPort, F: Fabric> Machine<D, F> {
         requires may_read { may_read (state_of self.old.device.calls caller) ≡ true }
         requires sizes { (D.means self.old.disk).sizes ≡ self.old.device.sizes }
         requires free { IsFree (D.means self.old.disk).flights (DiskWhich.Read caller) }
-        ensures moved { Went D.moves F.moves (λ d. read_disk d caller page newest) self.old self.new result }
+        ensures moved { Went D.moves F.moves
+            (λ d. read_disk d caller page newest) self.old self.new result }
         ensures spare { self.new.spare ≡ self.old.spare }
         ensures history { self.new.device.history ≡ self.old.device.history }
         ensures waits { result ≡ InStep.Wait via.Disk }
@@ -108,9 +112,11 @@ impl<D: DiskPort, F: Fabric> Machine<D, F> {
         requires may_read { may_read (state_of self.old.device.calls caller) ≡ true }
         requires sizes { (D.means self.old.disk).sizes ≡ self.old.device.sizes }
         requires free { IsFree (D.means self.old.disk).flights (DiskWhich.Read caller) }
-        requires source { MayGoTo self.old.device.sizes self.old.device.remote self.old.device.lenders page source }
+        requires source { MayGoTo self.old.device.sizes self.old.device.remote
+            self.old.device.lenders page source }
         requires ready { IsReady F.Fabric self.old }
-        ensures moved { Went D.moves F.moves (λ d. read_at d caller page newest source) self.old self.new result }
+        ensures moved { Went D.moves F.moves
+            (λ d. read_at d caller page newest source) self.old self.new result }
         ensures spare { self.new.spare ≡ self.old.spare }
         ensures history { self.new.device.history ≡ self.old.device.history }
         ensures waits { Waits result }
@@ -141,7 +147,8 @@ impl<D: DiskPort, F: Fabric> Machine<D, F> {
         requires idle { is_idle (state_of self.old.device.calls caller) ≡ true }
         requires spare { 0 < self.old.spare }
         requires agree { Agree D.DiskPort F.Fabric self.old }
-        ensures moved { Went D.moves F.moves (λ d. put d caller page bytes.now) self.old self.new result }
+        ensures moved { Went D.moves F.moves
+            (λ d. put d caller page bytes.now) self.old self.new result }
         ensures room { KeepsRoom self.old self.new }
     {
         if self.state.has_room(page) {
@@ -153,8 +160,8 @@ impl<D: DiskPort, F: Fabric> Machine<D, F> {
         }
     }
 
-    /// A page-out's first step: its slab is hit, and it is accepted, or kept for its caller until there is
-    /// room.
+    /// A page-out's first step: its slab is hit, and it is accepted, or kept for its caller until
+    /// there is room.
     pub fn out(&mut self, caller: Caller, page: Page, bytes: &[u8]) -> OutStep
         requires caller { caller.0 < self.old.device.sizes.callers }
         requires page { page.0 < pages_of self.old.device.sizes }
@@ -162,7 +169,8 @@ impl<D: DiskPort, F: Fabric> Machine<D, F> {
         requires idle { is_idle (state_of self.old.device.calls caller) ≡ true }
         requires spare { 0 < self.old.spare }
         requires agree { Agree D.DiskPort F.Fabric self.old }
-        ensures moved { Went D.moves F.moves (λ d. out d caller page bytes.now) self.old self.new result }
+        ensures moved { Went D.moves F.moves
+            (λ d. out d caller page bytes.now) self.old self.new result }
         ensures room { KeepsRoom self.old self.new }
     {
         self.state.hit(page);
@@ -221,7 +229,8 @@ impl<D: DiskPort, F: Fabric> Machine<D, F> {
         requires may_read { may_read (state_of self.old.device.calls caller) ≡ true }
         requires spare { 0 < self.old.spare }
         requires agree { Agree D.DiskPort F.Fabric self.old }
-        ensures moved { Went D.moves F.moves (λ d. answering routed_again (route d caller page)) self.old self.new result }
+        ensures moved { Went D.moves F.moves
+            (λ d. answering routed_again (route d caller page)) self.old self.new result }
         ensures room { KeepsRoom self.old self.new }
         ensures gives { GivesStep result self.new.device.history buf.old buf.new }
     {
@@ -231,8 +240,8 @@ impl<D: DiskPort, F: Fabric> Machine<D, F> {
         }
     }
 
-    /// A page-out that waits for room: it is accepted where there is some, and fails where a disk write failed since its
-    /// first step. Its page is kept in `kept` on its way.
+    /// A page-out that waits for room: it is accepted where there is some, and fails where a disk
+    /// write failed since its first step. Its page is kept in `kept` on its way.
     pub fn finish_out(&mut self, caller: Caller, page: Page, since: u64, kept: &mut [u8]) -> Step
         requires caller { caller.0 < self.old.device.sizes.callers }
         requires page { page.0 < pages_of self.old.device.sizes }
@@ -240,7 +249,9 @@ impl<D: DiskPort, F: Fabric> Machine<D, F> {
         requires call { state_of self.old.device.calls caller ≡ CallState.Room page since }
         requires spare { 0 < self.old.spare }
         requires agree { Agree D.DiskPort F.Fabric self.old }
-        ensures moved { Went D.moves F.moves (λ d. finish_out d caller page since (call_of self.old.device.calls caller).bytes) self.old self.new result }
+        ensures moved { Went D.moves F.moves
+            (λ d. finish_out d caller page since (call_of self.old.device.calls caller).bytes)
+            self.old self.new result }
         ensures room { KeepsRoom self.old self.new }
         ensures out { IsOutStep result self.new.device.history }
     {
@@ -337,7 +348,9 @@ pub fn finish_in(
     requires buf { length buf.old ≡ state.old.device.sizes.page_bytes }
     requires call { CameFor page newest via (state_of state.old.device.calls caller) }
     requires spare { 0 < state.old.spare }
-    ensures device { state.new.device ≡ give state.old.device caller page (Some newest) (origin_of via) (call_of state.old.device.calls caller).bytes }
+    ensures device { state.new.device
+        ≡ give state.old.device caller page (Some newest) (origin_of via)
+        (call_of state.old.device.calls caller).bytes }
     ensures result { result ≡ Step.Done (next_name state.old.device.history) None }
     ensures spare { state.new.spare ≡ state.old.spare - 1 }
     ensures gives { buf.new ≡ (call_of state.old.device.calls caller).bytes }
@@ -354,8 +367,11 @@ pub fn fault_in(state: &mut State, caller: Caller, page: Page, since: u64, blank
     requires blank { length blank.old ≡ state.old.device.sizes.page_bytes }
     requires call { FailedFor page since (state_of state.old.device.calls caller) }
     requires spare { 0 < state.old.spare }
-    ensures device { state.new.device ≡ fault state.old.device caller page CallKind.PageIn since state.old.device.failed_reads (zeros state.old.device.sizes) }
-    ensures result { result ≡ Step.Fault (next_name state.old.device.history) since state.old.device.failed_reads }
+    ensures device { state.new.device
+        ≡ fault state.old.device caller page CallKind.PageIn since state.old.device.failed_reads
+        (zeros state.old.device.sizes) }
+    ensures result { result
+        ≡ Step.Fault (next_name state.old.device.history) since state.old.device.failed_reads }
     ensures spare { state.new.spare ≡ state.old.spare - 1 }
 {
     clear(blank);
@@ -371,7 +387,9 @@ fn take_back(state: &mut State, done: DiskDone, bytes: &[u8]) -> DiskStep
     requires bytes { length bytes.now ≡ state.old.device.sizes.page_bytes }
     requires writes { state.old.device.failed_writes + 1 < 2 ^ 64 }
     requires reads { state.old.device.failed_reads + 1 < 2 ^ 64 }
-    ensures took { (state.new.device, result) ≡ took state.old.device done.which done.page done.ok (bytes_given done.which done.ok bytes.now) }
+    ensures took { (state.new.device, result)
+        ≡ took state.old.device done.which done.page done.ok
+        (bytes_given done.which done.ok bytes.now) }
     ensures spare { state.new.spare ≡ state.old.spare }
     ensures history { state.new.device.history ≡ state.old.device.history }
 {

@@ -8,5 +8,6 @@ use Rattle.swap_sock.specs.declared.address.Address.{Address}
 
 -- of the same four numbers and the same port
 abbrev pub IsAddressOf : Address → SocketAddr → Type 0
-IsAddressOf address (V4 s) = (ipv4_octets (v4_ip s) ≡ address.a ∷ address.b ∷ address.c ∷ address.d ∷ []) × (v4_port s ≡ address.port)
+IsAddressOf address (V4 s) =
+    (ipv4_octets (v4_ip s) ≡ address.a ∷ address.b ∷ address.c ∷ address.d ∷ []) × (v4_port s ≡ address.port)
 IsAddressOf address (V6 s) = ⊥

@@ -36,8 +36,9 @@ impl Source for TcpSource {
     }
 }
 
-/// What is written to over TCP. It doesn't tell what it took, and counts its failed writes; after one of them, and where it
-/// is dropped, the stream is shut in both directions, so that whoever reads it comes to its end.
+/// What is written to over TCP. It doesn't tell what it took, and counts its failed writes; after
+/// one of them, and where it is dropped, the stream is shut in both directions, so that whoever
+/// reads it comes to its end.
 #[derive(Debug)]
 pub struct TcpSink {
     stream: TcpStream,

@@ -110,7 +110,9 @@ impl Door for TcpDoor {
 
     fn back(&mut self, reader: TcpSource, end: LinkEnd<TcpSink>)
         ensures later { self.old.faults ≤ self.new.faults }
-        ensures links { tcp_links self.new.asked self.new.gave self.new.back ≡ got_back (left_by reader end) (tcp_links self.old.asked self.old.gave self.old.back) }
+        ensures links { tcp_links self.new.asked self.new.gave self.new.back
+            ≡ got_back (left_by reader end)
+            (tcp_links self.old.asked self.old.gave self.old.back) }
     {
         drop(reader);
         drop(end);

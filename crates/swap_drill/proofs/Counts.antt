@@ -38,10 +38,15 @@ busy_pair : Event × Seen → Bool
 busy_pair pair = is_call pair.0 && is_busy pair.1
 
 pub busy-append : (w : World) (xs ys : List Input) → busy_in (told w (xs ++ ys)) ≡ busy_in (told w xs) + busy_in (told (after w xs) ys)
-busy-append w xs ys = ap busy_in (told-append w xs ys) ∙ sum_by-append (λ (pair : Event × Seen). one_if (is_call pair.0 && is_busy pair.1)) (told w xs) (told (after w xs) ys)
+busy-append w xs ys =
+    ap busy_in (told-append w xs ys) ∙ sum_by-append (λ (pair : Event × Seen). one_if (is_call pair.0 && is_busy pair.1)) (told w xs) (told (after w xs) ys)
 
-busy-cons : (w : World) (x : Input) (xs : List Input) → busy_in (told w (x ∷ xs)) ≡ one_if (is_call x.event && is_busy (next w x).seen) + busy_in (told (next w x).world xs)
-busy-cons w x xs = ap busy_in (told-cons w x xs) ∙ count_by-cons (λ (pair : Event × Seen). is_call pair.0 && is_busy pair.1) (x.event, (next w x).seen) (told (next w x).world xs)
+busy-cons :
+    (w : World) (x : Input) (xs : List Input)
+    → busy_in (told w (x ∷ xs)) ≡ one_if (is_call x.event && is_busy (next w x).seen) + busy_in (told (next w x).world xs)
+busy-cons w x xs =
+    ap busy_in (told-cons w x xs)
+    ∙ count_by-cons (λ (pair : Event × Seen). is_call pair.0 && is_busy pair.1) (x.event, (next w x).seen) (told (next w x).world xs)
 
 pub rounds-append : (xs ys : List Input) → rounds_in (xs ++ ys) ≡ rounds_in xs + rounds_in ys
 rounds-append xs ys = sum_by-append (λ (i : Input). one_if (is_round i.event)) xs ys
@@ -98,7 +103,8 @@ ends-others flights = others_if (leb 4 (writes_in flights)) (write_ends (oldest_
 
 seldom-others : (i word : ℕ) → AreOthers (hosts_at i word ++ crashes_at i)
 seldom-others i word =
-    others-append (hosts_at i word) (crashes_at i) (others_if (i % 500 == 499) _ ((refl, refl), tt)) (others_if (i % 10_000 == 9_999) _ ((refl, refl), ((refl, refl), tt)))
+    others-append (hosts_at i word) (crashes_at i) (others_if (i % 500 == 499) _ ((refl, refl), tt))
+    (others_if (i % 10_000 == 9_999) _ ((refl, refl), ((refl, refl), tt)))
 
 -- a Round is no call
 round-busy : (w : World) (b : Bool) (word : ℕ) → busy_in (told w (cond b (plain (event.Round word) ∷ []) [])) ≡ 0

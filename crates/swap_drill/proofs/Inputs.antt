@@ -48,18 +48,24 @@ unfolding turns
 turns-fine zero c w h = tt
 turns-fine (suc n) c w h = fine_if (waits w c) _ (fine-append (turn c) (turns n c (after w (turn c))) (turn-fine c h) (turns-fine n c (after w (turn c)) h))
 
-call-fine : (k : CallKind) (c : Caller) (p : Page) (byte : ℕ) → c.0 < 4 → p.0 < 1_024 → IsInput drill_sizes 3 (record { event = call_event k c p; page = call_page k byte })
+call-fine :
+    (k : CallKind) (c : Caller) (p : Page) (byte : ℕ) → c.0 < 4 → p.0 < 1_024
+    → IsInput drill_sizes 3 (record { event = call_event k c p; page = call_page k byte })
 call-fine kind.PageOut c p byte hc hp = ((hc, hp), length-replicate 64 byte)
 call-fine kind.PageIn c p byte hc hp = ((hc, hp), tt)
 
 calling-fine : (draw : Draw) (w : World) → draw.caller.0 < 4 → draw.page.0 < 1_024 → AreFine (calling draw w)
 unfolding calling
-calling-fine draw w hc hp = fine-append (turns 4 draw.caller w) _ (turns-fine 4 draw.caller w hc) (call-fine draw.kind draw.caller draw.page draw.byte hc hp, ((tt, tt), tt))
+calling-fine draw w hc hp =
+    fine-append (turns 4 draw.caller w) _ (turns-fine 4 draw.caller w hc) (call-fine draw.kind draw.caller draw.page draw.byte hc hp, ((tt, tt), tt))
 
 seldom-fine : (i word : ℕ) → AreFine (now_and_then i word)
 seldom-fine i word =
     fine-append (rounds_at i word) _ (fine_if (is_round_step i) (plain (event.Round word) ∷ []) ((tt, tt), tt))
-    (fine-append (hosts_at i word) (crashes_at i) (fine_if (i % 500 == 499) (plain (event.Host (lender (i / 500 % 3)) (word % 12) word) ∷ []) ((omega arith, tt), tt)) (fine_if (i % 10_000 == 9_999) (plain (event.Crash (lender (i / 10_000 % 3))) ∷ plain (event.Connect (lender (i / 10_000 % 3))) ∷ []) ((omega arith, tt), ((omega arith, tt), tt))))
+    (fine-append (hosts_at i word) (crashes_at i)
+    (fine_if (i % 500 == 499) (plain (event.Host (lender (i / 500 % 3)) (word % 12) word) ∷ []) ((omega arith, tt), tt))
+    (fine_if (i % 10_000 == 9_999) (plain (event.Crash (lender (i / 10_000 % 3))) ∷ plain (event.Connect (lender (i / 10_000 % 3))) ∷ [])
+    ((omega arith, tt), ((omega arith, tt), tt))))
 
 -- a world of the drill: the write in flight that was started first is of a page that there is
 ends-fine : (before : List Input) → AreFine before → AreFine (oldest_write_ends (after drill_start before).drive.disk.flights)
@@ -69,7 +75,13 @@ ends-fine before fine =
     let sound = reach_sound drill_sizes 3 (start drill_sizes drill_lenders) before fine (starts_sound drill_sizes drill_lenders (omega arith)) in
     let sizes : w.device.sizes ≡ drill_sizes = ap (λ (o : FabricOf). o.sizes) sound.agrees.is in
     let go : (o : Option Page) → oldest_write_in w.drive.disk.flights ≡ o → AreFine (write_ends o) =
-    λ o is. ends o (λ p e. subst (λ (s : Sizes). p.0 < pages_of s) sizes (oldest_within true (pages_of w.device.sizes) w.device.sizes.callers w.device.queue w.device.calls w.drive.disk.flights p sound.agrees.fits.disk.agrees.expected (is ∙ e)))
+    λ o is.
+    ends o
+    (λ p e.
+    subst (λ (s : Sizes). p.0 < pages_of s) sizes
+    (oldest_within true
+    (pages_of w.device.sizes) w.device.sizes.callers w.device.queue w.device.calls w.drive.disk.flights p sound.agrees.fits.disk.agrees.expected
+    (is ∙ e)))
     in
     fine_if (leb 4 (writes_in w.drive.disk.flights)) _ (go (oldest_write_in w.drive.disk.flights) refl)
   where
@@ -80,9 +92,11 @@ ends-fine before fine =
 following-fine : (i : ℕ) (draw : Draw) (before : List Input) → AreFine before → AreFine (following i draw (after drill_start before))
 unfolding following
 following-fine i draw before fine =
-    fine-append (oldest_write_ends (after drill_start before).drive.disk.flights) _ (ends-fine before fine) (fine-append all_heard _ heard-fine (seldom-fine i draw.word))
+    fine-append (oldest_write_ends (after drill_start before).drive.disk.flights) _ (ends-fine before fine)
+    (fine-append all_heard _ heard-fine (seldom-fine i draw.word))
 
-step-fine : (i : ℕ) (draw : Draw) (before : List Input) → draw.caller.0 < 4 → draw.page.0 < 1_024 → AreFine before → AreFine (step i draw (after drill_start before))
+step-fine :
+    (i : ℕ) (draw : Draw) (before : List Input) → draw.caller.0 < 4 → draw.page.0 < 1_024 → AreFine before → AreFine (step i draw (after drill_start before))
 unfolding step
 step-fine i draw before hc hp fine =
     let w : World = after drill_start before in

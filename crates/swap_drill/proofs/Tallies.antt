@@ -77,7 +77,9 @@ row_of None entry is = cc
 row_of (Some row) entry is = (row, refl, cc)
 
 -- the tally of one entry more
-pub tally_more : (H : History) (n : ℕ) (entry : Entry) → n < length H → option_map (λ (r : Row). r.entry) (named H n) ≡ Some entry → tally_of (oldest (n + 1) H) ≡ counted (tally_of (oldest n H)) entry.op
+pub tally_more :
+    (H : History) (n : ℕ) (entry : Entry) → n < length H → option_map (λ (r : Row). r.entry) (named H n) ≡ Some entry
+    → tally_of (oldest (n + 1) H) ≡ counted (tally_of (oldest n H)) entry.op
 tally_more H n entry within is =
     let found = row_of (named H n) entry is in
     let longer : oldest (suc n) H ≡ found.0 ∷ oldest n H = oldest_more H n found.0 found.1 within in

@@ -10,7 +10,9 @@ unfolding turns
 turns-suc n c w is = ap (λ b. cond b (turn c ++ turns n c (after w (turn c))) []) is
 
 -- one turn more
-pub turn_more : (n m : ℕ) (c : Caller) (w w' target : World) → n ≡ suc m → waits w c ≡ true → w' ≡ after w (turn c) → after w (turns n c w) ≡ target → after w' (turns m c w') ≡ target
+pub turn_more :
+    (n m : ℕ) (c : Caller) (w w' target : World) → n ≡ suc m → waits w c ≡ true → w' ≡ after w (turn c) → after w (turns n c w) ≡ target
+    → after w' (turns m c w') ≡ target
 turn_more n m c w w' target more is went whole =
     ap (λ v. after v (turns m c v)) went
     ∙ sym (ap (λ k. after w (turns k c w)) more ∙ ap (λ l. after w l) (turns-suc m c w is) ∙ after-append w (turn c) (turns m c (after w (turn c))))

@@ -26,7 +26,9 @@ unfolding drill_events
 events-are number calls = refl
 
 -- after the links were made
-pub first_step : (number calls : ℕ) (left : List Draw) (w : World) → left ≡ draws calls (seeded number) → w ≡ after drill_start connects → IsUnderWay number calls 0 left w 0 0
+pub first_step :
+    (number calls : ℕ) (left : List Draw) (w : World) → left ≡ draws calls (seeded number) → w ≡ after drill_start connects
+    → IsUnderWay number calls 0 left w 0 0
 first_step number calls left w drawn start =
     let v : World = after drill_start connects in
     let rest : List Input = steps 0 (draws calls (seeded number)) v in
@@ -46,7 +48,9 @@ first_step number calls left w drawn start =
     }))
 
 -- one step more
-pub next_step : (number calls i : ℕ) (draw : Draw) (later : List Draw) (w w' : World) (b r b' r' : ℕ) → IsUnderWay number calls i (draw ∷ later) w b r → w' ≡ after w (step i draw w)
+pub next_step :
+    (number calls i : ℕ) (draw : Draw) (later : List Draw) (w w' : World) (b r b' r' : ℕ) → IsUnderWay number calls i (draw ∷ later) w b r
+    → w' ≡ after w (step i draw w)
     → b' ≡ b + one_if (is_busy (seen_of_call draw w)) → r' ≡ r + one_if (is_round_step i) → IsUnderWay number calls (i + 1) later w' b' r'
 next_step number calls i draw later w w' b r b' r' way went busy rounds =
     let v : World = after w (step i draw w) in
@@ -71,7 +75,8 @@ last_world number calls i left w b r none way = sym (after-nil w) ∙ ap (λ l. 
 
 pub last_busy : (number calls i : ℕ) (left : List Draw) (w : World) (b r : ℕ) → left ≡ [] → IsUnderWay number calls i left w b r → b ≡ busy_of number calls
 last_busy number calls i left w b r none way =
-    let nothing : busy_in (told w (steps i left w)) ≡ 0 = ap (λ l. busy_in (told w l)) (ap (λ ds. steps i ds w) none ∙ steps-nil i w) ∙ ap busy_in (told-nil w) in
+    let nothing : busy_in (told w (steps i left w)) ≡ 0 =
+    ap (λ l. busy_in (told w l)) (ap (λ ds. steps i ds w) none ∙ steps-nil i w) ∙ ap busy_in (told-nil w) in
     omega (arith, nothing, way.refused)
 
 pub last_rounds : (number calls i : ℕ) (left : List Draw) (w : World) (b r : ℕ) → left ≡ [] → IsUnderWay number calls i left w b r → r ≡ rounds_of number calls

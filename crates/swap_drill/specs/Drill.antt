@@ -1,4 +1,5 @@
--- The drill: calls that a number draws, against three lenders, with ticks, evictions and crashes. Each event goes by the
+-- The drill: calls that a number draws, against three lenders, with ticks, evictions and crashes. Each event goes by
+-- the
 -- draws and the world so far, and all of them are made one after the other from the start.
 use Rattle.std.specs.Prelude.{ℕ, zero, suc, true, Bool, not, ◌+◌, ◌/◌, ◌%◌, ◌==◌, nat_le, if◌then◌else◌, List, [], ◌∷◌, ◌++◌, replicate, Option, None, Some}
 use Rattle.swap_base.specs.declared.Caller.{Caller}
@@ -109,7 +110,9 @@ abbrev pub hosts_at : ℕ → ℕ → List Input
 hosts_at i word = if i % 500 == 499 then plain (event.Host (lender (i / 500 % 3)) (word % 12) word) ∷ [] else []
 
 abbrev pub crashes_at : ℕ → List Input
-crashes_at i = if i % 10_000 == 9_999 then plain (event.Crash (lender (i / 10_000 % 3))) ∷ plain (event.Connect (lender (i / 10_000 % 3))) ∷ [] else []
+crashes_at i =
+    if i % 10_000 == 9_999
+    then plain (event.Crash (lender (i / 10_000 % 3))) ∷ plain (event.Connect (lender (i / 10_000 % 3))) ∷ [] else []
 
 abbrev pub now_and_then : ℕ → ℕ → List Input
 now_and_then i word = rounds_at i word ++ (hosts_at i word ++ crashes_at i)

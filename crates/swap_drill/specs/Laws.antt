@@ -16,7 +16,8 @@ use Rattle.swap_drill.specs.Drill.{drill_sizes, drill_lenders, drill_events, dri
 abbrev pub drill_made : ℕ → ℕ → List (Input × Seen)
 drill_made number calls = made_by [] (start drill_sizes drill_lenders) (drill_events number calls)
 
--- A drill's world is one of `reach`, by events that name what there is and hand in whole pages. So its history is one of
+-- A drill's world is one of `reach`, by events that name what there is and hand in whole pages. So its history is one
+-- of
 -- an array of pages that starts as zeros, and holds each caller's answered calls once, in its order; it is exactly the
 -- entries that were seen; the device, its disk and its links agree; and after each front of its events a set bit means
 -- that the remote copy is the newest, and a lent slab has one owner.
@@ -27,7 +28,8 @@ pub record KeepsHeadline (number calls : ℕ) : Type 0 where
   pub once : (c : Caller) → c.0 < 4 → AreAnsweredOnce c (drill_made number calls) (drill_world number calls).device
   pub entries : HoldsEntriesSeen (drill_made number calls) (history (drill_world number calls))
   pub agrees : Agrees (drill_world number calls)
-  pub lent : (n : ℕ) → let w : World = reach (start drill_sizes drill_lenders) (take n (drill_events number calls)) in IsLent w.device w.harbor
+  pub lent : (n : ℕ) → let w : World = reach (start drill_sizes drill_lenders) (take n (drill_events number calls)) in
+      IsLent w.device w.harbor
 
 -- so does each drill
 abbrev pub DrillsKeepTheHeadline : Type 0

@@ -21,5 +21,6 @@ pub record IsReady (calls events : ℕ) (w : WorldOf Drive Harbor) : Type 0 wher
 pub record Spends (calls events : ℕ) (before now : WorldOf Drive Harbor) : Type 0 where
   pub sizes : now.core.device.sizes ≡ before.core.device.sizes
   pub lenders : now.core.device.lenders ≡ before.core.device.lenders
-  pub entries : busy_callers now.core.device + before.core.spare ≤ busy_callers before.core.device + now.core.spare + calls
+  pub entries : busy_callers now.core.device + before.core.spare
+      ≤ busy_callers before.core.device + now.core.spare + calls
   pub log : before.log_spare ≤ now.log_spare + events

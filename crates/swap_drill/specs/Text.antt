@@ -9,10 +9,14 @@ abbrev pub drill_words : ℕ → ℕ → List (List ℕ)
 drill_words number calls = codes "drill" ∷ decimal number ∷ decimal calls ∷ []
 
 abbrev pub entries_words : DrillSummary → List (List ℕ)
-entries_words s = codes "entries" ∷ decimal s.entries ∷ codes "out" ∷ decimal s.outs ∷ codes "in" ∷ decimal s.ins ∷ codes "fault" ∷ decimal s.faults ∷ []
+entries_words s =
+    codes "entries" ∷ decimal s.entries ∷ codes "out" ∷ decimal s.outs ∷ codes "in" ∷ decimal s.ins ∷ codes "fault"
+    ∷ decimal s.faults ∷ []
 
 abbrev pub from_words : DrillSummary → List (List ℕ)
-from_words s = codes "from" ∷ codes "zero" ∷ decimal s.zero ∷ codes "queue" ∷ decimal s.queue ∷ codes "disk" ∷ decimal s.disk ∷ codes "lender" ∷ decimal s.lender ∷ []
+from_words s =
+    codes "from" ∷ codes "zero" ∷ decimal s.zero ∷ codes "queue" ∷ decimal s.queue ∷ codes "disk" ∷ decimal s.disk
+    ∷ codes "lender" ∷ decimal s.lender ∷ []
 
 abbrev pub busy_words : DrillSummary → List (List ℕ)
 busy_words s = codes "busy" ∷ decimal s.busy ∷ codes "waiting" ∷ decimal s.waiting ∷ []
@@ -29,7 +33,8 @@ line_of words = ended (spaced words)
 -- six lines, each ended by a line feed
 abbrev pub summary_text : ℕ → ℕ → DrillSummary → List ℕ
 summary_text number calls s =
-    flat_map line_of (drill_words number calls ∷ entries_words s ∷ from_words s ∷ busy_words s ∷ rounds_words s ∷ end_words s ∷ [])
+    flat_map line_of
+    (drill_words number calls ∷ entries_words s ∷ from_words s ∷ busy_words s ∷ rounds_words s ∷ end_words s ∷ [])
 
 -- what is printed of a drill
 abbrev pub drill_text : ℕ → ℕ → List ℕ

@@ -20,9 +20,10 @@ pub use text::put_summary;
 /// How many calls a drill has at most.
 pub const MOST_CALLS: u32 = 100_000;
 
-/// Whatever the number and however many the calls, a drill's history is one of an array of pages that starts as zeros, and
-/// holds each caller's answered calls once, in its order; it is exactly the entries that were seen. After each front of its
-/// events a set bit means that the remote copy is the newest, and a lent slab has one owner. The drill's world is one of
+/// Whatever the number and however many the calls, a drill's history is one of an array of pages
+/// that starts as zeros, and holds each caller's answered calls once, in its order; it is exactly
+/// the entries that were seen. After each front of its events a set bit means that the remote copy
+/// is the newest, and a lent slab has one owner. The drill's world is one of
 /// `reach`, so each other law over the disk and the lenders in memory holds of it too.
 pub fn drills_keep_the_headline()
     ensures { DrillsKeepTheHeadline }

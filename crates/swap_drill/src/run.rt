@@ -29,7 +29,8 @@ fn lender() -> LenderSpec
     LenderSpec::checked(8, 2, 1).unwrap()
 }
 
-/// The world before its first event, with room for so many calls. All memory of the drill is taken here.
+/// The world before its first event, with room for so many calls. All memory of the drill is taken
+/// here.
 fn make_world(alloc: Global, calls: u32) -> Result<World<MemDisk, Harbor>, NoMemory>
     requires { calls ≤ MOST_CALLS }
     ensures world { IfOk result (λ w. world_in w ≡ drill_start) }
@@ -89,8 +90,8 @@ fn make_events(
     Counts { busy, rounds }
 }
 
-/// Runs the drill of a number, with so many drawn calls against three lenders in memory. The same number
-/// gives the same summary. All memory is taken before its first event.
+/// Runs the drill of a number, with so many drawn calls against three lenders in memory. The same
+/// number gives the same summary. All memory is taken before its first event.
 pub fn drill(alloc: Global, number: u64, calls: u32) -> Result<DrillSummary, NoMemory>
     requires { calls ≤ MOST_CALLS }
     ensures { IfOk result (λ summary. summary ≡ summary_of number calls) }

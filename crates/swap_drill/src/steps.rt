@@ -25,7 +25,8 @@ fn happen(world: &mut World<MemDisk, Harbor>, event: Event, page: &mut [u8]) -> 
     requires ready { IsReady (is_new_call event) 1 world.old }
     requires range { IsInRange drill_sizes 3 event }
     requires page { length page.old ≡ PAGE_BYTES }
-    ensures next { next (world_in world.old) (record { event = event; page = page.old }) ≡ record { world = world_in world.new; seen = result } }
+    ensures next { next (world_in world.old) (record { event = event; page = page.old })
+        ≡ record { world = world_in world.new; seen = result } }
     ensures spends { Spends (is_new_call event) 1 world.old world.new }
 {
     steps_are_next();
@@ -99,7 +100,8 @@ fn take_turns(world: &mut World<MemDisk, Harbor>, caller: Caller, page: &mut [u8
     requires caller { caller.0 < 4 }
     requires ready { IsReady 0 32 world.old }
     requires page { length page.old ≡ PAGE_BYTES }
-    ensures reach { world_in world.new ≡ after (world_in world.old) (turns 4 caller (world_in world.old)) }
+    ensures reach { world_in world.new
+        ≡ after (world_in world.old) (turns 4 caller (world_in world.old)) }
     ensures spends { Spends 0 32 world.old world.new }
 {
     let mut taken: u32 = 0;
@@ -115,7 +117,8 @@ fn make_call(world: &mut World<MemDisk, Harbor>, draw: Draw, page: &mut [u8]) ->
     requires page_no { draw.page.0 < 1_024 }
     requires ready { IsReady 1 1 world.old }
     requires page { length page.old ≡ PAGE_BYTES }
-    ensures next { next (world_in world.old) (call draw) ≡ record { world = world_in world.new; seen = result } }
+    ensures next { next (world_in world.old) (call draw)
+        ≡ record { world = world_in world.new; seen = result } }
     ensures spends { Spends 1 1 world.old world.new }
 {
     let Draw {
@@ -154,7 +157,8 @@ fn call_by(world: &mut World<MemDisk, Harbor>, draw: Draw, page: &mut [u8]) -> S
     requires page_no { draw.page.0 < 1_024 }
     requires ready { IsReady 1 34 world.old }
     requires page { length page.old ≡ PAGE_BYTES }
-    ensures reach { world_in world.new ≡ after (world_in world.old) (calling draw (world_in world.old)) }
+    ensures reach { world_in world.new
+        ≡ after (world_in world.old) (calling draw (world_in world.old)) }
     ensures seen { result ≡ seen_of_call draw (world_in world.old) }
     ensures spends { Spends 1 34 world.old world.new }
 {
@@ -168,7 +172,8 @@ fn call_by(world: &mut World<MemDisk, Harbor>, draw: Draw, page: &mut [u8]) -> S
 fn end_oldest_write(world: &mut World<MemDisk, Harbor>, page: &mut [u8])
     requires ready { IsReady 0 1 world.old }
     requires page { length page.old ≡ PAGE_BYTES }
-    ensures reach { world_in world.new ≡ after (world_in world.old) (oldest_write_ends world.old.core.disk.disk.flights) }
+    ensures reach { world_in world.new
+        ≡ after (world_in world.old) (oldest_write_ends world.old.core.disk.disk.flights) }
     ensures spends { Spends 0 1 world.old world.new }
 {
     world.device().agrees();
@@ -232,7 +237,8 @@ fn crash(world: &mut World<MemDisk, Harbor>, i: u32, page: &mut [u8])
 fn follow(world: &mut World<MemDisk, Harbor>, i: u32, draw: Draw, page: &mut [u8])
     requires ready { IsReady 0 11 world.old }
     requires page { length page.old ≡ PAGE_BYTES }
-    ensures reach { world_in world.new ≡ after (world_in world.old) (following i draw (world_in world.old)) }
+    ensures reach { world_in world.new
+        ≡ after (world_in world.old) (following i draw (world_in world.old)) }
     ensures spends { Spends 0 11 world.old world.new }
 {
     end_oldest_write(world, page);
@@ -253,7 +259,8 @@ pub(crate) fn make_step(
     requires page_no { draw.page.0 < 1_024 }
     requires ready { IsReady 1 45 world.old }
     requires page { length page.old ≡ PAGE_BYTES }
-    ensures reach { world_in world.new ≡ after (world_in world.old) (step i draw (world_in world.old)) }
+    ensures reach { world_in world.new
+        ≡ after (world_in world.old) (step i draw (world_in world.old)) }
     ensures seen { result ≡ seen_of_call draw (world_in world.old) }
     ensures spends { Spends 1 45 world.old world.new }
 {

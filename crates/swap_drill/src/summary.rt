@@ -12,8 +12,9 @@ use swap_disk::MemDisk;
 use swap_link::Harbor;
 use swap_world::World;
 
-/// A drill's entries by kind, its page-ins by where their page came from, how many calls were answered
-/// Busy, how many callers wait at the end, how many Rounds were made, and how many slabs are mapped.
+/// A drill's entries by kind, its page-ins by where their page came from, how many calls were
+/// answered Busy, how many callers wait at the end, how many Rounds were made, and how many slabs
+/// are mapped.
 #[derive(Clone, Copy, Debug, PartialEq, Eq)]
 pub struct DrillSummary {
     pub entries: u32,

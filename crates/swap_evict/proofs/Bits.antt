@@ -27,7 +27,9 @@ pub has-not : (a i : ℕ) → a < 2 ^ 64 → i < 64 → has (bit_not w64 a) i �
 has-not a i small within = ap (λ x. eqb x 1) (bit_at_not w64 a i small within) ∙ other_bit (bit_at a i) (bit_at-lt a i)
 
 -- the word of the slots that are waited for
-pub has-waiting : (asked answered gone i : ℕ) → answered < 2 ^ 64 → gone < 2 ^ 64 → i < 64 → has (bit_and (bit_and asked (bit_not w64 answered)) (bit_not w64 gone)) i ≡ (has asked i && not (has answered i) && not (has gone i))
+pub has-waiting :
+    (asked answered gone i : ℕ) → answered < 2 ^ 64 → gone < 2 ^ 64 → i < 64
+    → has (bit_and (bit_and asked (bit_not w64 answered)) (bit_not w64 gone)) i ≡ (has asked i && not (has answered i) && not (has gone i))
 has-waiting asked answered gone i p q within =
     has-and (bit_and asked (bit_not w64 answered)) (bit_not w64 gone) i
     ∙ ap₂ (λ a b. a && b) (has-and asked (bit_not w64 answered) i ∙ ap (λ b. has asked i && b) (has-not answered i p within)) (has-not gone i q within)
@@ -41,12 +43,18 @@ some_slot set small some =
 pub no_slot : (set slot : ℕ) → set ≡ 0 → has set slot ≡ false
 no_slot set slot none = ap (λ s. has s slot) none ∙ ap (λ b. eqb b 1) (bit_at-zero slot)
 
-pub open_from : (r : Round) → r.asked < 2 ^ 64 → r.answered < 2 ^ 64 → r.gone < 2 ^ 64 → (bit_and (bit_and r.asked (bit_not w64 r.answered)) (bit_not w64 r.gone) ≡ 0 → ⊥) → IsOpen r
+pub open_from :
+    (r : Round) → r.asked < 2 ^ 64 → r.answered < 2 ^ 64 → r.gone < 2 ^ 64 → (bit_and (bit_and r.asked (bit_not w64 r.answered)) (bit_not w64 r.gone) ≡ 0 → ⊥)
+    → IsOpen r
 open_from r a p q some =
-    let found = some_slot (bit_and (bit_and r.asked (bit_not w64 r.answered)) (bit_not w64 r.gone)) (omega (arith, and_le_l (bit_and r.asked (bit_not w64 r.answered)) (bit_not w64 r.gone), and_le_l r.asked (bit_not w64 r.answered))) some in
+    let found =
+    some_slot (bit_and (bit_and r.asked (bit_not w64 r.answered)) (bit_not w64 r.gone))
+    (omega (arith, and_le_l (bit_and r.asked (bit_not w64 r.answered)) (bit_not w64 r.gone), and_le_l r.asked (bit_not w64 r.answered))) some in
     (found.0, found.1, sym (has-waiting r.asked r.answered r.gone found.0 p q found.1) ∙ found.2)
 
-pub evicted_from : (r : Round) (evicted count : ℕ) → r.answered < 2 ^ 64 → r.gone < 2 ^ 64 → bit_and (bit_and r.asked (bit_not w64 r.answered)) (bit_not w64 r.gone) ≡ 0 → count ≡ min r.count (size (standing r)) → IsLeast r.values (standing r) count evicted → IsEvicted r evicted
+pub evicted_from :
+    (r : Round) (evicted count : ℕ) → r.answered < 2 ^ 64 → r.gone < 2 ^ 64 → bit_and (bit_and r.asked (bit_not w64 r.answered)) (bit_not w64 r.gone) ≡ 0
+    → count ≡ min r.count (size (standing r)) → IsLeast r.values (standing r) count evicted → IsEvicted r evicted
 evicted_from r evicted count p q none is least = record {
   closed = λ slot within. sym (has-waiting r.asked r.answered r.gone slot p q within) ∙ no_slot _ slot none;
   least = subst (λ n. IsLeast r.values (standing r) n evicted) is least;
@@ -56,7 +64,9 @@ pub none_ready : (r : Round) → (waiting r ≡ 0 → ⊥) → None ≡ ready r
 none_ready r some =
     sym (ap (λ b. cond b (Some (least_of r.values (standing r) (min r.count (size (standing r))))) None) (ne_eqb (waiting r) 0 some))
 
-pub some_ready : (r : Round) (evicted count : ℕ) → waiting r ≡ 0 → count ≡ min r.count (size (standing r)) → evicted ≡ least_of r.values (standing r) count → Some evicted ≡ ready r
+pub some_ready :
+    (r : Round) (evicted count : ℕ) → waiting r ≡ 0 → count ≡ min r.count (size (standing r)) → evicted ≡ least_of r.values (standing r) count
+    → Some evicted ≡ ready r
 some_ready r evicted count none is least =
     ap Some (least ∙ ap (λ n. least_of r.values (standing r) n) is)
     ∙ sym (ap (λ b. cond b (Some (least_of r.values (standing r) (min r.count (size (standing r))))) None) (eq-eqb (waiting r) 0 none))

@@ -1,4 +1,5 @@
-//! A round of batch eviction: more slots are asked for their activity than are evicted, and the least active go.
+//! A round of batch eviction: more slots are asked for their activity than are evicted, and the
+//! least active go.
 #![tactic(auto)]
 
 ghost use Rattle.std.specs.Prelude.{◌≡◌, ◌<◌, IsTrue, MatchOption};
@@ -23,7 +24,14 @@ impl Model for EvictRound {
 
     ghost Value = { Round };
 
-    ghost view = { λ r. record { asked = r.asked; count = r.count; answered = r.answered; gone = r.gone; values = r.values } };
+    ghost view = { λ r.
+        record {
+          asked = r.asked;
+          count = r.count;
+          answered = r.answered;
+          gone = r.gone;
+          values = r.values;
+        } };
 
     ghost invariant = { λ r. (r.asked < 2 ^ 64) × (r.answered < 2 ^ 64) × (r.gone < 2 ^ 64) };
 }
@@ -67,11 +75,12 @@ impl EvictRound {
         has_slot(self.asked, slot) && !has_slot(self.answered, slot) && !has_slot(self.gone, slot)
     }
 
-    /// The slots to evict: the least active of those that answered and aren't gone. None exactly where an answer is waited
-    /// for.
+    /// The slots to evict: the least active of those that answered and aren't gone. None exactly
+    /// where an answer is waited for.
     pub fn ready(&self) -> Option<u64>
         ensures value { result ≡ ready self.now }
-        ensures evicted { MatchOption result (IsOpen self.now) (λ evicted. IsEvicted self.now evicted) }
+        ensures evicted { MatchOption result (IsOpen self.now)
+            (λ evicted. IsEvicted self.now evicted) }
     {
         if self.asked & !self.answered & !self.gone != 0 {
             return None;

@@ -171,7 +171,8 @@ module _ {D F : Type 0} (disk : DiskMeaning D) (net : FabricMeaning F) (o : Play
   TextEnds (Err refused) (ending.Refused r) = (r ≡ refused) × Untouched
   TextEnds (Err refused) _ = ⊥
 
--- Where a trace for so many addresses is told and keeps the limit, and neither source, output nor host fails, the call ends
+-- Where a trace for so many addresses is told and keeps the limit, and neither source, output nor host fails, the call
+-- ends
 -- with a played trace's transcript, or for want of memory.
 abbrev pub HostedCompletes : {D F : Type 0} → DiskMeaning D → FabricMeaning F → Type 0
 HostedCompletes {D} {F} disk net =

@@ -47,7 +47,10 @@ where
     G: Gate,
     R: Threads + Wait + Sync,
     requires trace { IsTrace trace.now }
-    ensures ends { DiskEnds H.Disk.DiskPort H.Net.Fabric (asked options.now) (written_to K.Sink out.old out.new) (disks_of H.Host host.old host.new) (nets_of H.Host host.old host.new) (HostRose H.Host host.old host.new) trace.now (asked options.now).disk result }
+    ensures ends { DiskEnds H.Disk.DiskPort H.Net.Fabric (asked options.now)
+        (written_to K.Sink out.old out.new) (disks_of H.Host host.old host.new)
+        (nets_of H.Host host.old host.new) (HostRose H.Host host.old host.new) trace.now
+        (asked options.now).disk result }
     ensures later { K.faults out.old ≤ K.faults out.new }
     ensures host { H.faults host.old ≤ H.faults host.new }
     ensures doors { H.doors host.new ≡ H.doors host.old }
@@ -78,7 +81,10 @@ where
     R: Threads + Wait + Sync,
     requires text { length text.now ≤ TEXT_LIMIT }
     requires lenders { IfSome options.now.tcp (λ list. length list.items ≤ 8) }
-    ensures ends { TextEnds H.Disk.DiskPort H.Net.Fabric (asked options.now) (written_to K.Sink out.old out.new) (disks_of H.Host host.old host.new) (nets_of H.Host host.old host.new) (HostRose H.Host host.old host.new) (trace_of (reached (asked options.now)) text.now) result }
+    ensures ends { TextEnds H.Disk.DiskPort H.Net.Fabric (asked options.now)
+        (written_to K.Sink out.old out.new) (disks_of H.Host host.old host.new)
+        (nets_of H.Host host.old host.new) (HostRose H.Host host.old host.new)
+        (trace_of (reached (asked options.now)) text.now) result }
     ensures later { K.faults out.old ≤ K.faults out.new }
     ensures host { H.faults host.old ≤ H.faults host.new }
     ensures doors { H.doors host.new ≡ H.doors host.old }
@@ -93,12 +99,14 @@ where
     }
 }
 
-/// Reads a trace, plays it by its options, and writes the transcript of the log. Where a path is given the disk is the
-/// host's at that path, where addresses are given the lenders are reached there; else they are in memory, and the host isn't
-/// asked. The order is: the read and its length as they come, the lines, memory, the host, the run, the write. What the host
-/// gave goes back as the run left it, or is dropped where memory runs out.
+/// Reads a trace, plays it by its options, and writes the transcript of the log. Where a path is
+/// given the disk is the host's at that path, where addresses are given the lenders are reached
+/// there; else they are in memory, and the host isn't asked. The order is: the read and its length
+/// as they come, the lines, memory, the host, the run, the write. What the host gave goes back as
+/// the run left it, or is dropped where memory runs out.
 ///
-/// It waits: its promise holds if it returns. `HostFailed` comes only where the host's count rose in this call.
+/// It waits: its promise holds if it returns. `HostFailed` comes only where the host's count rose
+/// in this call.
 pub fn play_hosted<S, K, H, G, R>(
     rt: &R,
     alloc: Global,
@@ -117,7 +125,10 @@ where
     G: Gate,
     R: Threads + Wait + Sync,
     requires lenders { IfSome options.now.tcp (λ list. length list.items ≤ 8) }
-    ensures ends { HostedEnds H.Disk.DiskPort H.Net.Fabric (asked options.now) (written_to K.Sink out.old out.new) (disks_of H.Host host.old host.new) (nets_of H.Host host.old host.new) (HostRose H.Host host.old host.new) (read_of S.Source source.old source.new) result }
+    ensures ends { HostedEnds H.Disk.DiskPort H.Net.Fabric (asked options.now)
+        (written_to K.Sink out.old out.new) (disks_of H.Host host.old host.new)
+        (nets_of H.Host host.old host.new) (HostRose H.Host host.old host.new)
+        (read_of S.Source source.old source.new) result }
     ensures later { K.faults out.old ≤ K.faults out.new }
     ensures host { H.faults host.old ≤ H.faults host.new }
     ensures doors { H.doors host.new ≡ H.doors host.old }

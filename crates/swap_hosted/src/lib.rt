@@ -11,8 +11,9 @@ pub use hosted::play_hosted;
 use swap_disk::DiskPort;
 use swap_wire::Fabric;
 
-/// A trace that is told and within the limit, for as many lenders as addresses are given, of which neither the source, the
-/// output nor the host fails, is played and its transcript written, or memory is wanted.
+/// A trace that is told and within the limit, for as many lenders as addresses are given, of which
+/// neither the source, the output nor the host fails, is played and its transcript written, or
+/// memory is wanted.
 pub fn hosted_completes<D: DiskPort, F: Fabric>()
     ensures { HostedCompletes D.DiskPort F.Fabric }
 {}

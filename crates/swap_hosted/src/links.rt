@@ -44,7 +44,8 @@ where
     R: Threads + Wait + Sync,
     requires trace { IsTrace trace.now }
     requires disk { IsBlank trace.now.sizes (D.means disk) }
-    ensures ends { OverHarbor D.DiskPort trace.now number disk (written_to K.Sink out.old out.new) result.0 result.1 }
+    ensures ends { OverHarbor D.DiskPort trace.now number disk
+        (written_to K.Sink out.old out.new) result.0 result.1 }
     ensures later { K.faults out.old ≤ K.faults out.new }
 {
     let script = trace.script();
@@ -58,9 +59,10 @@ where
     (ending, first_of(back))
 }
 
-// Plays over a disk, and lenders at addresses that the host reaches; the disk comes back, and the links go back to the host.
-// That a trace has as many lenders as there are addresses is known of its text; where it isn't so, which no code leads to,
-// that counts as want of memory.
+// Plays over a disk, and lenders at addresses that the host reaches; the disk comes back, and the
+// links go back to the host.
+// That a trace has as many lenders as there are addresses is known of its text; where it isn't so,
+// which no code leads to, that counts as want of memory.
 pub(crate) fn over_net<D, K, H, G, R>(
     rt: &R,
     alloc: Global,
@@ -81,7 +83,9 @@ where
     R: Threads + Wait + Sync,
     requires trace { IsTrace trace.now }
     requires disk { IsBlank trace.now.sizes (D.means disk) }
-    ensures ends { OverNet D.DiskPort H.Net.Fabric trace.now number disk (written_to K.Sink out.old out.new) addresses.now (nets_of H.Host host.old host.new) (HostRose H.Host host.old host.new) result.0 result.1 }
+    ensures ends { OverNet D.DiskPort H.Net.Fabric trace.now number disk
+        (written_to K.Sink out.old out.new) addresses.now (nets_of H.Host host.old host.new)
+        (HostRose H.Host host.old host.new) result.0 result.1 }
     ensures later { K.faults out.old ≤ K.faults out.new }
     ensures host { H.faults host.old ≤ H.faults host.new }
     ensures disks { H.disks host.new ≡ H.disks host.old }

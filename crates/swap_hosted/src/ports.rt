@@ -1,4 +1,5 @@
-// A trace by its options: a disk in a file of a host or in memory, lenders at addresses or in memory.
+// A trace by its options: a disk in a file of a host or in memory, lenders at addresses or in
+// memory.
 ghost use Rattle.std.specs.Prelude.{◌≡◌, ◌≤◌};
 ghost use Rattle.std.specs.Option.{option_map};
 ghost use Rattle.swap_table.specs.Fits.{IsBlank};
@@ -38,7 +39,9 @@ where
     R: Threads + Wait + Sync,
     requires trace { IsTrace trace.now }
     requires disk { IsBlank trace.now.sizes (D.means disk) }
-    ensures ends { LinksEnd H.Net.Fabric trace.now number (written_to K.Sink out.old out.new) (nets_of H.Host host.old host.new) (HostRose H.Host host.old host.new) D.DiskPort disk (option_map (λ list. list.now) tcp.entry) result.0 result.1 }
+    ensures ends { LinksEnd H.Net.Fabric trace.now number (written_to K.Sink out.old out.new)
+        (nets_of H.Host host.old host.new) (HostRose H.Host host.old host.new) D.DiskPort disk
+        (option_map (λ list. list.now) tcp.entry) result.0 result.1 }
     ensures later { K.faults out.old ≤ K.faults out.new }
     ensures host { H.faults host.old ≤ H.faults host.new }
     ensures disks { H.disks host.new ≡ H.disks host.old }
@@ -68,7 +71,9 @@ where
     G: Gate,
     R: Threads + Wait + Sync,
     requires trace { IsTrace trace.now }
-    ensures ends { OverMemory H.Net.Fabric trace.now number (written_to K.Sink out.old out.new) (option_map (λ list. list.now) tcp.entry) (nets_of H.Host host.old host.new) (HostRose H.Host host.old host.new) result }
+    ensures ends { OverMemory H.Net.Fabric trace.now number (written_to K.Sink out.old out.new)
+        (option_map (λ list. list.now) tcp.entry) (nets_of H.Host host.old host.new)
+        (HostRose H.Host host.old host.new) result }
     ensures later { K.faults out.old ≤ K.faults out.new }
     ensures host { H.faults host.old ≤ H.faults host.new }
     ensures disks { H.disks host.new ≡ H.disks host.old }
@@ -101,7 +106,10 @@ where
     G: Gate,
     R: Threads + Wait + Sync,
     requires trace { IsTrace trace.now }
-    ensures ends { OverFile H.Disk.DiskPort H.Net.Fabric trace.now number (written_to K.Sink out.old out.new) (option_map (λ list. list.now) tcp.entry) (disks_of H.Host host.old host.new) (nets_of H.Host host.old host.new) (HostRose H.Host host.old host.new) path.now result }
+    ensures ends { OverFile H.Disk.DiskPort H.Net.Fabric trace.now number
+        (written_to K.Sink out.old out.new)
+        (option_map (λ list. list.now) tcp.entry) (disks_of H.Host host.old host.new)
+        (nets_of H.Host host.old host.new) (HostRose H.Host host.old host.new) path.now result }
     ensures later { K.faults out.old ≤ K.faults out.new }
     ensures host { H.faults host.old ≤ H.faults host.new }
     ensures doors { H.doors host.new ≡ H.doors host.old }

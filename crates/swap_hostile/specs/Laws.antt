@@ -13,7 +13,8 @@ use Rattle.swap_world.specs.Runs.{IsRun}
 
 -- After every run of events over a disk that was blank and a fabric of these sizes and so many lenders: the history is
 -- ordered, each page-in from zeros or the queue is faithful, from the disk too where it tells its blocks, from a lender
--- as far as the fabric's answers tell, each caller's calls were answered once, in order, and each failure has its cause.
+-- as far as the fabric's answers tell, each caller's calls were answered once, in order, and each failure has its
+-- cause.
 abbrev pub HoldsOver : {D F : Type 0} → (D → Port) → (D → (c : DiskCall) → DiskAnswer c → D → Type 0)
     → (F → FabricOf) → (F → (c : FabricCall) → FabricAnswer c → F → Type 0) → (List ℕ → List ℕ → Type 0) → Type 0
 HoldsOver {D} {F} means disk_moves of moves answers =

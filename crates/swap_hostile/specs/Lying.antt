@@ -6,7 +6,8 @@ use Rattle.swap_disk.specs.Disk.{one_more}
 use Rattle.swap_link.specs.Harbor as harbor
 use Rattle.swap_link.specs.Harbor.{Harbor, of_harbor, lender_of, IsAsked}
 
--- the lenders in memory behind it, the message that it says, in place of which, counted from 0 over all lenders, and how
+-- the lenders in memory behind it, the message that it says, in place of which, counted from 0 over all lenders, and
+-- how
 -- many have come
 pub record Lying : Type 0 where
   pub harbor : Harbor
@@ -48,7 +49,10 @@ came_after f c answer = f.came
 
 -- what it answers to a call, and the fabric after it: the call is made of the lenders behind it
 abbrev pub ask : Lying → (c : FabricCall) → FabricAnswer c × Lying
-ask f c = (answered f c (harbor.ask f.harbor c).0, record f { harbor = (harbor.ask f.harbor c).1; came = came_after f c (harbor.ask f.harbor c).0 })
+ask f c = (
+  answered f c (harbor.ask f.harbor c).0,
+  record f { harbor = (harbor.ask f.harbor c).1; came = came_after f c (harbor.ask f.harbor c).0 },
+)
 
 -- from a fabric, a call and its answer to the fabric after it
 abbrev pub Moves : Lying → (c : FabricCall) → FabricAnswer c → Lying → Type 0

@@ -23,7 +23,8 @@ caller = record { 0 = 1 }
 
 -- a page of aa goes to the disk, and is asked for
 abbrev both_started : List ℕ → Silent
-both_started failing = (ask (ask (new_silent sizes failing) (StartWrite page (replicate 8 170))).1 (StartRead caller page)).1
+both_started failing =
+    (ask (ask (new_silent sizes failing) (StartWrite page (replicate 8 170))).1 (StartRead caller page)).1
 
 -- what the first take gives, and the second
 abbrev first : List ℕ → Option Taken
@@ -48,7 +49,9 @@ ListedFails = (first (0 ∷ []) ≡ written false) × (second (0 ∷ []) ≡ rea
 
 -- nobody lets an operation end, and where none is in flight none is taken
 abbrev pub NobodyLetsEnd : Type 0
-NobodyLetsEnd = ((ask (both_started []) (LetFinish (which.Write page) true)).0 ≡ false) × ((ask (new_silent sizes []) TakeDone).0 ≡ None)
+NobodyLetsEnd =
+    ((ask (both_started []) (LetFinish (which.Write page) true)).0 ≡ false)
+    × ((ask (new_silent sizes []) TakeDone).0 ≡ None)
 
 -- a read of aa gives 55
 abbrev pub AnotherPageIsGiven : Type 0
@@ -56,7 +59,8 @@ AnotherPageIsGiven = swapped (second []) ≡ read (replicate 8 85)
 
 -- a fabric that says a page is there, in place of the second message
 abbrev lying : ℕ → Lying
-lying came = record (new_lying (record { sizes = sizes; channels = [] }) (msg.PageIs (record { 0 = 0 }) 3) 1) { came = came }
+lying came =
+    record (new_lying (record { sizes = sizes; channels = [] }) (msg.PageIs (record { 0 = 0 }) 3) 1) { came = came }
 
 abbrev evict : Parcel
 evict = parcel_of (msg.Evict (record { 0 = 0 })) []
@@ -64,5 +68,6 @@ evict = parcel_of (msg.Evict (record { 0 = 0 })) []
 -- it lies in place of that one alone, and only where a message came
 abbrev pub LiesOnce : Type 0
 LiesOnce =
-    (told (lying 0) (Brought evict) ≡ Brought evict) × (told (lying 1) (Brought evict) ≡ Brought (parcel_of (msg.PageIs (record { 0 = 0 }) 3) (replicate 8 255)))
+    (told (lying 0) (Brought evict) ≡ Brought evict)
+    × (told (lying 1) (Brought evict) ≡ Brought (parcel_of (msg.PageIs (record { 0 = 0 }) 3) (replicate 8 255)))
     × (told (lying 2) (Brought evict) ≡ Brought evict) × (told (lying 1) LinkLost ≡ LinkLost)

@@ -22,7 +22,8 @@ unwritten (Read caller page) = Read caller page
 
 -- a port, but for its contents
 abbrev pub hidden : Port → Port
-hidden p = record { sizes = p.sizes; flights = map unwritten p.flights; blocks = None; finished = None; faults = p.faults }
+hidden p =
+    record { sizes = p.sizes; flights = map unwritten p.flights; blocks = None; finished = None; faults = p.faults }
 
 abbrev pub port_of : Silent → Port
 port_of d = hidden (drive.port_of d.drive)
@@ -42,7 +43,10 @@ ended_drive d w = (drive.ask d.drive (LetFinish w (is_well d))).1
 -- what a take gives where this operation is the oldest, and the disk after it
 abbrev pub take_oldest : Silent → Option DiskWhich → Option Taken × Silent
 take_oldest d None = (None, d)
-take_oldest d (Some w) = ((drive.ask (ended_drive d w) TakeDone).0, record d { drive = (drive.ask (ended_drive d w) TakeDone).1; ended = one_more d.ended })
+take_oldest d (Some w) = (
+  (drive.ask (ended_drive d w) TakeDone).0,
+  record d { drive = (drive.ask (ended_drive d w) TakeDone).1; ended = one_more d.ended },
+)
 
 -- what it answers to a call, and the disk after it: it lets nobody else end an operation
 abbrev pub ask : Silent → (c : DiskCall) → DiskAnswer c × Silent

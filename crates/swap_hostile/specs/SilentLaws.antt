@@ -17,21 +17,31 @@ same_name : (w : DiskWhich) (f : Flight) → is_flight_of w (unwritten f) ≡ is
 same_name w (Write page bytes) = refl
 same_name w (Read caller page) = refl
 
-pub found_hidden : (w : DiskWhich) (fs : List Flight) → find (is_flight_of w) (map unwritten fs) ≡ option_map unwritten (find (is_flight_of w) fs)
+pub found_hidden :
+    (w : DiskWhich) (fs : List Flight)
+    → find (is_flight_of w) (map unwritten fs) ≡ option_map unwritten (find (is_flight_of w) fs)
 found_hidden w [] = refl
 found_hidden w (f ∷ fs) =
-    ap (λ b. cond b (Some (unwritten f)) (find (is_flight_of w) (map unwritten fs))) (same_name w f) ∙ go (is_flight_of w f) (found_hidden w fs)
+    ap (λ b. cond b (Some (unwritten f)) (find (is_flight_of w) (map unwritten fs))) (same_name w f)
+    ∙ go (is_flight_of w f) (found_hidden w fs)
   where
-    go : (b : Bool) → find (is_flight_of w) (map unwritten fs) ≡ option_map unwritten (find (is_flight_of w) fs) → cond b (Some (unwritten f)) (find (is_flight_of w) (map unwritten fs)) ≡ option_map unwritten (cond b (Some f) (find (is_flight_of w) fs))
+    go :
+        (b : Bool) → find (is_flight_of w) (map unwritten fs) ≡ option_map unwritten (find (is_flight_of w) fs)
+        → cond b (Some (unwritten f)) (find (is_flight_of w) (map unwritten fs))
+        ≡ option_map unwritten (cond b (Some f) (find (is_flight_of w) fs))
     go true rest = refl
     go false rest = rest
 
 without_hidden : (w : DiskWhich) (fs : List Flight) → map unwritten (without w fs) ≡ without w (map unwritten fs)
 without_hidden w [] = refl
 without_hidden w (f ∷ fs) =
-    go (is_flight_of w f) (without_hidden w fs) ∙ ap (λ b. cond b (map unwritten fs) (unwritten f ∷ without w (map unwritten fs))) (sym (same_name w f))
+    go (is_flight_of w f) (without_hidden w fs)
+    ∙ ap (λ b. cond b (map unwritten fs) (unwritten f ∷ without w (map unwritten fs))) (sym (same_name w f))
   where
-    go : (b : Bool) → map unwritten (without w fs) ≡ without w (map unwritten fs) → map unwritten (cond b fs (f ∷ without w fs)) ≡ cond b (map unwritten fs) (unwritten f ∷ without w (map unwritten fs))
+    go :
+        (b : Bool) → map unwritten (without w fs) ≡ without w (map unwritten fs)
+        → map unwritten (cond b fs (f ∷ without w fs))
+        ≡ cond b (map unwritten fs) (unwritten f ∷ without w (map unwritten fs))
     go true rest = refl
     go false rest = ap (λ gs. unwritten f ∷ gs) rest
 
@@ -40,7 +50,9 @@ same_done (Write page bytes) ok = refl
 same_done (Read caller page) ok = refl
 
 -- where nothing of that name is in flight as the port tells it, nothing is
-pub free_behind : (w : DiskWhich) (fs : List Flight) → find (is_flight_of w) (map unwritten fs) ≡ None → find (is_flight_of w) fs ≡ None
+pub free_behind :
+    (w : DiskWhich) (fs : List Flight) → find (is_flight_of w) (map unwritten fs) ≡ None
+    → find (is_flight_of w) fs ≡ None
 free_behind w fs e = none (find (is_flight_of w) fs) (sym (found_hidden w fs) ∙ e)
   where
     none : (o : Option Flight) → option_map unwritten o ≡ None → o ≡ None
@@ -58,7 +70,8 @@ pub writes_hidden : (fs : List Flight) → writes_in (map unwritten fs) ≡ writ
 writes_hidden [] = refl
 writes_hidden (f ∷ fs) =
     sum_by-cons (λ g. one (is_write g)) (unwritten f) (map unwritten fs)
-    ∙ (let e : one (is_write (unwritten f)) ≡ one (is_write f) = ap one (same_kind f) in omega (arith, e, writes_hidden fs, sum_by-cons (λ g. one (is_write g)) f fs))
+    ∙ (let e : one (is_write (unwritten f)) ≡ one (is_write f) = ap one (same_kind f) in
+    omega (arith, e, writes_hidden fs, sum_by-cons (λ g. one (is_write g)) f fs))
 
 -- an operation that ends behind a port ends as the port tells it
 
@@ -76,30 +89,54 @@ hides_one p q t one = record {
 }
 
 hides_none : (p q : Port) → EndsNone p q → EndsNone (hidden p) (hidden q)
-hides_none p q none = record { flights = ap (map unwritten) none.flights; blocks = refl; finished = refl; later = none.later; none = λ told. cc }
+hides_none p q none =
+    record {
+      flights = ap (map unwritten) none.flights;
+      blocks = refl;
+      finished = refl;
+      later = none.later;
+      none = λ told. cc;
+    }
 
 hides : (p q : Port) (answer : Option Taken) → Takes p answer q → Takes (hidden p) answer (hidden q)
 hides p q None = hides_none p q
 hides p q (Some t) = hides_one p q t
 
 -- where the disk behind ends an operation, its port tells nothing of it yet
-ended_hidden : (d : Drive) (fin : Option Finished) (flight : Option Flight) (ok : Bool) → hidden (drive.port_of (record d { disk = finish_flight d.disk fin flight ok })) ≡ hidden (drive.port_of d)
+ended_hidden :
+    (d : Drive) (fin : Option Finished) (flight : Option Flight) (ok : Bool)
+    → hidden (drive.port_of (record d { disk = finish_flight d.disk fin flight ok })) ≡ hidden (drive.port_of d)
 ended_hidden d (Some f) flight ok = refl
 ended_hidden d None None ok = refl
 ended_hidden d None (Some f) ok = refl
 
-takes_oldest : (d : Silent) (o : Option DiskWhich) → IsDrive d.drive → ((port_of (take_oldest d o).1).sizes ≡ (port_of d).sizes) × Takes (port_of d) (take_oldest d o).0 (port_of (take_oldest d o).1)
-takes_oldest d None h = (refl, record { flights = refl; blocks = refl; finished = refl; later = omega arith; none = λ told. cc })
+takes_oldest :
+    (d : Silent) (o : Option DiskWhich) → IsDrive d.drive
+    → ((port_of (take_oldest d o).1).sizes ≡ (port_of d).sizes)
+    × Takes (port_of d) (take_oldest d o).0 (port_of (take_oldest d o).1)
+takes_oldest d None h =
+    (refl, record { flights = refl; blocks = refl; finished = refl; later = omega arith; none = λ told. cc })
 takes_oldest d (Some w) h =
     let e : Drive = ended_drive d w in
-    let behind = drive_follows e TakeDone (drive.ask e TakeDone).0 (drive.ask e TakeDone).1 (ask_keeps d.drive (LetFinish w (is_well d)) h, refl) in
-    let same : hidden (drive.port_of e) ≡ port_of d = ended_hidden d.drive d.drive.disk.finished (find (is_flight_of w) d.drive.disk.flights) (is_well d) in (
+    let behind =
+    drive_follows e TakeDone (drive.ask e TakeDone).0 (drive.ask e TakeDone).1
+    (ask_keeps d.drive (LetFinish w (is_well d)) h, refl) in
+    let same : hidden (drive.port_of e) ≡ port_of d =
+    ended_hidden d.drive d.drive.disk.finished (find (is_flight_of w) d.drive.disk.flights) (is_well d) in (
       behind.0 ∙ ap (λ (p : Port). p.sizes) same,
-      subst (λ (p : Port). Takes p (drive.ask e TakeDone).0 (hidden (drive.port_of (drive.ask e TakeDone).1))) same (hides (drive.port_of e) (drive.port_of (drive.ask e TakeDone).1) (drive.ask e TakeDone).0 behind.1),
+      subst (λ (p : Port). Takes p (drive.ask e TakeDone).0 (hidden (drive.port_of (drive.ask e TakeDone).1))) same
+          (hides (drive.port_of e) (drive.port_of (drive.ask e TakeDone).1) (drive.ask e TakeDone).0 behind.1),
     )
 
 -- an operation that is started stands behind those before it
-started_hidden : (d : Silent) (f : Flight) → port_of (record d { drive = record { sizes = d.drive.sizes; disk = record d.drive.disk { flights = d.drive.disk.flights ++ f ∷ [] } } }) ≡ record (port_of d) { flights = (port_of d).flights ++ unwritten f ∷ [] }
+started_hidden :
+    (d : Silent) (f : Flight)
+    → port_of
+    (record d {
+      drive =
+          record { sizes = d.drive.sizes; disk = record d.drive.disk { flights = d.drive.disk.flights ++ f ∷ [] } };
+    })
+    ≡ record (port_of d) { flights = (port_of d).flights ++ unwritten f ∷ [] }
 started_hidden d f = ap (λ fs. record (port_of d) { flights = fs }) (map-append unwritten d.drive.disk.flights (f ∷ []))
 
 follows_ask : (d : Silent) (c : DiskCall) → IsDrive d.drive → Follows (port_of d) c (ask d c).0 (port_of (ask d c).1)
@@ -109,10 +146,14 @@ follows_ask d TakeDone h = takes_oldest d (oldest_in d.drive.disk.flights) h
 follows_ask d (LetFinish w ok) h = (refl, refl)
 
 -- a silent disk is a disk
-pub follows : (d : Silent) (c : DiskCall) (answer : DiskAnswer c) (e : Silent) → Moves d c answer e → Follows (port_of d) c answer (port_of e)
+pub follows :
+    (d : Silent) (c : DiskCall) (answer : DiskAnswer c) (e : Silent) → Moves d c answer e
+    → Follows (port_of d) c answer (port_of e)
 follows d c answer e moved =
-    let P : DiskAnswer c × Silent → Type 0 = λ r. Follows (port_of d) c r.0 (port_of r.1) in subst P moved.1 (follows_ask d c moved.0)
+    let P : DiskAnswer c × Silent → Type 0 = λ r. Follows (port_of d) c r.0 (port_of r.1) in
+    subst P moved.1 (follows_ask d c moved.0)
 
 -- the disk behind it stays one
 pub drive_keeps : (d e : Drive) (c : DiskCall) (answer : DiskAnswer c) → drive.Moves d c answer e → IsDrive e
-drive_keeps d e c answer moved = let P : DiskAnswer c × Drive → Type 0 = λ r. IsDrive r.1 in subst P moved.1 (ask_keeps d c moved.0)
+drive_keeps d e c answer moved =
+    let P : DiskAnswer c × Drive → Type 0 = λ r. IsDrive r.1 in subst P moved.1 (ask_keeps d c moved.0)

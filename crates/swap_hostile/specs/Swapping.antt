@@ -17,7 +17,8 @@ abbrev pub swapped : Option Taken → Option Taken
 swapped None = None
 swapped (Some taken) = Some (record { done = taken.done; bytes = map turned taken.bytes })
 
--- from a disk, a call and its answer to the disk after it: it does what a silent disk does, and what a take gives is swapped
+-- from a disk, a call and its answer to the disk after it: it does what a silent disk does, and what a take gives is
+-- swapped
 abbrev pub Moves : Silent → (c : DiskCall) → DiskAnswer c → Silent → Type 0
 Moves d TakeDone answer e = (given : Option Taken) × SilentMoves d TakeDone given e × (answer ≡ swapped given)
 Moves d (StartWrite page bytes) answer e = SilentMoves d (StartWrite page bytes) answer e
@@ -25,7 +26,8 @@ Moves d (StartRead caller page) answer e = SilentMoves d (StartRead caller page)
 Moves d (LetFinish w ok) answer e = SilentMoves d (LetFinish w ok) answer e
 
 -- a buffer that was turned over is what was taken, swapped
-pub swapped_by : (done : DiskDone) (bytes : List ℕ) → taken_by (Some done) (map turned bytes) ≡ swapped (taken_by (Some done) bytes)
+pub swapped_by :
+    (done : DiskDone) (bytes : List ℕ) → taken_by (Some done) (map turned bytes) ≡ swapped (taken_by (Some done) bytes)
 swapped_by done bytes = ap (λ bs. Some (record { done = done; bytes = bs })) (go done.which done.ok)
   where
     go : (w : DiskWhich) (ok : Bool) → bytes_given w ok (map turned bytes) ≡ map turned (bytes_given w ok bytes)
@@ -33,16 +35,32 @@ swapped_by done bytes = ap (λ bs. Some (record { done = done; bytes = bs })) (g
     go (which.Read caller) false = refl
     go (which.Write page) ok = refl
 
-takes : (d e : Silent) (given : Option Taken) → Takes (port_of d) given (port_of e) → Takes (port_of d) (swapped given) (port_of e)
+takes :
+    (d e : Silent) (given : Option Taken) → Takes (port_of d) given (port_of e)
+    → Takes (port_of d) (swapped given) (port_of e)
 takes d e None none = none
-takes d e (Some taken) one = record { flight = one.flight; was = one.was; is = one.is; flights = one.flights; blocks = one.blocks; finished = one.finished; later = one.later; cause = one.cause; told = tt }
+takes d e (Some taken) one =
+    record {
+      flight = one.flight;
+      was = one.was;
+      is = one.is;
+      flights = one.flights;
+      blocks = one.blocks;
+      finished = one.finished;
+      later = one.later;
+      cause = one.cause;
+      told = tt;
+    }
 
 -- a swapping disk is a disk
-pub follows : (d : Silent) (c : DiskCall) (answer : DiskAnswer c) (e : Silent) → Moves d c answer e → Follows (port_of d) c answer (port_of e)
+pub follows :
+    (d : Silent) (c : DiskCall) (answer : DiskAnswer c) (e : Silent) → Moves d c answer e
+    → Follows (port_of d) c answer (port_of e)
 follows d (StartWrite page bytes) answer e moved = silent_follows d (StartWrite page bytes) answer e moved
 follows d (StartRead caller page) answer e moved = silent_follows d (StartRead caller page) answer e moved
 follows d (LetFinish w ok) answer e moved = silent_follows d (LetFinish w ok) answer e moved
 follows d TakeDone answer e moved =
     let behind = silent_follows d TakeDone moved.0 e moved.1 in
-    let P : Option Taken → Type 0 = λ given. ((port_of e).sizes ≡ (port_of d).sizes) × Takes (port_of d) given (port_of e) in
+    let P : Option Taken
+    → Type 0 = λ given. ((port_of e).sizes ≡ (port_of d).sizes) × Takes (port_of d) given (port_of e) in
     subst P (sym moved.2) (behind.0, takes d e moved.0 behind.1)

@@ -32,10 +32,14 @@ once_take names zero ps once = tt
 once_take names (suc n) [] once = tt
 once_take names (suc n) (p ∷ ps) once = ((λ k e. none-take (λ (q : Parcel). names k q.msg) n ps (once.0 k e)), once_take names n ps once.1)
 
-pub named_last : (names : Lease → Msg → Bool) (ps : List Parcel) (q : Parcel) → NamedOnce names ps → ((k : Lease) → list_any (λ (p : Parcel). names k p.msg) ps ≡ true → names k q.msg ≡ false) → NamedOnce names (ps ++ q ∷ [])
+pub named_last :
+    (names : Lease → Msg → Bool) (ps : List Parcel) (q : Parcel) → NamedOnce names ps
+    → ((k : Lease) → list_any (λ (p : Parcel). names k p.msg) ps ≡ true → names k q.msg ≡ false) → NamedOnce names (ps ++ q ∷ [])
 named_last names [] q once other = ((λ k e. refl), tt)
-named_last names (p ∷ ps) q once other =
-    ((λ k e. any-append (λ (q : Parcel). names k q.msg) ps q (other k (first (names k p.msg) _ e)) ∙ once.0 k e), named_last names ps q once.1 (λ k e. other k (rest (names k p.msg) _ e)))
+named_last names (p ∷ ps) q once other = (
+  (λ k e. any-append (λ (q : Parcel). names k q.msg) ps q (other k (first (names k p.msg) _ e)) ∙ once.0 k e),
+  named_last names ps q once.1 (λ k e. other k (rest (names k p.msg) _ e)),
+)
   where
     first : (a b : Bool) → a ≡ true → (a || b) ≡ true
     first true b e = refl
@@ -47,12 +51,19 @@ named_last names (p ∷ ps) q once other =
 
 -- borrows of slabs without a slot
 
-pub free_map : (slots slots' : List SlotState) (G H : Lease → Type 0) (ps : List Parcel) → ((t : Slab) (i : ℕ) (n : Link) (k : Lease) (e : Bool) → list_any (λ (q : Parcel). borrows t q.msg) ps ≡ true → slot_in slots' i ≡ Held n t k e → ((e' : Bool) × (slot_in slots i ≡ Held n t k e')) × (G k → H k)) → BorrowsFree slots G ps → BorrowsFree slots' H ps
+pub free_map :
+    (slots slots' : List SlotState) (G H : Lease → Type 0) (ps : List Parcel)
+    → ((t : Slab) (i : ℕ) (n : Link) (k : Lease) (e : Bool) → list_any (λ (q : Parcel). borrows t q.msg) ps ≡ true → slot_in slots' i ≡ Held n t k e
+    → ((e' : Bool) × (slot_in slots i ≡ Held n t k e')) × (G k → H k))
+    → BorrowsFree slots G ps → BorrowsFree slots' H ps
 free_map slots slots' G H [] each h = tt
 free_map slots slots' G H (q ∷ qs) each h = (
-  λ t i n k e is held. let was = each t i n k e (ap (λ b. b || list_any (λ (q : Parcel). borrows t q.msg) qs) (ap (borrows t) is ∙ eq-eqb t.0 t.0 refl)) held in was.1 (h.0 t i n k was.0.0 is was.0.1),
+  λ t i n k e is held. let was = each t i n k e (ap (λ b. b || list_any (λ (q : Parcel). borrows t q.msg) qs) (ap (borrows t) is ∙ eq-eqb t.0 t.0 refl)) held in
+      was.1 (h.0 t i n k was.0.0 is was.0.1),
   free_map slots slots' (λ k. G k ⊎ (is_done k q.msg ≡ true)) (λ k. H k ⊎ (is_done k q.msg ≡ true)) qs
-      (λ t i n k e in_rest held. let was = each t i n k e (any-rest (λ (q : Parcel). borrows t q.msg) q qs in_rest) held in (was.0, λ given. elim given [ inl g ↦ inl (was.1 g) | inr d ↦ inr d ])) h.1,
+      (λ t i n k e in_rest held. let was = each t i n k e (any-rest (λ (q : Parcel). borrows t q.msg) q qs in_rest) held in
+      (was.0, λ given. elim given [ inl g ↦ inl (was.1 g) | inr d ↦ inr d ]))
+      h.1,
 )
 
 pub free_take : (slots : List SlotState) (G : Lease → Type 0) (n : ℕ) (ps : List Parcel) → BorrowsFree slots G ps → BorrowsFree slots G (take n ps)
@@ -61,12 +72,19 @@ free_take slots G (suc n) [] h = tt
 free_take slots G (suc n) (p ∷ ps) h = (h.0, free_take slots (λ k. G k ⊎ (is_done k p.msg ≡ true)) n ps h.1)
 
 -- a message more: what it borrows has no slot that isn't given back before
-pub free_last : (slots : List SlotState) (G : Lease → Type 0) (ps : List Parcel) (q : Parcel) → BorrowsFree slots G ps → ((t : Slab) (i : ℕ) (n : Link) (k : Lease) (e : Bool) → q.msg ≡ msg.Borrow t → slot_in slots i ≡ Held n t k e → G k ⊎ (gives_back k ps ≡ true)) → BorrowsFree slots G (ps ++ q ∷ [])
+pub free_last :
+    (slots : List SlotState) (G : Lease → Type 0) (ps : List Parcel) (q : Parcel) → BorrowsFree slots G ps
+    → ((t : Slab) (i : ℕ) (n : Link) (k : Lease) (e : Bool) → q.msg ≡ msg.Borrow t → slot_in slots i ≡ Held n t k e → G k ⊎ (gives_back k ps ≡ true))
+    → BorrowsFree slots G (ps ++ q ∷ [])
 free_last slots G [] q h new = ((λ t i n k e is held. elim (new t i n k e is held) [ inl g ↦ g | inr d ↦ absurd (no_truth d) ]), tt)
   where
     no_truth : false ≡ true → ⊥
     no_truth e = cc
-free_last slots G (p ∷ ps) q h new = (h.0, free_last slots (λ k. G k ⊎ (is_done k p.msg ≡ true)) ps q h.1 (λ t i n k e is held. elim (new t i n k e is held) [ inl g ↦ inl (inl g) | inr d ↦ either (is_done k p.msg) refl d ]))
+free_last slots G (p ∷ ps) q h new = (
+  h.0,
+  free_last slots (λ k. G k ⊎ (is_done k p.msg ≡ true)) ps q h.1
+      (λ t i n k e is held. elim (new t i n k e is held) [ inl g ↦ inl (inl g) | inr d ↦ either (is_done k p.msg) refl d ]),
+)
   where
     either : {k : Lease} (b : Bool) → is_done k p.msg ≡ b → (b || gives_back k ps) ≡ true → (G k ⊎ (is_done k p.msg ≡ true)) ⊎ (gives_back k ps ≡ true)
     either true is e = inl (inr is)
@@ -83,7 +101,8 @@ greets_take s false ended zero ps h = refl
 greets_take s false ended (suc n) [] h = refl
 greets_take s false ended (suc n) (q ∷ qs) h = (h.0, no_hello_take n qs h.1)
 
-pub greets_last : (s : Sizes) (greeted : Bool) (ps : List Parcel) (q : Parcel) → is_hello q.msg ≡ false → Greets s greeted false ps → Greets s greeted false (ps ++ q ∷ [])
+pub greets_last :
+    (s : Sizes) (greeted : Bool) (ps : List Parcel) (q : Parcel) → is_hello q.msg ≡ false → Greets s greeted false ps → Greets s greeted false (ps ++ q ∷ [])
 greets_last s true ps q plain h = any-append (λ (q : Parcel). is_hello q.msg) ps q plain ∙ h
 greets_last s false [] q plain h = absurd (both_ways false refl h)
 greets_last s false (p ∷ ps) q plain h = (h.0, any-append (λ (q : Parcel). is_hello q.msg) ps q plain ∙ h.1)
@@ -94,7 +113,10 @@ all_take P (suc n) [] h = tt
 all_take P (suc n) (p ∷ ps) h = (h.0, all_take P n ps h.1)
 
 -- both lists are cut
-pub allows_cut : (s : Sizes) (states : List SlabState) (ring : List Request) (l : Lender) (table : lender.Lender) (n : Link) (come : List Parcel) (ended : Bool) (out : List Parcel) (a b : ℕ) → Allows s states ring l table n come ended out → Allows s states ring l table n (take b come) true (take a out)
+pub allows_cut :
+    (s : Sizes) (states : List SlabState) (ring : List Request) (l : Lender) (table : lender.Lender) (n : Link) (come : List Parcel) (ended : Bool)
+    (out : List Parcel) (a b : ℕ)
+    → Allows s states ring l table n come ended out → Allows s states ring l table n (take b come) true (take a out)
 allows_cut s states ring l table n come ended out a b h = record {
   told = λ k e. h.told k (any-take (λ (q : Parcel). is_evict k q.msg) b come e);
   drains = h.drains;
@@ -125,11 +147,14 @@ take_front [] q = refl
 take_front (p ∷ ps) q = ap (λ qs. p ∷ qs) (take_front ps q)
 
 -- what the device was about to say is under way, or lost where the list has ended
-pub allows_said : (s : Sizes) (states : List SlabState) (ring : List Request) (l : Lender) (table : lender.Lender) (n : Link) (come : List Parcel) (b : Lane) (q : Parcel) → Allows s states ring l table n come b.ended (b.parcels ++ q ∷ []) → Allows s states ring l table n come (appended b q).ended (appended b q).parcels
+pub allows_said :
+    (s : Sizes) (states : List SlabState) (ring : List Request) (l : Lender) (table : lender.Lender) (n : Link) (come : List Parcel) (b : Lane) (q : Parcel)
+    → Allows s states ring l table n come b.ended (b.parcels ++ q ∷ []) → Allows s states ring l table n come (appended b q).ended (appended b q).parcels
 allows_said s states ring l table n come b q h =
     let lost : Allows s states ring l table n come true b.parcels =
     subst (λ ps. Allows s states ring l table n come true ps) (take_front b.parcels q)
-    (subst (λ ps. Allows s states ring l table n ps true (take (length b.parcels) (b.parcels ++ q ∷ []))) (take_all come) (allows_cut s states ring l table n come b.ended (b.parcels ++ q ∷ []) (length b.parcels) (length come) h))
+    (subst (λ ps. Allows s states ring l table n ps true (take (length b.parcels) (b.parcels ++ q ∷ []))) (take_all come)
+    (allows_cut s states ring l table n come b.ended (b.parcels ++ q ∷ []) (length b.parcels) (length come) h))
     in
     by_append (λ z. Allows s states ring l table n come z.ended z.parcels) b q (λ e. subst (λ x. Allows s states ring l table n come x b.parcels) (sym e) lost)
     (λ e. h) (λ _. lost)

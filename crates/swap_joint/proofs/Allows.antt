@@ -37,7 +37,9 @@ pub any-more : {X : Type 0} (test : X → Bool) (xs : List X) (x : X) → list_a
 any-more test [] x e = cc
 any-more test (y ∷ xs) x e = go (test y) e (λ rest. any-more test xs x rest)
   where
-    go : (b : Bool) → (b || list_any test xs) ≡ true → (list_any test xs ≡ true → list_any test (xs ++ x ∷ []) ≡ true) → (b || list_any test (xs ++ x ∷ [])) ≡ true
+    go :
+        (b : Bool) → (b || list_any test xs) ≡ true → (list_any test xs ≡ true → list_any test (xs ++ x ∷ []) ≡ true)
+        → (b || list_any test (xs ++ x ∷ [])) ≡ true
     go true e more = refl
     go false e more = more e
 
@@ -49,9 +51,12 @@ bare [] = refl
 bare (p ∷ ps) = ap (λ qs. p ∷ qs) (bare ps)
 
 -- the slabs and the ring change: a slab that drains has its slot told to go, which isn't under way, and each slot has its home
-pub allows_states : (s : Sizes) (states states' : List SlabState) (ring ring' : List Request) (l : Lender) (table : lender.Lender) (n : Link) (come : List Parcel) (ended : Bool) (out : List Parcel)
+pub allows_states : (s : Sizes) (states states' : List SlabState) (ring ring' : List Request) (l : Lender) (table : lender.Lender) (n : Link)
+    (come : List Parcel) (ended : Bool) (out : List Parcel)
     → ((t : Slab) (k : Lease) (f : ℕ) → state_of states' t ≡ Draining l k f → HasSlot table.slots k true × (evicts_in k come ≡ true → ⊥))
-    → ((i : ℕ) (m : Link) (t : Slab) (k : Lease) (e : Bool) → slot_in table.slots i ≡ Held m t k e → (has_lease l k (state_of states t) ≡ true) ⊎ (borrows_in t ring ≡ true) → (has_lease l k (state_of states' t) ≡ true) ⊎ (borrows_in t ring' ≡ true) ⊎ (gives_back k out ≡ true) ⊎ (ended ≡ true))
+    → ((i : ℕ) (m : Link) (t : Slab) (k : Lease) (e : Bool) → slot_in table.slots i ≡ Held m t k e
+    → (has_lease l k (state_of states t) ≡ true) ⊎ (borrows_in t ring ≡ true)
+    → (has_lease l k (state_of states' t) ≡ true) ⊎ (borrows_in t ring' ≡ true) ⊎ (gives_back k out ≡ true) ⊎ (ended ≡ true))
     → Allows s states ring l table n come ended out → Allows s states' ring' l table n come ended out
 allows_states s states states' ring ring' l table n come ended out drains home h = record {
   told = h.told;
@@ -81,7 +86,11 @@ pub record Holds (l : Lender) (states states' : List SlabState) : Type 0 where
   pub drains : (t : Slab) (k : Lease) (f : ℕ) → state_of states' t ≡ Draining l k f → (g : ℕ) × (state_of states t ≡ Draining l k g)
   pub leased : (t : Slab) (k : Lease) → has_lease l k (state_of states t) ≡ true → has_lease l k (state_of states' t) ≡ true
 
-pub allows_on : (s : Sizes) (states states' : List SlabState) (ring ring' : List Request) (l : Lender) (table : lender.Lender) (n : Link) (come : List Parcel) (ended : Bool) (out : List Parcel) → Holds l states states' → ((t : Slab) → borrows_in t ring ≡ true → borrows_in t ring' ≡ true)
+pub allows_on :
+    (s : Sizes) (states states' : List SlabState) (ring ring' : List Request) (l : Lender) (table : lender.Lender) (n : Link) (come : List Parcel)
+    (ended : Bool)
+    (out : List Parcel)
+    → Holds l states states' → ((t : Slab) → borrows_in t ring ≡ true → borrows_in t ring' ≡ true)
     → Allows s states ring l table n come ended out → Allows s states' ring' l table n come ended out
 allows_on s states states' ring ring' l table n come ended out holds rings h =
     allows_states s states states' ring ring' l table n come ended out
@@ -89,7 +98,10 @@ allows_on s states states' ring ring' l table n come ended out holds rings h =
     (λ i m t k e held was. elim was [ inl at ↦ inl (holds.leased t k at) | inr asked ↦ inr (inl (rings t asked)) ]) h
 
 -- the list to the lender ends
-pub allows_ended : (s : Sizes) (states : List SlabState) (ring : List Request) (l : Lender) (table : lender.Lender) (n : Link) (come : List Parcel) (ended : Bool) (out : List Parcel) → Allows s states ring l table n come ended out → Allows s states ring l table n come true out
+pub allows_ended :
+    (s : Sizes) (states : List SlabState) (ring : List Request) (l : Lender) (table : lender.Lender) (n : Link) (come : List Parcel) (ended : Bool)
+    (out : List Parcel)
+    → Allows s states ring l table n come ended out → Allows s states ring l table n come true out
 allows_ended s states ring l table n come ended out h = record {
   told = h.told;
   drains = h.drains;
@@ -116,7 +128,10 @@ allows_ended s states ring l table n come ended out h = record {
     over false (q ∷ qs) e = e
 
 -- the first message to the device is gone
-pub allows_taken : (s : Sizes) (states : List SlabState) (ring : List Request) (l : Lender) (table : lender.Lender) (n : Link) (q : Parcel) (qs : List Parcel) (ended : Bool) (out : List Parcel) → Allows s states ring l table n (q ∷ qs) ended out → Allows s states ring l table n qs ended out
+pub allows_taken :
+    (s : Sizes) (states : List SlabState) (ring : List Request) (l : Lender) (table : lender.Lender) (n : Link) (q : Parcel) (qs : List Parcel) (ended : Bool)
+    (out : List Parcel)
+    → Allows s states ring l table n (q ∷ qs) ended out → Allows s states ring l table n qs ended out
 allows_taken s states ring l table n q qs ended out h = record {
   told = λ k e. h.told k (any-rest (λ (p : Parcel). is_evict k p.msg) q qs e);
   drains = h.drains;
@@ -138,7 +153,8 @@ allows_taken s states ring l table n q qs ended out h = record {
 }
 
 -- what is asked of a message more to the lender
-pub record MayAdd (states : List SlabState) (ring : List Request) (l : Lender) (table : lender.Lender) (n : Link) (come : List Parcel) (ended : Bool) (out : List Parcel) (q : Parcel) : Type 0 where
+pub record MayAdd (states : List SlabState) (ring : List Request) (l : Lender) (table : lender.Lender) (n : Link) (come : List Parcel) (ended : Bool)
+    (out : List Parcel) (q : Parcel) : Type 0 where
   pub plain : is_hello q.msg ≡ false
   pub kind : IsToLender q.msg
   pub greeted : (has_greeted table n ≡ true) ⊎ (ended ≡ false)
@@ -146,14 +162,18 @@ pub record MayAdd (states : List SlabState) (ring : List Request) (l : Lender) (
   pub rate : (k : Lease) → is_rate k q.msg ≡ true → Waits table k × (rates_in k out ≡ false) × (asks_in k come ≡ false)
   pub free : (t : Slab) (i : ℕ) (m : Link) (k : Lease) (e : Bool) → q.msg ≡ msg.Borrow t → slot_in table.slots i ≡ Held m t k e → gives_back k out ≡ true
 
-pub allows_more : (s : Sizes) (states : List SlabState) (ring : List Request) (l : Lender) (table : lender.Lender) (n : Link) (come : List Parcel) (ended : Bool) (out : List Parcel) (q : Parcel) → MayAdd states ring l table n come ended out q → Allows s states ring l table n come ended out → Allows s states ring l table n come ended (out ++ q ∷ [])
+pub allows_more :
+    (s : Sizes) (states : List SlabState) (ring : List Request) (l : Lender) (table : lender.Lender) (n : Link) (come : List Parcel) (ended : Bool)
+    (out : List Parcel) (q : Parcel)
+    → MayAdd states ring l table n come ended out q → Allows s states ring l table n come ended out → Allows s states ring l table n come ended (out ++ q ∷ [])
 allows_more s states ring l table n come ended out q may h = record {
   told = h.told;
   drains = h.drains;
   done = λ k e. elim (any_last (λ (p : Parcel). is_done k p.msg) out q e) [ inl old ↦ h.done k old | inr new ↦ (may.done k new).0 ];
   done_once = named_last is_done out q h.done_once (λ k e. false_from_ne_true _ (λ new. both_ways (gives_back k out) (may.done k new).1 e));
   evict_once = h.evict_once;
-  apart = λ k e. any-append (λ (p : Parcel). is_done k p.msg) out q (false_from_ne_true _ (λ new. both_ways (evicts_in k come) (may.done k new).2 e)) ∙ h.apart k e;
+  apart =
+      λ k e. any-append (λ (p : Parcel). is_done k p.msg) out q (false_from_ne_true _ (λ new. both_ways (evicts_in k come) (may.done k new).2 e)) ∙ h.apart k e;
   before = h.before;
   asks = h.asks;
   rates = λ k e. elim (any_last (λ (p : Parcel). is_rate k p.msg) out q e) [ inl old ↦ h.rates k old | inr new ↦ (may.rate k new).0 ];
@@ -183,17 +203,23 @@ allows_more s states ring l table n come ended out q may h = record {
 pub local_draining : (l : Lender) (k : Lease) (f : ℕ) → Local ≡ Draining l k f → ⊥
 local_draining l k f e = cc
 
-pub drains_by : (Q : Slab → Lease → Type 0) (l : Lender) (states : List SlabState) (t : Slab) (x : SlabState) → ((k : Lease) (f : ℕ) → x ≡ Draining l k f → Q t k) → ((u : Slab) (k : Lease) (f : ℕ) → (u.0 ≡ t.0 → ⊥) → state_of states u ≡ Draining l k f → Q u k) → (u : Slab) (k : Lease) (f : ℕ) → state_of (with_state states t x) u ≡ Draining l k f → Q u k
+pub drains_by :
+    (Q : Slab → Lease → Type 0) (l : Lender) (states : List SlabState) (t : Slab) (x : SlabState) → ((k : Lease) (f : ℕ) → x ≡ Draining l k f → Q t k)
+    → ((u : Slab) (k : Lease) (f : ℕ) → (u.0 ≡ t.0 → ⊥) → state_of states u ≡ Draining l k f → Q u k) → (u : Slab) (k : Lease) (f : ℕ)
+    → state_of (with_state states t x) u ≡ Draining l k f → Q u k
 drains_by Q l states t x here there u k f is =
     by_slab (λ u. state_of (with_state states t x) u ≡ Draining l k f → Q u k) t u
     (λ is. elim (cases_lt t.0 (length states)) [
       | inl within ↦ here k f (sym (state-same states t x within) ∙ is)
-      | inr past ↦ absurd (local_draining l k f (sym (get_or_past (with_state states t x) t.0 Local (subst (λ n. n ≤ t.0) (sym (length-set states t.0 x)) past)) ∙ is))
+      | inr past ↦
+          absurd (local_draining l k f (sym (get_or_past (with_state states t x) t.0 Local (subst (λ n. n ≤ t.0) (sym (length-set states t.0 x)) past)) ∙ is))
     ])
     (λ other is. there u k f other (sym (state-other states t u x other) ∙ is)) is
 
 -- a lease stays a slab's where it stays one of the slab that changes
-pub leased_set : (l : Lender) (states : List SlabState) (t : Slab) (x : SlabState) → ((k : Lease) → has_lease l k (state_of states t) ≡ true → has_lease l k x ≡ true) → (u : Slab) (k : Lease) → has_lease l k (state_of states u) ≡ true → has_lease l k (state_of (with_state states t x) u) ≡ true
+pub leased_set :
+    (l : Lender) (states : List SlabState) (t : Slab) (x : SlabState) → ((k : Lease) → has_lease l k (state_of states t) ≡ true → has_lease l k x ≡ true)
+    → (u : Slab) (k : Lease) → has_lease l k (state_of states u) ≡ true → has_lease l k (state_of (with_state states t x) u) ≡ true
 leased_set l states t x each u k at =
     by_slab (λ u. has_lease l k (state_of states u) ≡ true → has_lease l k (state_of (with_state states t x) u) ≡ true) t u
     (λ at. elim (cases_lt t.0 (length states)) [
@@ -205,22 +231,30 @@ leased_set l states t x each u k at =
 abbrev SomeDrains : Lender → List SlabState → Slab → Lease → Type 0
 SomeDrains l states u k = (g : ℕ) × (state_of states u ≡ Draining l k g)
 
-pub holds_set : (l : Lender) (states : List SlabState) (t : Slab) (x : SlabState) → ((k : Lease) (f : ℕ) → x ≡ Draining l k f → (g : ℕ) × (state_of states t ≡ Draining l k g)) → ((k : Lease) → has_lease l k (state_of states t) ≡ true → has_lease l k x ≡ true) → Holds l states (with_state states t x)
-holds_set l states t x drains leased = record { drains = drains_by (λ u k. SomeDrains l states u k) l states t x drains (λ u k f other is. (f, is)); leased = leased_set l states t x leased }
+pub holds_set :
+    (l : Lender) (states : List SlabState) (t : Slab) (x : SlabState)
+    → ((k : Lease) (f : ℕ) → x ≡ Draining l k f → (g : ℕ) × (state_of states t ≡ Draining l k g))
+    → ((k : Lease) → has_lease l k (state_of states t) ≡ true → has_lease l k x ≡ true) → Holds l states (with_state states t x)
+holds_set l states t x drains leased =
+    record { drains = drains_by (λ u k. SomeDrains l states u k) l states t x drains (λ u k f other is. (f, is)); leased = leased_set l states t x leased }
 
 pub holds_itself : (l : Lender) (states : List SlabState) → Holds l states states
 holds_itself l states = record { drains = λ t k f is. (f, is); leased = λ t k at. at }
 
 -- a slab that another lender has, or none
-pub holds_apart : (l : Lender) (states : List SlabState) (t : Slab) (x : SlabState) → ((k : Lease) → has_lease l k (state_of states t) ≡ false) → ((k : Lease) → has_lease l k x ≡ false) → Holds l states (with_state states t x)
+pub holds_apart :
+    (l : Lender) (states : List SlabState) (t : Slab) (x : SlabState) → ((k : Lease) → has_lease l k (state_of states t) ≡ false)
+    → ((k : Lease) → has_lease l k x ≡ false) → Holds l states (with_state states t x)
 holds_apart l states t x was now =
-    holds_set l states t x (λ k f is. absurd (both_ways (has_lease l k x) (now k) (ap (has_lease l k) is ∙ own l k))) (λ k at. absurd (both_ways (has_lease l k (state_of states t)) (was k) at))
+    holds_set l states t x (λ k f is. absurd (both_ways (has_lease l k x) (now k) (ap (has_lease l k) is ∙ own l k)))
+    (λ k at. absurd (both_ways (has_lease l k (state_of states t)) (was k) at))
   where
     own : (l : Lender) (k : Lease) → ((l.0 == l.0) && (k.0 == k.0)) ≡ true
     own l k = and_from (l.0 == l.0) (k.0 == k.0) (eq-eqb l.0 l.0 refl) (eq-eqb k.0 k.0 refl)
 
 pub holds_begun : (l : Lender) (states : List SlabState) (t : Slab) → Holds l states (slabs.begun states t)
-holds_begun l states t = holds_set l states t (slabs.after_begin (state_of states t)) (λ k f is. go (state_of states t) refl k f is) (λ k at. leased (state_of states t) k at)
+holds_begun l states t =
+    holds_set l states t (slabs.after_begin (state_of states t)) (λ k f is. go (state_of states t) refl k f is) (λ k at. leased (state_of states t) k at)
   where
     go : (x : SlabState) → state_of states t ≡ x → (k : Lease) (f : ℕ) → slabs.after_begin x ≡ Draining l k f → (g : ℕ) × (state_of states t ≡ Draining l k g)
     go Local at k f is = cc
@@ -240,12 +274,15 @@ holds_begun l states t = holds_set l states t (slabs.after_begin (state_of state
     leased (Draining m j g) k at = at
 
 pub holds_answered : (l m : Lender) (states : List SlabState) (t : Slab) (r : Reply) → Holds l states (slabs.answered states t m r)
-holds_answered l m states t r = holds_set l states t (slabs.after_answer (state_of states t) m r) (λ k f is. go (state_of states t) refl k f is) (λ k at. leased (state_of states t) k at)
+holds_answered l m states t r =
+    holds_set l states t (slabs.after_answer (state_of states t) m r) (λ k f is. go (state_of states t) refl k f is) (λ k at. leased (state_of states t) k at)
   where
     no_drain : (p : Pair) (k : Lease) (f : ℕ) → slabs.answered_state p ≡ Draining l k f → ⊥
     no_drain p k f = cond_both (slabs.waits p) _ _ (λ (x : SlabState). x ≡ Draining l k f → ⊥) (λ _ e. cc) (λ _ e. cc)
 
-    go : (x : SlabState) → state_of states t ≡ x → (k : Lease) (f : ℕ) → slabs.after_answer x m r ≡ Draining l k f → (g : ℕ) × (state_of states t ≡ Draining l k g)
+    go :
+        (x : SlabState) → state_of states t ≡ x → (k : Lease) (f : ℕ) → slabs.after_answer x m r ≡ Draining l k f
+        → (g : ℕ) × (state_of states t ≡ Draining l k g)
     go Local at k f is = cc
     go (Asking pair) at k f is = absurd (no_drain (slabs.replied pair m r) k f is)
     go (Borrowing o) at k f is = cc
@@ -274,7 +311,10 @@ elsewhere l m j k x other at = go (slabs.leased_of x) at
   where
     go : (o : Option (Lender × Lease)) → slabs.is_lease l j o ≡ true → slabs.is_lease m k o ≡ false
     go None at = refl
-    go (Some p) at = false_from_ne_true _ (λ here. other (sym (eqb-true p.0.0 m.0 (and_parts (p.0.0 == m.0) (p.1.0 == k.0) here).0) ∙ eqb-true p.0.0 l.0 (and_parts (p.0.0 == l.0) (p.1.0 == j.0) at).0))
+    go (Some p) at =
+        false_from_ne_true _
+        (λ here.
+        other (sym (eqb-true p.0.0 m.0 (and_parts (p.0.0 == m.0) (p.1.0 == k.0) here).0) ∙ eqb-true p.0.0 l.0 (and_parts (p.0.0 == l.0) (p.1.0 == j.0) at).0))
 
 -- a slab that drains has no lease that it hadn't
 drained_none : (l m : Lender) (j k : Lease) (f : ℕ) → has_lease l k (Draining m j f) ≡ false → has_lease l k (slabs.drained m j f) ≡ false
@@ -298,11 +338,16 @@ evicted_none l k (Draining m j f) none = none
 pub seat_slot : (l : lender.Lender) (n : Link) (k : Lease) (t : Slab) → HasSeat l n k t → (i : ℕ) × (m : Link) × (e : Bool) × (slot_in l.slots i ≡ Held m t k e)
 seat_slot l n k t h = go (slot_in l.slots (slot_of l n k)) refl h.1
   where
-    go : (x : SlotState) → slot_in l.slots (slot_of l n k) ≡ x → seat_in x ≡ Some (t, h.0) → (i : ℕ) × (m : Link) × (e : Bool) × (slot_in l.slots i ≡ Held m t k e)
+    go :
+        (x : SlotState) → slot_in l.slots (slot_of l n k) ≡ x → seat_in x ≡ Some (t, h.0)
+        → (i : ℕ) × (m : Link) × (e : Bool) × (slot_in l.slots i ≡ Held m t k e)
     go Free is at = cc
     go (Held m u j told) is at =
-        let within : slot_of l n k < length l.slots = elim (cases_lt (slot_of l n k) (length l.slots)) [ inl within ↦ within | inr past ↦ absurd (free_held (sym (get_or_past l.slots (slot_of l n k) Free past) ∙ is)) ] in
-        let own : lender.has_lease n k (Held m u j told) ≡ true = sym (ap (lender.has_lease n k) is) ∙ passes_at_first (lender.has_lease n k) l.slots Free within in
+        let within : slot_of l n k < length l.slots =
+        elim (cases_lt (slot_of l n k) (length l.slots))
+        [ inl within ↦ within | inr past ↦ absurd (free_held (sym (get_or_past l.slots (slot_of l n k) Free past) ∙ is)) ] in
+        let own : lender.has_lease n k (Held m u j told) ≡ true =
+        sym (ap (lender.has_lease n k) is) ∙ passes_at_first (lender.has_lease n k) l.slots Free within in
         let slab : u ≡ t = slab_is at in
         let lease : j ≡ k = ap (λ (i : ℕ). record { 0 = i }) (eqb-true j.0 k.0 (and_parts (m.0 == n.0) (j.0 == k.0) own).1) in
         (slot_of l n k, m, told, is ∙ ap (λ (u : Slab). Held m u j told) slab ∙ ap (λ (j : Lease). Held m t j told) lease)

@@ -30,17 +30,24 @@ use Rattle.swap_joint.proofs.Orders.{Ordered, order_map, all_served, all_under_w
 abbrev pub OrderedAt : Sizes → History → Calls → List SlabState → List Request → Lender → Channel → Lane → Lane → List Request → List Request → Type 0
 OrderedAt s H cs states ring l c a b S U = Ordered (Replied s H cs states l) (Asked s H cs states l c) ring a b S U
 
-names_seen : (s : Sizes) (states states' : List SlabState) (l : Lender) (p : Page) (at : Option (Lease × ℕ)) → KeepsLease s l states states' p → Names s states l p at → Names s states' l p at
+names_seen :
+    (s : Sizes) (states states' : List SlabState) (l : Lender) (p : Page) (at : Option (Lease × ℕ)) → KeepsLease s l states states' p → Names s states l p at
+    → Names s states' l p at
 names_seen s states states' l p None leases h = absurd h
 names_seen s states states' l p (Some at) leases h = (leases at.0 h.0, h.1)
 
-pub answers_seen : (s : Sizes) (states states' : List SlabState) (l : Lender) (q : Parcel) (x : Request) → StaysLeased s l states states' x → Answers s states l q x → Answers s states' l q x
+pub answers_seen :
+    (s : Sizes) (states states' : List SlabState) (l : Lender) (q : Parcel) (x : Request) → StaysLeased s l states states' x → Answers s states l q x
+    → Answers s states' l q x
 answers_seen s states states' l q (Query t) leases h = h
 answers_seen s states states' l q (Borrow t) leases h = h
 answers_seen s states states' l q (Write p e) leases h = names_seen s states states' l p (write_reply q.msg) leases h
 answers_seen s states states' l q (Read c p) leases h = names_seen s states states' l p (read_reply q.msg) leases h
 
-pub carries_seen : (s : Sizes) (H H' : History) (states states' : List SlabState) (l : Lender) (q : Parcel) (x : Request) → StaysLeased s l states states' x → KeepsEntries H H' → Carries s H states l q x → Carries s H' states' l q x
+pub carries_seen :
+    (s : Sizes) (H H' : History) (states states' : List SlabState) (l : Lender) (q : Parcel) (x : Request) → StaysLeased s l states states' x
+    → KeepsEntries H H'
+    → Carries s H states l q x → Carries s H' states' l q x
 carries_seen s H H' states states' l q (Query t) leases entries h = h
 carries_seen s H H' states states' l q (Borrow t) leases entries h = h
 carries_seen s H H' states states' l q (Write p e) leases entries h =
@@ -60,7 +67,9 @@ NoNewLease s states states' l (Borrow t) = Unit {0}
 NoNewLease s states states' l (Write p e) = Unit {0}
 NoNewLease s states states' l (Read a p) = (k : Lease) → has_lease l k (state_for s states' p) ≡ true → has_lease l k (state_for s states p) ≡ true
 
-pub fewer_new : (s : Sizes) (states states' : List SlabState) (l : Lender) (xs : List Request) → FewerLeases l states states' → AllByRecursion (NoNewLease s states states' l) xs
+pub fewer_new :
+    (s : Sizes) (states states' : List SlabState) (l : Lender) (xs : List Request) → FewerLeases l states states'
+    → AllByRecursion (NoNewLease s states states' l) xs
 fewer_new s states states' l [] fewer = tt
 fewer_new s states states' l (Query t ∷ xs) fewer = (tt, fewer_new s states states' l xs fewer)
 fewer_new s states states' l (Borrow t ∷ xs) fewer = (tt, fewer_new s states states' l xs fewer)
@@ -68,32 +77,43 @@ fewer_new s states states' l (Write p e ∷ xs) fewer = (tt, fewer_new s states 
 fewer_new s states states' l (Read a p ∷ xs) fewer = ((λ k at. fewer (slab_for s p) k at), fewer_new s states states' l xs fewer)
 
 -- a request's slab keeps its lease where each slab does
-pub leased_all : (s : Sizes) (l : Lender) (states states' : List SlabState) (xs : List Request) → ((t : Slab) (k : Lease) → has_lease l k (state_of states t) ≡ true → has_lease l k (state_of states' t) ≡ true) → AllByRecursion (StaysLeased s l states states') xs
+pub leased_all :
+    (s : Sizes) (l : Lender) (states states' : List SlabState) (xs : List Request)
+    → ((t : Slab) (k : Lease) → has_lease l k (state_of states t) ≡ true → has_lease l k (state_of states' t) ≡ true)
+    → AllByRecursion (StaysLeased s l states states') xs
 leased_all s l states states' [] each = tt
 leased_all s l states states' (Query t ∷ xs) each = (tt, leased_all s l states states' xs each)
 leased_all s l states states' (Borrow t ∷ xs) each = (tt, leased_all s l states states' xs each)
 leased_all s l states states' (Write p e ∷ xs) each = ((λ k at. each (slab_for s p) k at), leased_all s l states states' xs each)
 leased_all s l states states' (Read a p ∷ xs) each = ((λ k at. each (slab_for s p) k at), leased_all s l states states' xs each)
 
-pub still_all : (cs cs' : Calls) (xs : List Request) → ((a : Caller) (e : EntryNo) → kept_entry (calls.state_of cs' a) ≡ Some e → kept_entry (calls.state_of cs a) ≡ Some e) → AllByRecursion (StillReads cs cs') xs
+pub still_all :
+    (cs cs' : Calls) (xs : List Request) → ((a : Caller) (e : EntryNo) → kept_entry (calls.state_of cs' a) ≡ Some e → kept_entry (calls.state_of cs a) ≡ Some e)
+    → AllByRecursion (StillReads cs cs') xs
 still_all cs cs' [] each = tt
 still_all cs cs' (Query t ∷ xs) each = (tt, still_all cs cs' xs each)
 still_all cs cs' (Borrow t ∷ xs) each = (tt, still_all cs cs' xs each)
 still_all cs cs' (Write p e ∷ xs) each = (tt, still_all cs cs' xs each)
 still_all cs cs' (Read a p ∷ xs) each = (each a, still_all cs cs' xs each)
 
-holds_seen : (s : Sizes) (H H' : History) (cs cs' : Calls) (states states' : List SlabState) (l : Lender) (c : Channel) (x : Request) → KeepsEntries H H' → StillReads cs cs' x → NoNewLease s states states' l x → HoldsFor s H cs states l c x → HoldsFor s H' cs' states' l c x
+holds_seen :
+    (s : Sizes) (H H' : History) (cs cs' : Calls) (states states' : List SlabState) (l : Lender) (c : Channel) (x : Request) → KeepsEntries H H'
+    → StillReads cs cs' x → NoNewLease s states states' l x → HoldsFor s H cs states l c x → HoldsFor s H' cs' states' l c x
 holds_seen s H H' cs cs' states states' l c (Query t) entries still none h = tt
 holds_seen s H H' cs cs' states states' l c (Borrow t) entries still none h = tt
 holds_seen s H H' cs cs' states states' l c (Write p e) entries still none h = tt
-holds_seen s H H' cs cs' states states' l c (Read a p) entries still none h = λ k e at is. let was = h k e (none k at) (still e is) in let now = entries p e was.0 in (now.0, was.1 ∙ ap (λ b. Some b) (sym now.1))
+holds_seen s H H' cs cs' states states' l c (Read a p) entries still none h =
+    λ k e at is. let was = h k e (none k at) (still e is) in let now = entries p e was.0 in (now.0, was.1 ∙ ap (λ b. Some b) (sym now.1))
 
 pub both_all : {X : Type 0} (P Q : X → Type 0) (xs : List X) → AllByRecursion P xs → AllByRecursion Q xs → AllByRecursion (λ x. P x × Q x) xs
 both_all P Q [] p q = tt
 both_all P Q (x ∷ xs) p q = ((p.0, q.0), both_all P Q xs p.1 q.1)
 
 -- the device moves
-pub order_seen : (s : Sizes) (H H' : History) (cs cs' : Calls) (states states' : List SlabState) (ring : List Request) (l : Lender) (c : Channel) (a b : Lane) (S U : List Request) → AllByRecursion (StaysLeased s l states states') ring → KeepsEntries H H' → AllByRecursion (StillReads cs cs') ring
+pub order_seen :
+    (s : Sizes) (H H' : History) (cs cs' : Calls) (states states' : List SlabState) (ring : List Request) (l : Lender) (c : Channel) (a b : Lane)
+    (S U : List Request)
+    → AllByRecursion (StaysLeased s l states states') ring → KeepsEntries H H' → AllByRecursion (StillReads cs cs') ring
     → AllByRecursion (NoNewLease s states states' l) ring → OrderedAt s H cs states ring l c a b S U → OrderedAt s H' cs' states' ring l c a b S U
 order_seen s H H' cs cs' states states' ring l c a b S U leases entries still none h =
     let R : Parcel → Request → Type 0 = Replied s H cs states l in
@@ -103,5 +123,8 @@ order_seen s H H' cs cs' states states' ring l c a b S U leases entries still no
     let both : AllByRecursion P ring = both_all (StillReads cs cs') (StaysLeased s l states states') ring still leases in
     order_map R C (Replied s H' cs' states' l) (Asked s H' cs' states' l c) P Q ring a b S U
     (λ q x one k. (answers_seen s states states' l q x one.1 k.0, brings_seen H H' cs cs' q x entries one.0 k.1))
-    (λ q x one k. (carries_seen s H H' states states' l q x one.0.1 entries k.0, unless-map c.lender_gone _ _ (holds_seen s H H' cs cs' states states' l c x entries one.0.0 one.1) k.1))
+    (λ q x one k. (
+      carries_seen s H H' states states' l q x one.0.1 entries k.0,
+      unless-map c.lender_gone _ _ (holds_seen s H H' cs cs' states states' l c x entries one.0.0 one.1) k.1,
+    ))
     h (all_served R C P ring a b S U h both) (all_under_way R C Q ring a b S U h (both_all P (NoNewLease s states states' l) ring both none))

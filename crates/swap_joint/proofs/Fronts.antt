@@ -54,7 +54,8 @@ pub greeted_before : (s : Sizes) (b ended : Bool) (q : Parcel) (ps : List Parcel
 greeted_before s true ended q ps plain h = refl
 greeted_before s false ended q ps plain h = absurd (both_ways (is_hello q.msg) plain (ap (λ (p : Parcel). is_hello p.msg) h.0))
 
-pub greets_first : (s : Sizes) (b ended : Bool) (q : Parcel) (ps : List Parcel) → is_hello q.msg ≡ true → Greets s b ended (q ∷ ps) → (b ≡ false) × (q ≡ hello s)
+pub greets_first :
+    (s : Sizes) (b ended : Bool) (q : Parcel) (ps : List Parcel) → is_hello q.msg ≡ true → Greets s b ended (q ∷ ps) → (b ≡ false) × (q ≡ hello s)
 greets_first s true ended q ps is h = absurd (both_ways (is_hello q.msg) (or_first (is_hello q.msg) _ h) is)
   where
     or_first : (a b : Bool) → (a || b) ≡ false → a ≡ false
@@ -69,15 +70,20 @@ pub record Reaches (s : Sizes) (l : Lender) (n : Link) (k : Lease) (i : ℕ) : T
   pub seat : HasSeat l n k (slab_for s page)
   pub at : place_of s page.0 ≡ i
 
-pub reaches_may : (s : Sizes) (l : Lender) (n : Link) (k : Lease) (i : ℕ) → l.lending.pages_per_slab ≡ s.pages_per_slab → Reaches s l n k i → may_reach l n k i ≡ true
+pub reaches_may :
+    (s : Sizes) (l : Lender) (n : Link) (k : Lease) (i : ℕ) → l.lending.pages_per_slab ≡ s.pages_per_slab → Reaches s l n k i → may_reach l n k i ≡ true
 reaches_may s l n k i size r =
     and_from (holds l n k) (nat_lt i l.lending.pages_per_slab) (seat_holds l n k (slab_for s r.page) r.seat)
     (lt-ltb i l.lending.pages_per_slab (subst (λ m. i < m) (sym size) (subst (λ m. m < s.pages_per_slab) r.at (place_within s r.page r.within))))
 
 -- the first message under way is allowed
-module _ (d : Device) (l : LenderNo) (c : Channel) (q : Parcel) (ps : List Parcel) (stands : c.lender_gone ≡ false) (front : c.to_lender.parcels ≡ q ∷ ps) (sound : IsSound c.lender) (known : IsKnown d.sizes c) (lodges : Lodges c) (here : Joined d l c) (awaited : AllByRecursion (IsAwaited d.sizes d.history d.calls d.remote.slabs l) (ring_of d.remote.links l)) (allowed : Allowed d l c []) where
+module _ (d : Device) (l : LenderNo) (c : Channel) (q : Parcel) (ps : List Parcel) (stands : c.lender_gone ≡ false) (front : c.to_lender.parcels ≡ q ∷ ps)
+    (sound : IsSound c.lender) (known : IsKnown d.sizes c) (lodges : Lodges c) (here : Joined d l c)
+    (awaited : AllByRecursion (IsAwaited d.sizes d.history d.calls d.remote.slabs l) (ring_of d.remote.links l)) (allowed : Allowed d l c []) where
   allows : Allows d.sizes d.remote.slabs (ring_of d.remote.links l) l c.lender c.number c.to_device.parcels c.to_lender.ended (q ∷ ps)
-  allows = subst (λ xs. Allows d.sizes d.remote.slabs (ring_of d.remote.links l) l c.lender c.number c.to_device.parcels c.to_lender.ended xs) (append-nil c.to_lender.parcels ∙ front) (unless-at c.lender_gone _ stands allowed)
+  allows =
+      subst (λ xs. Allows d.sizes d.remote.slabs (ring_of d.remote.links l) l c.lender c.number c.to_device.parcels c.to_lender.ended xs)
+      (append-nil c.to_lender.parcels ∙ front) (unless-at c.lender_gone _ stands allowed)
 
   greeted : is_hello q.msg ≡ false → has_greeted c.lender c.number ≡ true
   greeted plain = greeted_before d.sizes (has_greeted c.lender c.number) c.to_lender.ended q ps plain allows.greets
@@ -87,20 +93,30 @@ module _ (d : Device) (l : LenderNo) (c : Channel) (q : Parcel) (ps : List Parce
   Carried = First (Asked d.sizes d.history d.calls d.remote.slabs l c) q (filter asks_by ps) here.order.under_way
 
   carried : is_request q.msg ≡ true → Carried
-  carried is = pairs-first (Asked d.sizes d.history d.calls d.remote.slabs l c) q (filter asks_by ps) here.order.under_way (subst (λ xs. Pairwise (Asked d.sizes d.history d.calls d.remote.slabs l c) xs here.order.under_way) (ap (filter asks_by) front ∙ filter-first asks_by q ps is) here.order.requests)
+  carried is =
+      pairs-first (Asked d.sizes d.history d.calls d.remote.slabs l c) q (filter asks_by ps) here.order.under_way
+      (subst (λ xs. Pairwise (Asked d.sizes d.history d.calls d.remote.slabs l c) xs here.order.under_way)
+      (ap (filter asks_by) front ∙ filter-first asks_by q ps is) here.order.requests)
 
   waits : (f : Carried) → IsAwaited d.sizes d.history d.calls d.remote.slabs l f.one
   waits f =
       let under_way : AllByRecursion (IsAwaited d.sizes d.history d.calls d.remote.slabs l) here.order.under_way =
-      all-front (IsAwaited d.sizes d.history d.calls d.remote.slabs l) here.order.under_way here.order.dropped (all-back (IsAwaited d.sizes d.history d.calls d.remote.slabs l) (here.order.answered ++ here.order.unheard) (here.order.under_way ++ here.order.dropped) (subst (λ xs. AllByRecursion (IsAwaited d.sizes d.history d.calls d.remote.slabs l) xs) here.order.in_four awaited))
+      all-front (IsAwaited d.sizes d.history d.calls d.remote.slabs l) here.order.under_way here.order.dropped
+      (all-back (IsAwaited d.sizes d.history d.calls d.remote.slabs l) (here.order.answered ++ here.order.unheard)
+      (here.order.under_way ++ here.order.dropped)
+      (subst (λ xs. AllByRecursion (IsAwaited d.sizes d.history d.calls d.remote.slabs l) xs) here.order.in_four awaited))
       in
       (subst (λ xs. AllByRecursion (IsAwaited d.sizes d.history d.calls d.remote.slabs l) xs) f.is under_way).0
 
-  reaches_at : (p : Page) (k j : Lease) (i : ℕ) → p.0 < pages_of d.sizes → has_lease l j (state_for d.sizes d.remote.slabs p) ≡ true → k ≡ j → i ≡ place_of d.sizes p.0 → Reaches d.sizes c.lender c.number k i
+  reaches_at :
+      (p : Page) (k j : Lease) (i : ℕ) → p.0 < pages_of d.sizes → has_lease l j (state_for d.sizes d.remote.slabs p) ≡ true → k ≡ j → i ≡ place_of d.sizes p.0
+      → Reaches d.sizes c.lender c.number k i
   reaches_at p k j i within leased lease place = record {
     page = p;
     within = within;
-    seat = (unless-at c.lender_gone _ stands here.stored).leased (slab_for d.sizes p) k (subst (λ j. has_lease l j (state_for d.sizes d.remote.slabs p) ≡ true) (sym lease) leased);
+    seat =
+        (unless-at c.lender_gone _ stands here.stored).leased (slab_for d.sizes p) k
+        (subst (λ j. has_lease l j (state_for d.sizes d.remote.slabs p) ≡ true) (sym lease) leased);
     at = sym place;
   }
 
@@ -116,7 +132,9 @@ module _ (d : Device) (l : LenderNo) (c : Channel) (q : Parcel) (ps : List Parce
       place_is : (j : Lease) (n : ℕ) → msg.Write k i ≡ msg.Write j n → i ≡ n
       place_is j n is = cc
 
-      go : (x : Request) → Carries d.sizes d.history d.remote.slabs l q x → IsAwaited d.sizes d.history d.calls d.remote.slabs l x → Reaches d.sizes c.lender c.number k i
+      go :
+          (x : Request) → Carries d.sizes d.history d.remote.slabs l q x → IsAwaited d.sizes d.history d.calls d.remote.slabs l x
+          → Reaches d.sizes c.lender c.number k i
       go (request.Query t) is waits = absurd (not_query (msg_of (msg.Query t) [] is))
         where
           not_query : msg.Write k i ≡ msg.Query t → ⊥
@@ -125,7 +143,9 @@ module _ (d : Device) (l : LenderNo) (c : Channel) (q : Parcel) (ps : List Parce
         where
           not_borrow : msg.Write k i ≡ msg.Borrow t → ⊥
           not_borrow e = cc
-      go (request.Write p entry) is waits = let same = msg_of (msg.Write is.0 (place_of d.sizes p.0)) (bytes_of d.history entry) is.1 in reaches_at p k is.0 i waits.0 is.2 (lease_of is.0 (place_of d.sizes p.0) same) (place_is is.0 (place_of d.sizes p.0) same)
+      go (request.Write p entry) is waits =
+          let same = msg_of (msg.Write is.0 (place_of d.sizes p.0)) (bytes_of d.history entry) is.1 in
+          reaches_at p k is.0 i waits.0 is.2 (lease_of is.0 (place_of d.sizes p.0) same) (place_is is.0 (place_of d.sizes p.0) same)
       go (request.Read a p) is waits = absurd (not_read is.0 (place_of d.sizes p.0) (msg_of (msg.Read is.0 (place_of d.sizes p.0)) [] is.1))
         where
           not_read : (j : Lease) (n : ℕ) → msg.Write k i ≡ msg.Read j n → ⊥
@@ -143,7 +163,9 @@ module _ (d : Device) (l : LenderNo) (c : Channel) (q : Parcel) (ps : List Parce
       place_is : (j : Lease) (n : ℕ) → msg.Read k i ≡ msg.Read j n → i ≡ n
       place_is j n is = cc
 
-      go : (x : Request) → Carries d.sizes d.history d.remote.slabs l q x → IsAwaited d.sizes d.history d.calls d.remote.slabs l x → Reaches d.sizes c.lender c.number k i
+      go :
+          (x : Request) → Carries d.sizes d.history d.remote.slabs l q x → IsAwaited d.sizes d.history d.calls d.remote.slabs l x
+          → Reaches d.sizes c.lender c.number k i
       go (request.Query t) is waits = absurd (not_query (msg_of (msg.Query t) [] is))
         where
           not_query : msg.Read k i ≡ msg.Query t → ⊥
@@ -152,18 +174,22 @@ module _ (d : Device) (l : LenderNo) (c : Channel) (q : Parcel) (ps : List Parce
         where
           not_borrow : msg.Read k i ≡ msg.Borrow t → ⊥
           not_borrow e = cc
-      go (request.Write p entry) is waits = absurd (not_write is.0 (place_of d.sizes p.0) (msg_of (msg.Write is.0 (place_of d.sizes p.0)) (bytes_of d.history entry) is.1))
+      go (request.Write p entry) is waits =
+          absurd (not_write is.0 (place_of d.sizes p.0) (msg_of (msg.Write is.0 (place_of d.sizes p.0)) (bytes_of d.history entry) is.1))
         where
           not_write : (j : Lease) (n : ℕ) → msg.Read k i ≡ msg.Write j n → ⊥
           not_write j n e = cc
-      go (request.Read a p) is waits = let same = msg_of (msg.Read is.0 (place_of d.sizes p.0)) [] is.1 in reaches_at p k is.0 i waits.1 is.2 (lease_of is.0 (place_of d.sizes p.0) same) (place_is is.0 (place_of d.sizes p.0) same)
+      go (request.Read a p) is waits =
+          let same = msg_of (msg.Read is.0 (place_of d.sizes p.0)) [] is.1 in
+          reaches_at p k is.0 i waits.1 is.2 (lease_of is.0 (place_of d.sizes p.0) same) (place_is is.0 (place_of d.sizes p.0) same)
 
   hello_may : (v bytes pages : ℕ) → q.msg ≡ msg.Hello v bytes pages → may_hello c.lender c.number v bytes pages ≡ true
   hello_may v bytes pages e =
       let first = greets_first d.sizes (has_greeted c.lender c.number) c.to_lender.ended q ps (ap is_hello e) allows.greets in
       let same : msg.Hello v bytes pages ≡ (hello d.sizes).msg = sym e ∙ ap (λ (p : Parcel). p.msg) first.1 in
       all_four (has_greeted c.lender c.number) (v == 1) (bytes == c.lender.lending.page_bytes) (pages == c.lender.lending.pages_per_slab) first.0
-      (eq-eqb v 1 (version_is same)) (eq-eqb bytes c.lender.lending.page_bytes (bytes_is same ∙ sym known.page_bytes)) (eq-eqb pages c.lender.lending.pages_per_slab (pages_is same ∙ sym known.pages_per_slab))
+      (eq-eqb v 1 (version_is same)) (eq-eqb bytes c.lender.lending.page_bytes (bytes_is same ∙ sym known.page_bytes))
+      (eq-eqb pages c.lender.lending.pages_per_slab (pages_is same ∙ sym known.pages_per_slab))
     where
       all_four : (a b e f : Bool) → a ≡ false → b ≡ true → e ≡ true → f ≡ true → (not a && b && e && f) ≡ true
       all_four a b e f x y z w = cc
@@ -185,8 +211,10 @@ module _ (d : Device) (l : LenderNo) (c : Channel) (q : Parcel) (ps : List Parce
       (ap not (none_for c.number t c.lender.slots (λ i m k told held. allows.free.0 t i m k told e held)))
   may_of (msg.Write k i) e = reaches_may d.sizes c.lender c.number k i known.pages_per_slab (reaches_write k i e)
   may_of (msg.Read k i) e = reaches_may d.sizes c.lender c.number k i known.pages_per_slab (reaches_read k i e)
-  may_of (msg.Rates k value) e = rates_allowed c.lender c.number k sound (held_of c lodges) (allows.rates k (ap (λ b. b || rates_in k ps) (ap (is_rate k) e ∙ eq-eqb k.0 k.0 refl)))
-  may_of (msg.Done k) e = done_allowed c.lender c.number k sound (held_of c lodges) (allows.done k (ap (λ b. b || gives_back k ps) (ap (is_done k) e ∙ eq-eqb k.0 k.0 refl)))
+  may_of (msg.Rates k value) e =
+      rates_allowed c.lender c.number k sound (held_of c lodges) (allows.rates k (ap (λ b. b || rates_in k ps) (ap (is_rate k) e ∙ eq-eqb k.0 k.0 refl)))
+  may_of (msg.Done k) e =
+      done_allowed c.lender c.number k sound (held_of c lodges) (allows.done k (ap (λ b. b || gives_back k ps) (ap (is_done k) e ∙ eq-eqb k.0 k.0 refl)))
   may_of _ e = absurd (subst IsToLender e allows.kinds.0)
 
   pub front_may : may_send c.lender c.number q.msg ≡ true

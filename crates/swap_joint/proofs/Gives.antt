@@ -67,9 +67,12 @@ lowest_free slots = elim (cases_lt (first_where is_free slots) (length slots)) [
     free_is (Held n t k e) is = cc
 
 -- what a served message wants of the device
-pub record Wants (states : List SlabState) (ring : List Request) (l : LenderNo) (table : Lender) (n : Link) (come : List Parcel) (ended : Bool) (q : Parcel) (ps : List Parcel) : Type 0 where
+pub record Wants (states : List SlabState) (ring : List Request) (l : LenderNo) (table : Lender) (n : Link) (come : List Parcel) (ended : Bool) (q : Parcel)
+    (ps : List Parcel) : Type 0 where
   pub hello : has_greeted (hello table n).lender n ≡ true
-  pub borrow : (t : Slab) → q.msg ≡ msg.Borrow t → ((borrows_in t ring ≡ true) ⊎ (ended ≡ true)) × (refuses_in t come ≡ false) × (list_any (λ (p : Parcel). borrows t p.msg) ps ≡ false)
+  pub borrow :
+      (t : Slab) → q.msg ≡ msg.Borrow t
+      → ((borrows_in t ring ≡ true) ⊎ (ended ≡ true)) × (refuses_in t come ≡ false) × (list_any (λ (p : Parcel). borrows t p.msg) ps ≡ false)
   pub done : (j : Lease) → q.msg ≡ msg.Done j → (u : Slab) → has_lease l j (state_of states u) ≡ false
 
 pub front_true : (a b : Bool) → a ≡ true → (a || b) ≡ true
@@ -83,40 +86,60 @@ untold_answered (Some r) slot value slots h = h
 pub draining_leased : (l : LenderNo) (j : Lease) (x : SlabState) (f : ℕ) → x ≡ Draining l j f → has_lease l j x ≡ true
 draining_leased l j x f is = ap (has_lease l j) is ∙ and_from (l.0 == l.0) (j.0 == j.0) (eq-eqb l.0 l.0 refl) (eq-eqb j.0 j.0 refl)
 
-module _ (s : Sizes) (states : List SlabState) (ring : List Request) (l : LenderNo) (table : Lender) (n : Link) (b : Lane) (ended : Bool) (q : Parcel) (ps : List Parcel) (sound : IsSound table) (held : HeldOf table n) (untold : AsksUntold table.round table.slots) (wants : Wants states ring l table n b.parcels ended q ps) (h : Allows s states ring l table n b.parcels ended (q ∷ ps)) where
-  pub serve_by : (m : Msg) (page : List ℕ) → q.msg ≡ m → Allows s states ring l (serve table n m page).lender n (forwarded n b (serve table n m page).parcels).parcels ended ps
-  serve_by (msg.Hello version page_bytes pages_per_slab) page is = allows_greeted s states ring l table n b.parcels ended q ps (ap is_hello is) (λ k. ap (is_done k) is) wants.hello h
+module _ (s : Sizes) (states : List SlabState) (ring : List Request) (l : LenderNo) (table : Lender) (n : Link) (b : Lane) (ended : Bool) (q : Parcel)
+    (ps : List Parcel) (sound : IsSound table) (held : HeldOf table n) (untold : AsksUntold table.round table.slots)
+    (wants : Wants states ring l table n b.parcels ended q ps) (h : Allows s states ring l table n b.parcels ended (q ∷ ps)) where
+  pub serve_by :
+      (m : Msg) (page : List ℕ) → q.msg ≡ m
+      → Allows s states ring l (serve table n m page).lender n (forwarded n b (serve table n m page).parcels).parcels ended ps
+  serve_by (msg.Hello version page_bytes pages_per_slab) page is =
+      allows_greeted s states ring l table n b.parcels ended q ps (ap is_hello is) (λ k. ap (is_done k) is) wants.hello h
   serve_by (msg.Query t) page is =
       let r : Parcel = parcel_of (msg.Room t (free table)) [] in
       subst (λ (z : Lane). Allows s states ring l table n z.parcels ended ps) (sym (own_link n b r))
-      (allows_reply s states ring l table n b r ended ps ((λ k. refl), (λ k. refl), (λ u i m k e refused _. both_ways false refl refused)) (allows_popped s states ring l table n b.parcels ended q ps (λ k. ap (is_done k) is) (ap is_hello is) h))
+      (allows_reply s states ring l table n b r ended ps ((λ k. refl), (λ k. refl), (λ u i m k e refused _. both_ways false refl refused))
+      (allows_popped s states ring l table n b.parcels ended q ps (λ k. ap (is_done k) is) (ap is_hello is) h))
   serve_by (msg.Borrow t) page is =
       let popped = allows_popped s states ring l table n b.parcels ended q ps (λ k. ap (is_done k) is) (ap is_hello is) h in
       let want = wants.borrow t is in
       cond_both (lends table) _ _ (λ (x : Turn). Allows s states ring l x.lender n (forwarded n b x.parcels).parcels ended ps)
       (λ _. let r : Parcel = parcel_of (msg.Lent t (record { 0 = table.next_lease })) [] in
-      let now = allows_granted s states ring l table n b.parcels ended ps (first_where is_free table.slots) n t (record { 0 = table.next_lease }) (set table.contents (first_where is_free table.slots) (blank table.lending)) (table.next_lease + 1) (lowest_free table.slots) want.0 want.1 want.2 popped in
-      subst (λ (z : Lane). Allows s states ring l (lend table n t (first_where is_free table.slots)).lender n z.parcels ended ps) (sym (own_link n b r)) (allows_reply s states ring l (lend table n t (first_where is_free table.slots)).lender n b r ended ps ((λ k. refl), (λ k. refl), (λ u i m k e refused _. both_ways false refl refused)) now))
+      let now =
+      allows_granted s states ring l table n b.parcels ended ps (first_where is_free table.slots) n t (record { 0 = table.next_lease })
+      (set table.contents (first_where is_free table.slots) (blank table.lending)) (table.next_lease + 1)
+      (lowest_free table.slots) want.0 want.1 want.2 popped in
+      subst (λ (z : Lane). Allows s states ring l (lend table n t (first_where is_free table.slots)).lender n z.parcels ended ps) (sym (own_link n b r))
+      (allows_reply s states ring l (lend table n t (first_where is_free table.slots)).lender n b r ended ps
+      ((λ k. refl), (λ k. refl), (λ u i m k e refused _. both_ways false refl refused)) now))
       (λ _. let r : Parcel = parcel_of (msg.Refused t) [] in
       subst (λ (z : Lane). Allows s states ring l table n z.parcels ended ps) (sym (own_link n b r))
-      (allows_reply s states ring l table n b r ended ps ((λ k. refl), (λ k. refl), (λ u i m k e refused slot. h.free.0 u i m k e (is ∙ ap (λ (x : ℕ). msg.Borrow (record { 0 = x })) (eqb-true t.0 u.0 refused)) slot)) popped))
+      (allows_reply s states ring l table n b r ended ps (
+        (λ k. refl),
+        (λ k. refl),
+        (λ u i m k e refused slot. h.free.0 u i m k e (is ∙ ap (λ (x : ℕ). msg.Borrow (record { 0 = x })) (eqb-true t.0 u.0 refused)) slot),
+      )
+      popped))
   serve_by (msg.Write j i) page is =
       let r : Parcel = parcel_of (msg.Wrote j i) [] in
       let after : Lender = record table { contents = with_page table.contents (slot_of table n j) i page } in
       subst (λ (z : Lane). Allows s states ring l after n z.parcels ended ps) (sym (own_link n b r))
       (allows_reply s states ring l after n b r ended ps ((λ k. refl), (λ k. refl), (λ u x m k e refused _. both_ways false refl refused))
-      (allows_table s states ring l table (record table { contents = with_page table.contents (slot_of table n j) i page }) n b.parcels ended ps refl refl refl (allows_popped s states ring l table n b.parcels ended q ps (λ k. ap (is_done k) is) (ap is_hello is) h)))
+      (allows_table s states ring l table (record table { contents = with_page table.contents (slot_of table n j) i page }) n b.parcels ended ps refl refl refl
+      (allows_popped s states ring l table n b.parcels ended q ps (λ k. ap (is_done k) is) (ap is_hello is) h)))
   serve_by (msg.Read j i) page is =
       let r : Parcel = parcel_of (msg.PageIs j i) (page_in table.contents (slot_of table n j) i) in
       subst (λ (z : Lane). Allows s states ring l table n z.parcels ended ps) (sym (own_link n b r))
-      (allows_reply s states ring l table n b r ended ps ((λ k. refl), (λ k. refl), (λ u x m k e refused _. both_ways false refl refused)) (allows_popped s states ring l table n b.parcels ended q ps (λ k. ap (is_done k) is) (ap is_hello is) h))
+      (allows_reply s states ring l table n b r ended ps ((λ k. refl), (λ k. refl), (λ u x m k e refused _. both_ways false refl refused))
+      (allows_popped s states ring l table n b.parcels ended q ps (λ k. ap (is_done k) is) (ap is_hello is) h))
   serve_by (msg.Rates j v) page is =
       let w : Waits table j = h.rates j (front_true (is_rate j q.msg) _ (ap (is_rate j) is ∙ eq-eqb j.0 j.0 refl)) in
       let at = slot_found table n j w.at w.link w.slab false sound w.held (held w.at w.link w.slab j false w.held) in
       let noted : Allows s states ring l (record table { round = option_map (answer (slot_of table n j) v) table.round }) n b.parcels ended ps =
-      subst (λ i. Allows s states ring l (record table { round = option_map (answer i v) table.round }) n b.parcels ended ps) (sym at.is) (allows_rate s states ring l table n b.parcels ended sound q ps j v w is h)
+      subst (λ i. Allows s states ring l (record table { round = option_map (answer i v) table.round }) n b.parcels ended ps) (sym at.is)
+      (allows_rate s states ring l table n b.parcels ended sound q ps j v w is h)
       in
-      allows_settled s states ring l (record table { round = option_map (answer (slot_of table n j) v) table.round }) n b ended ps (sound_round (option_map (answer (slot_of table n j) v) table.round)) (due (option_map (answer (slot_of table n j) v) table.round)) refl
+      allows_settled s states ring l (record table { round = option_map (answer (slot_of table n j) v) table.round }) n b ended ps
+      (sound_round (option_map (answer (slot_of table n j) v) table.round)) (due (option_map (answer (slot_of table n j) v) table.round)) refl
       (untold_answered table.round (slot_of table n j) v table.slots untold) noted
     where
       sound_round : (o : Option Round) → IsSound (record table { round = o })
@@ -125,7 +148,8 @@ module _ (s : Sizes) (states : List SlabState) (ring : List Request) (l : Lender
       let x = h.done j (front_true (is_done j q.msg) _ (ap (is_done j) is ∙ eq-eqb j.0 j.0 refl)) in
       let at = slot_found table n j x.0 x.1 x.2 true sound x.3 (held x.0 x.1 x.2 j true x.3) in
       subst (λ i. Allows s states ring l (record table { slots = set table.slots i Free }) n b.parcels ended ps) (sym at.is)
-      (allows_done s states ring l table n b.parcels ended sound q ps j x.0 x.1 x.2 is x.3 (wants.done j is) (λ u f e. draining_leased l j (state_of states u) f e) h)
+      (allows_done s states ring l table n b.parcels ended sound q ps j x.0 x.1 x.2 is x.3 (wants.done j is)
+      (λ u f e. draining_leased l j (state_of states u) f e) h)
   serve_by _ page is = absurd (let wrong : ⊥ = subst IsToLender is h.kinds.0 in wrong)
 
 -- what the ring says of borrows
@@ -151,13 +175,21 @@ any_front p (x ∷ xs) ys e = go (p x) e (any_front p xs ys)
     go false e more = more e
 
 -- no message of a list passes a test where none of their requests does
-pub pairs_none : (P : Parcel → Request → Type 0) (test select : Parcel → Bool) (tests : Request → Bool) (ps : List Parcel) (rs : List Request) → ((p : Parcel) (r : Request) → P p r → test p ≡ true → tests r ≡ true) → ((p : Parcel) → test p ≡ true → select p ≡ true) → Pairwise P (filter select ps) rs → list_any tests rs ≡ false → list_any test ps ≡ false
+pub pairs_none :
+    (P : Parcel → Request → Type 0) (test select : Parcel → Bool) (tests : Request → Bool) (ps : List Parcel) (rs : List Request)
+    → ((p : Parcel) (r : Request) → P p r → test p ≡ true → tests r ≡ true) → ((p : Parcel) → test p ≡ true → select p ≡ true)
+    → Pairwise P (filter select ps) rs
+    → list_any tests rs ≡ false → list_any test ps ≡ false
 pairs_none P test select tests [] rs each sub h none = refl
 pairs_none P test select tests (p ∷ ps) rs each sub h none = go (select p) refl rs h none (λ rs h none. pairs_none P test select tests ps rs each sub h none)
   where
-    go : (b : Bool) → select p ≡ b → (rs : List Request) → Pairwise P (cond b (p ∷ filter select ps) (filter select ps)) rs → list_any tests rs ≡ false → ((rs : List Request) → Pairwise P (filter select ps) rs → list_any tests rs ≡ false → list_any test ps ≡ false) → (test p || list_any test ps) ≡ false
+    go :
+        (b : Bool) → select p ≡ b → (rs : List Request) → Pairwise P (cond b (p ∷ filter select ps) (filter select ps)) rs → list_any tests rs ≡ false
+        → ((rs : List Request) → Pairwise P (filter select ps) rs → list_any tests rs ≡ false → list_any test ps ≡ false) → (test p || list_any test ps) ≡ false
     go true e [] h none more = absurd h
-    go true e (r ∷ rs) h none more = or_false (test p) _ (false_from_ne_true _ (λ t. both_ways (tests r) (or_parts (tests r) (list_any tests rs) none).0 (each p r h.0 t))) (more rs h.1 (or_parts (tests r) (list_any tests rs) none).1)
+    go true e (r ∷ rs) h none more =
+        or_false (test p) _ (false_from_ne_true _ (λ t. both_ways (tests r) (or_parts (tests r) (list_any tests rs) none).0 (each p r h.0 t)))
+        (more rs h.1 (or_parts (tests r) (list_any tests rs) none).1)
     go false e rs h none more = or_false (test p) _ (false_from_ne_true _ (λ t. both_ways (select p) e (sub p t))) (more rs h none)
 
 pub none_before : (t : Slab) (xs ys : List Request) → AreInOrder (xs ++ request.Borrow t ∷ ys) → list_any (is_borrow t) xs ≡ false
@@ -185,7 +217,9 @@ order_back [] ys h = h
 order_back (x ∷ xs) ys h = order_back xs ys h.1
 
 -- the request of a Borrow
-pub is_for_borrow : (s : Sizes) (H : History) (states : List SlabState) (l : LenderNo) (q : Parcel) (x : Request) (t : Slab) → q.msg ≡ msg.Borrow t → Carries s H states l q x → x ≡ request.Borrow t
+pub is_for_borrow :
+    (s : Sizes) (H : History) (states : List SlabState) (l : LenderNo) (q : Parcel) (x : Request) (t : Slab) → q.msg ≡ msg.Borrow t → Carries s H states l q x
+    → x ≡ request.Borrow t
 is_for_borrow s H states l q (request.Query u) t is h = absurd (clash (sym is ∙ ap (λ (p : Parcel). p.msg) h))
   where
     clash : msg.Borrow t ≡ msg.Query u → ⊥
@@ -212,30 +246,42 @@ refusal_of t (msg.Refused u) e = ap (λ (i : ℕ). msg.Refused (record { 0 = i }
 refusal_of t _ e = cc
 
 -- the request of a refusal
-refusal_answers : (s : Sizes) (states : List SlabState) (l : LenderNo) (q : Parcel) (x : Request) (t : Slab) → q.msg ≡ msg.Refused t → Answers s states l q x → is_borrow t x ≡ true
+refusal_answers :
+    (s : Sizes) (states : List SlabState) (l : LenderNo) (q : Parcel) (x : Request) (t : Slab) → q.msg ≡ msg.Refused t → Answers s states l q x
+    → is_borrow t x ≡ true
 refusal_answers s states l q (request.Query u) t is h = absurd (let wrong : ⊥ = subst (λ (m : Msg). IsRoomFor u (query_reply m)) is h in wrong)
-refusal_answers s states l q (request.Borrow u) t is h = eq-eqb u.0 t.0 (sym (let same : t.0 ≡ u.0 = subst (λ (m : Msg). IsReplyFor u (borrow_reply m)) is h in same))
+refusal_answers s states l q (request.Borrow u) t is h =
+    eq-eqb u.0 t.0 (sym (let same : t.0 ≡ u.0 = subst (λ (m : Msg). IsReplyFor u (borrow_reply m)) is h in same))
 refusal_answers s states l q (request.Write p e) t is h = absurd (let wrong : ⊥ = subst (λ (m : Msg). Names s states l p (write_reply m)) is h in wrong)
 refusal_answers s states l q (request.Read c p) t is h = absurd (let wrong : ⊥ = subst (λ (m : Msg). Names s states l p (read_reply m)) is h in wrong)
 
 -- a Borrow that is under way to the lender: its request stands in the ring once, and nothing refuses its slab
-borrow_wants : (d : Device) (l : LenderNo) (c : Channel) (q : Parcel) (ps : List Parcel) (t : Slab) → Joined d l c → AreInOrder (ring_of d.remote.links l) → c.to_lender.parcels ≡ q ∷ ps → q.msg ≡ msg.Borrow t
+borrow_wants :
+    (d : Device) (l : LenderNo) (c : Channel) (q : Parcel) (ps : List Parcel) (t : Slab) → Joined d l c → AreInOrder (ring_of d.remote.links l)
+    → c.to_lender.parcels ≡ q ∷ ps → q.msg ≡ msg.Borrow t
     → (borrows_in t (ring_of d.remote.links l) ≡ true) × (refuses_in t c.to_device.parcels ≡ false) × (list_any (λ (p : Parcel). borrows t p.msg) ps ≡ false)
 borrow_wants d l c q ps t joined ordered front is =
     let o = joined.order in
     let A : Parcel → Request → Type 0 = Asked d.sizes d.history d.calls d.remote.slabs l c in
     let R : Parcel → Request → Type 0 = Replied d.sizes d.history d.calls d.remote.slabs l in
-    let pairs : Pairwise A (q ∷ filter asks_by ps) o.under_way = subst (λ xs. Pairwise A xs o.under_way) (ap (filter asks_by) front ∙ filter-first asks_by q ps (ap is_request is)) o.requests in
+    let pairs : Pairwise A (q ∷ filter asks_by ps) o.under_way =
+    subst (λ xs. Pairwise A xs o.under_way) (ap (filter asks_by) front ∙ filter-first asks_by q ps (ap is_request is)) o.requests in
     let f = pairs-first A q (filter asks_by ps) o.under_way pairs in
     let one : f.one ≡ request.Borrow t = is_for_borrow d.sizes d.history d.remote.slabs l q f.one t is f.here.0 in
     let way : o.under_way ≡ request.Borrow t ∷ f.rest = f.is ∙ ap (λ x. x ∷ f.rest) one in
-    let ring : ring_of d.remote.links l ≡ (o.answered ++ o.unheard) ++ (request.Borrow t ∷ (f.rest ++ o.dropped)) = o.in_four ∙ ap (λ xs. (o.answered ++ o.unheard) ++ (xs ++ o.dropped)) way in
+    let ring : ring_of d.remote.links l ≡ (o.answered ++ o.unheard) ++ (request.Borrow t ∷ (f.rest ++ o.dropped)) =
+    o.in_four ∙ ap (λ xs. (o.answered ++ o.unheard) ++ (xs ++ o.dropped)) way in
     let there : AreInOrder ((o.answered ++ o.unheard) ++ (request.Borrow t ∷ (f.rest ++ o.dropped))) = subst AreInOrder ring ordered in
     let before : list_any (is_borrow t) (o.answered ++ o.unheard) ≡ false = none_before t (o.answered ++ o.unheard) (f.rest ++ o.dropped) there in
     let after : list_any (is_borrow t) (f.rest ++ o.dropped) ≡ false = none_after t (f.rest ++ o.dropped) (order_back (o.answered ++ o.unheard) _ there).0 in (
-      ap (borrows_in t) ring ∙ any_back (is_borrow t) (o.answered ++ o.unheard) _ (ap (λ b. b || list_any (is_borrow t) (f.rest ++ o.dropped)) (eq-eqb t.0 t.0 refl)),
-      pairs_none R (λ p. is_refusal t p.msg) replies_by (is_borrow t) c.to_device.parcels o.answered (λ p r h e. refusal_answers d.sizes d.remote.slabs l p r t (refusal_of t p.msg e) h.0) (λ p e. ap is_reply (refusal_of t p.msg e)) o.replies (any_first (is_borrow t) o.answered o.unheard before),
-      pairs_none A (λ p. borrows t p.msg) asks_by (is_borrow t) ps f.rest (λ p r h e. ap (is_borrow t) (is_for_borrow d.sizes d.history d.remote.slabs l p r t (borrow_of t p.msg e) h.0) ∙ eq-eqb t.0 t.0 refl) (λ p e. ap is_request (borrow_of t p.msg e)) f.there (any_first (is_borrow t) f.rest o.dropped after),
+      ap (borrows_in t) ring
+          ∙ any_back (is_borrow t) (o.answered ++ o.unheard) _ (ap (λ b. b || list_any (is_borrow t) (f.rest ++ o.dropped)) (eq-eqb t.0 t.0 refl)),
+      pairs_none R (λ p. is_refusal t p.msg) replies_by (is_borrow t) c.to_device.parcels o.answered
+          (λ p r h e. refusal_answers d.sizes d.remote.slabs l p r t (refusal_of t p.msg e) h.0) (λ p e. ap is_reply (refusal_of t p.msg e)) o.replies
+          (any_first (is_borrow t) o.answered o.unheard before),
+      pairs_none A (λ p. borrows t p.msg) asks_by (is_borrow t) ps f.rest
+          (λ p r h e. ap (is_borrow t) (is_for_borrow d.sizes d.history d.remote.slabs l p r t (borrow_of t p.msg e) h.0) ∙ eq-eqb t.0 t.0 refl)
+          (λ p e. ap is_request (borrow_of t p.msg e)) f.there (any_first (is_borrow t) f.rest o.dropped after),
     )
   where
     any_first : {X : Type 0} (p : X → Bool) (xs ys : List X) → list_any p (xs ++ ys) ≡ false → list_any p xs ≡ false
@@ -250,13 +296,21 @@ stands_so true P p = tt
 stands_so false P p = p
 
 -- the lender takes the first message, or its end leaves
-pub allowed_given : (d : Device) (l : LenderNo) (c : Channel) → IsSound c.lender → AsksUntold c.lender.round c.lender.slots → Lodges c → (c.lender_gone ≡ false → has_greeted (hello c.lender c.number).lender c.number ≡ true) → Joined d l c → AreInOrder (ring_of d.remote.links l) → Allowed d l c [] → Allowed d l (given c).1 []
-allowed_given d l c sound untold lodges greeted joined ordered h = cond_both c.lender_gone _ _ (λ (x : Gave × Channel). Allowed d l x.1 []) (λ _. h) (λ stands. from stands c.to_lender.parcels refl)
+pub allowed_given :
+    (d : Device) (l : LenderNo) (c : Channel) → IsSound c.lender → AsksUntold c.lender.round c.lender.slots → Lodges c
+    → (c.lender_gone ≡ false → has_greeted (hello c.lender c.number).lender c.number ≡ true) → Joined d l c → AreInOrder (ring_of d.remote.links l)
+    → Allowed d l c [] → Allowed d l (given c).1 []
+allowed_given d l c sound untold lodges greeted joined ordered h =
+    cond_both c.lender_gone _ _ (λ (x : Gave × Channel). Allowed d l x.1 []) (λ _. h) (λ stands. from stands c.to_lender.parcels refl)
   where
-    fine : c.lender_gone ≡ false → (q : Parcel) (ps : List Parcel) → c.to_lender.parcels ≡ q ∷ ps → Allowed d l (delivered (record c { to_lender = record c.to_lender { parcels = ps } }) (serve c.lender c.number q.msg q.page)) []
+    fine :
+        c.lender_gone ≡ false → (q : Parcel) (ps : List Parcel) → c.to_lender.parcels ≡ q ∷ ps
+        → Allowed d l (delivered (record c { to_lender = record c.to_lender { parcels = ps } }) (serve c.lender c.number q.msg q.page)) []
     fine stands q ps front =
-        let A : List Parcel → Type 0 = λ out. Allows d.sizes d.remote.slabs (ring_of d.remote.links l) l c.lender c.number c.to_device.parcels c.to_lender.ended out in
-        let now : Allows d.sizes d.remote.slabs (ring_of d.remote.links l) l c.lender c.number c.to_device.parcels c.to_lender.ended (q ∷ ps) = subst A (append-nil c.to_lender.parcels ∙ front) (opened_by c.lender_gone (A (c.to_lender.parcels ++ [])) stands h) in
+        let A : List Parcel
+        → Type 0 = λ out. Allows d.sizes d.remote.slabs (ring_of d.remote.links l) l c.lender c.number c.to_device.parcels c.to_lender.ended out in
+        let now : Allows d.sizes d.remote.slabs (ring_of d.remote.links l) l c.lender c.number c.to_device.parcels c.to_lender.ended (q ∷ ps) =
+        subst A (append-nil c.to_lender.parcels ∙ front) (opened_by c.lender_gone (A (c.to_lender.parcels ++ [])) stands h) in
         let stored = opened_by c.lender_gone _ stands joined.stored in
         let wants : Wants d.remote.slabs (ring_of d.remote.links l) l c.lender c.number c.to_device.parcels c.to_lender.ended q ps = record {
           hello = greeted stands;
@@ -264,27 +318,51 @@ allowed_given d l c sound untold lodges greeted joined ordered h = cond_both c.l
           done = λ j is. (stored.given j (ap (gives_back j) front ∙ front_true (is_done j q.msg) _ (ap (is_done j) is ∙ eq-eqb j.0 j.0 refl))).unleased;
         } in
         stands_so c.lender_gone _
-        (subst (λ out. Allows d.sizes d.remote.slabs (ring_of d.remote.links l) l (serve c.lender c.number q.msg q.page).lender c.number (forwarded c.number c.to_device (serve c.lender c.number q.msg q.page).parcels).parcels c.to_lender.ended out) (sym (append-nil ps))
-        (serve_by d.sizes d.remote.slabs (ring_of d.remote.links l) l c.lender c.number c.to_device c.to_lender.ended q ps sound (λ i m t k e is. (lodges i (record { link = m; slab = t; lease = k }) (ap tenant is)).1) untold wants now q.msg q.page refl))
+        (subst
+        (λ out.
+        Allows d.sizes d.remote.slabs (ring_of d.remote.links l) l (serve c.lender c.number q.msg q.page).lender c.number
+        (forwarded c.number c.to_device (serve c.lender c.number q.msg q.page).parcels).parcels c.to_lender.ended out)
+        (sym (append-nil ps))
+        (serve_by d.sizes d.remote.slabs (ring_of d.remote.links l) l c.lender c.number c.to_device c.to_lender.ended q ps sound
+        (λ i m t k e is. (lodges i (record { link = m; slab = t; lease = k }) (ap tenant is)).1) untold wants now q.msg q.page refl))
 
     from : c.lender_gone ≡ false → (ps : List Parcel) → c.to_lender.parcels ≡ ps → Allowed d l (given_from c ps).1 []
     from stands [] is = cond_both c.to_lender.ended _ _ (λ (x : Gave × Channel). Allowed d l x.1 []) (λ _. tt) (λ _. h)
     from stands (q ∷ ps) is =
         cond_both (may_send c.lender c.number q.msg) _ _ (λ (x : Gave × Channel). Allowed d l x.1 [])
-        (λ may. subst (λ (t : Turn). Allowed d l (delivered (record c { to_lender = record c.to_lender { parcels = ps } }) t) []) (sym (took-served c.lender c.number q.msg q.page may)) (fine stands q ps is)) (λ _. tt)
+        (λ may.
+        subst (λ (t : Turn). Allowed d l (delivered (record c { to_lender = record c.to_lender { parcels = ps } }) t) [])
+        (sym (took-served c.lender c.number q.msg q.page may)) (fine stands q ps is))
+        (λ _. tt)
 
 -- the lender measures its host
-pub allowed_hosted : (d : Device) (l : LenderNo) (c : Channel) (used word : ℕ) → IsReached c.lender → IsSound c.lender → Allowed d l c [] → Allowed d l (delivered c (host c.lender used word)) []
+pub allowed_hosted :
+    (d : Device) (l : LenderNo) (c : Channel) (used word : ℕ) → IsReached c.lender → IsSound c.lender → Allowed d l c []
+    → Allowed d l (delivered c (host c.lender used word)) []
 allowed_hosted d l c used word reached sound h = go c.lender_gone refl
   where
-    hosted_ : c.lender_gone ≡ false → Allows d.sizes d.remote.slabs (ring_of d.remote.links l) l (host c.lender used word).lender c.number (forwarded c.number c.to_device (host c.lender used word).parcels).parcels c.to_lender.ended (c.to_lender.parcels ++ [])
+    hosted_ :
+        c.lender_gone ≡ false
+        → Allows d.sizes d.remote.slabs (ring_of d.remote.links l) l (host c.lender used word).lender c.number
+        (forwarded c.number c.to_device (host c.lender used word).parcels).parcels c.to_lender.ended (c.to_lender.parcels ++ [])
     hosted_ stands =
-        let now : Allows d.sizes d.remote.slabs (ring_of d.remote.links l) l c.lender c.number c.to_device.parcels c.to_lender.ended (c.to_lender.parcels ++ []) = opened_by c.lender_gone _ stands h in
+        let now : Allows d.sizes d.remote.slabs (ring_of d.remote.links l) l c.lender c.number c.to_device.parcels c.to_lender.ended
+        (c.to_lender.parcels ++ []) =
+        opened_by c.lender_gone _ stands h in
         let m : Lender = measured c.lender used in
-        cond_both (opens (measured c.lender used)) _ _ (λ (t : Turn). (host c.lender used word ≡ t) → Allows d.sizes d.remote.slabs (ring_of d.remote.links l) l t.lender c.number (forwarded c.number c.to_device t.parcels).parcels c.to_lender.ended (c.to_lender.parcels ++ []))
-        (λ opens_ is. allows_opened d.sizes d.remote.slabs (ring_of d.remote.links l) l c.lender c.number c.to_device c.to_lender.ended (c.to_lender.parcels ++ []) sound (asked (measured c.lender used) word) (to_evict (measured c.lender used)) (measured c.lender used).usage (none_is c.lender.round (and_parts (is_none c.lender.round) _ opens_).0)
+        cond_both (opens (measured c.lender used)) _ _
+        (λ (t : Turn). (host c.lender used word ≡ t)
+        → Allows d.sizes d.remote.slabs (ring_of d.remote.links l) l t.lender c.number (forwarded c.number c.to_device t.parcels).parcels c.to_lender.ended
+        (c.to_lender.parcels ++ []))
+        (λ opens_ is.
+        allows_opened d.sizes d.remote.slabs (ring_of d.remote.links l) l c.lender c.number c.to_device c.to_lender.ended (c.to_lender.parcels ++ []) sound
+        (asked (measured c.lender used) word) (to_evict (measured c.lender used)) (measured c.lender used).usage
+        (none_is c.lender.round (and_parts (is_none c.lender.round) _ opens_).0)
         (λ i inside. (asked_low (measured c.lender used) word i inside, asks_stay c.lender used word reached (λ n r. (are_owned n r).round) is i inside)) now)
-        (λ _ is. allows_table d.sizes d.remote.slabs (ring_of d.remote.links l) l c.lender (measured c.lender used) c.number c.to_device.parcels c.to_lender.ended (c.to_lender.parcels ++ []) refl refl refl now) refl
+        (λ _ is.
+        allows_table d.sizes d.remote.slabs (ring_of d.remote.links l) l c.lender (measured c.lender used) c.number c.to_device.parcels c.to_lender.ended
+        (c.to_lender.parcels ++ []) refl refl refl now)
+        refl
       where
         none_is : (o : Option Round) → is_none o ≡ true → o ≡ None
         none_is None e = refl

@@ -47,20 +47,26 @@ abbrev lease_in : SlotState → ℕ
 lease_in Free = 0
 lease_in (Held n t k e) = k.0
 
-pub one_lease : (slots : List SlotState) (i j : ℕ) (m n : Link) (t u : Slab) (k o : Lease) (e f : Bool) → i ≡ j → slot_in slots i ≡ Held m t k e → slot_in slots j ≡ Held n u o f → k.0 ≡ o.0
+pub one_lease :
+    (slots : List SlotState) (i j : ℕ) (m n : Link) (t u : Slab) (k o : Lease) (e f : Bool) → i ≡ j → slot_in slots i ≡ Held m t k e
+    → slot_in slots j ≡ Held n u o f → k.0 ≡ o.0
 one_lease xs i j m n t u k o e f same a b = ap lease_in (sym a ∙ ap (λ x. slot_in xs x) same ∙ b)
 
 abbrev told_in : SlotState → Bool
 told_in Free = false
 told_in (Held n t k e) = e
 
-one_told : (slots : List SlotState) (i j : ℕ) (m n : Link) (t u : Slab) (k o : Lease) (e f : Bool) → i ≡ j → slot_in slots i ≡ Held m t k e → slot_in slots j ≡ Held n u o f → e ≡ f
+one_told :
+    (slots : List SlotState) (i j : ℕ) (m n : Link) (t u : Slab) (k o : Lease) (e f : Bool) → i ≡ j → slot_in slots i ≡ Held m t k e
+    → slot_in slots j ≡ Held n u o f → e ≡ f
 one_told xs i j m n t u k o e f same a b = ap told_in (sym a ∙ ap (λ x. slot_in xs x) same ∙ b)
 
 -- a slot that is freed
 
 -- what is held then was held, elsewhere
-pub freed_was : (slots : List SlotState) (i j : ℕ) (m : Link) (t : Slab) (k : Lease) (e : Bool) → slot_in (set slots i Free) j ≡ Held m t k e → (j ≡ i → ⊥) × (slot_in slots j ≡ Held m t k e)
+pub freed_was :
+    (slots : List SlotState) (i j : ℕ) (m : Link) (t : Slab) (k : Lease) (e : Bool) → slot_in (set slots i Free) j ≡ Held m t k e
+    → (j ≡ i → ⊥) × (slot_in slots j ≡ Held m t k e)
 freed_was [] i j m t k e is = cc
 freed_was (s ∷ ss) zero zero m t k e is = cc
 freed_was (s ∷ ss) zero (suc j) m t k e is = ((λ same. absurd (omega (arith, same))), is)
@@ -81,21 +87,34 @@ done_is k m j is e = eqb-true j.0 k.0 (sym (ap (is_done k) is) ∙ e)
 is_done_of : (k : Lease) (m : Msg) (j : Lease) → m ≡ msg.Done j → j.0 ≡ k.0 → is_done k m ≡ true
 is_done_of k m j is same = ap (is_done k) is ∙ eq-eqb j.0 k.0 same
 
-either_done : {P : Type 0} (k : Lease) (q : Parcel) (ps : List Parcel) → gives_back k (q ∷ ps) ≡ true → (is_done k q.msg ≡ true → P) → (gives_back k ps ≡ true → P) → P
+either_done :
+    {P : Type 0} (k : Lease) (q : Parcel) (ps : List Parcel) → gives_back k (q ∷ ps) ≡ true → (is_done k q.msg ≡ true → P) → (gives_back k ps ≡ true → P) → P
 either_done {P} k q ps e here there = go (is_done k q.msg) refl e
   where
     go : (b : Bool) → is_done k q.msg ≡ b → (b || gives_back k ps) ≡ true → P
     go true is e = here is
     go false is e = there e
 
-module _ (s : Sizes) (states : List SlabState) (ring : List Request) (l : LenderNo) (table : Lender) (n : Link) (come : List Parcel) (ended : Bool) (sound : IsSound table) where
+module _ (s : Sizes) (states : List SlabState) (ring : List Request) (l : LenderNo) (table : Lender) (n : Link) (come : List Parcel) (ended : Bool)
+    (sound : IsSound table) where
   -- a lease that no slab has is given back: its slot is free
-  pub allows_done : (q : Parcel) (ps : List Parcel) (j : Lease) (i : ℕ) (m : Link) (t : Slab) → q.msg ≡ msg.Done j → slot_in table.slots i ≡ Held m t j true → ((u : Slab) → has_lease l j (state_of states u) ≡ false) → ((x : Slab) (f : ℕ) → state_of states x ≡ Draining l j f → has_lease l j (state_of states x) ≡ true)
+  pub allows_done :
+      (q : Parcel) (ps : List Parcel) (j : Lease) (i : ℕ) (m : Link) (t : Slab) → q.msg ≡ msg.Done j → slot_in table.slots i ≡ Held m t j true
+      → ((u : Slab) → has_lease l j (state_of states u) ≡ false)
+      → ((x : Slab) (f : ℕ) → state_of states x ≡ Draining l j f → has_lease l j (state_of states x) ≡ true)
       → Allows s states ring l table n come ended (q ∷ ps) → Allows s states ring l (record table { slots = set table.slots i Free }) n come ended ps
   allows_done q ps j i m t is at unleased drained h = record {
-    told = λ k e. keeps k (h.told k e) (λ same. both_ways (gives_back k (q ∷ ps)) (h.apart k e) (ap (λ b. b || gives_back k ps) (is_done_of k q.msg j is same)));
-    drains = λ u k f e. keeps k (h.drains u k f e) (λ same. let e' : state_of states u ≡ Draining l j f = e ∙ ap (λ x. Draining l (record { 0 = x }) f) (sym same) in both_ways (has_lease l j (state_of states u)) (unleased u) (drained u f e'));
-    done = λ k e. keeps k (h.done k (any-rest (λ (p : Parcel). is_done k p.msg) q ps e)) (λ same. both_ways (gives_back k ps) (h.done_once.0 k (is_done_of k q.msg j is same)) e);
+    told =
+        λ k e. keeps k (h.told k e) (λ same. both_ways (gives_back k (q ∷ ps)) (h.apart k e) (ap (λ b. b || gives_back k ps) (is_done_of k q.msg j is same)));
+    drains =
+        λ u k f e.
+        keeps k (h.drains u k f e)
+        (λ same. let e' : state_of states u ≡ Draining l j f = e ∙ ap (λ x. Draining l (record { 0 = x }) f) (sym same) in
+        both_ways (has_lease l j (state_of states u)) (unleased u) (drained u f e'));
+    done =
+        λ k e.
+        keeps k (h.done k (any-rest (λ (p : Parcel). is_done k p.msg) q ps e))
+        (λ same. both_ways (gives_back k ps) (h.done_once.0 k (is_done_of k q.msg j is same)) e);
     done_once = h.done_once.1;
     evict_once = h.evict_once;
     apart = λ k e. (or_parts (is_done k q.msg) (gives_back k ps) (h.apart k e)).1;
@@ -112,14 +131,21 @@ module _ (s : Sizes) (states : List SlabState) (ring : List Request) (l : Lender
           | inr rest ↦ elim rest [
             | inl asked_ ↦ inr (inl asked_)
             | inr later ↦ elim later [
-              | inl back ↦ either_done k q ps back (λ here. absurd (was.0 (same_slot table sound x i y m u t k j e true was.1 at (sym (done_is k q.msg j is here))))) (λ there. inr (inr (inl there)))
+              | inl back ↦
+                  either_done k q ps back (λ here. absurd (was.0 (same_slot table sound x i y m u t k j e true was.1 at (sym (done_is k q.msg j is here)))))
+                  (λ there. inr (inr (inl there)))
               | inr over ↦ inr (inr (inr over))
             ]
           ]
         ]);
     refused = λ x y u k e come_ held. h.refused x y u k e come_ (freed_was table.slots i x y u k e held).1;
     free = free_map table.slots (set table.slots i Free) (λ k. ⊥ ⊎ (is_done k q.msg ≡ true)) (λ k. ⊥) ps
-        (λ u x y k e _ held. let was = freed_was table.slots i x y u k e held in ((e, was.1), λ given. elim given [ inl none ↦ none | inr here ↦ was.0 (same_slot table sound x i y m u t k j e true was.1 at (sym (done_is k q.msg j is here))) ])) h.free.1;
+        (λ u x y k e _ held. let was = freed_was table.slots i x y u k e held in (
+          (e, was.1),
+          λ given.
+              elim given [ inl none ↦ none | inr here ↦ was.0 (same_slot table sound x i y m u t k j e true was.1 at (sym (done_is k q.msg j is here))) ],
+        ))
+        h.free.1;
     greets = greeted (has_greeted table n) h.greets;
     kinds = h.kinds.1;
   }
@@ -162,9 +188,12 @@ rate_of k m j v is same = ap (is_rate k) is ∙ eq-eqb j.0 k.0 same
 answered_round : (o : Option Round) (r : Round) (slot value : ℕ) → o ≡ Some r → option_map (answer slot value) o ≡ Some (answer slot value r)
 answered_round o r slot value is = ap (option_map (answer slot value)) is
 
-module _ (s : Sizes) (states : List SlabState) (ring : List Request) (l : LenderNo) (table : Lender) (n : Link) (come : List Parcel) (ended : Bool) (sound : IsSound table) where
+module _ (s : Sizes) (states : List SlabState) (ring : List Request) (l : LenderNo) (table : Lender) (n : Link) (come : List Parcel) (ended : Bool)
+    (sound : IsSound table) where
   -- the value is noted
-  pub allows_rate : (q : Parcel) (ps : List Parcel) (j : Lease) (v : ℕ) (w : Waits table j) → q.msg ≡ msg.Rates j v → Allows s states ring l table n come ended (q ∷ ps) → Allows s states ring l (record table { round = option_map (answer w.at v) table.round }) n come ended ps
+  pub allows_rate :
+      (q : Parcel) (ps : List Parcel) (j : Lease) (v : ℕ) (w : Waits table j) → q.msg ≡ msg.Rates j v → Allows s states ring l table n come ended (q ∷ ps)
+      → Allows s states ring l (record table { round = option_map (answer w.at v) table.round }) n come ended ps
   allows_rate q ps j v w is h = record {
     told = h.told;
     drains = h.drains;
@@ -174,7 +203,10 @@ module _ (s : Sizes) (states : List SlabState) (ring : List Request) (l : Lender
     apart = λ k e. (or_parts (is_done k q.msg) (gives_back k ps) (h.apart k e)).1;
     before = h.before;
     asks = λ k e. waits k (h.asks k e) (λ same. both_ways (rates_in k (q ∷ ps)) (h.one k e) (ap (λ b. b || rates_in k ps) (rate_of k q.msg j v is same)));
-    rates = λ k e. waits k (h.rates k (any-rest (λ (p : Parcel). is_rate k p.msg) q ps e)) (λ same. both_ways (rates_in k ps) (h.rate_once.0 k (rate_of k q.msg j v is same)) e);
+    rates =
+        λ k e.
+        waits k (h.rates k (any-rest (λ (p : Parcel). is_rate k p.msg) q ps e))
+        (λ same. both_ways (rates_in k ps) (h.rate_once.0 k (rate_of k q.msg j v is same)) e);
     ask_once = h.ask_once;
     rate_once = h.rate_once.1;
     one = λ k e. (or_parts (is_rate k q.msg) (rates_in k ps) (h.one k e)).1;
@@ -189,7 +221,9 @@ module _ (s : Sizes) (states : List SlabState) (ring : List Request) (l : Lender
       ]
     ];
     refused = h.refused;
-    free = free_map table.slots table.slots (λ k. ⊥ ⊎ (is_done k q.msg ≡ true)) (λ k. ⊥) ps (λ u x y k e _ held. ((e, held), λ given. elim given [ inl none ↦ none | inr here ↦ both_ways (is_done k q.msg) (ap (is_done k) is) here ])) h.free.1;
+    free =
+        free_map table.slots table.slots (λ k. ⊥ ⊎ (is_done k q.msg ≡ true)) (λ k. ⊥) ps
+        (λ u x y k e _ held. ((e, held), λ given. elim given [ inl none ↦ none | inr here ↦ both_ways (is_done k q.msg) (ap (is_done k) is) here ])) h.free.1;
     greets = greeted (has_greeted table n) h.greets;
     kinds = h.kinds.1;
   }
@@ -223,9 +257,12 @@ held_untold x m t k e is off = sym (ap is_evicting is) ∙ off
 some_none : {X : Type 0} {x : X} {P : Type 0} → None ≡ Some x → P
 some_none e = cc
 
-module _ (s : Sizes) (states : List SlabState) (ring : List Request) (l : LenderNo) (table : Lender) (n : Link) (b : Lane) (ended : Bool) (out : List Parcel) (sound : IsSound table) where
+module _ (s : Sizes) (states : List SlabState) (ring : List Request) (l : LenderNo) (table : Lender) (n : Link) (b : Lane) (ended : Bool) (out : List Parcel)
+    (sound : IsSound table) where
   -- no lease of the set is under way to be told, and none is given back
-  no_slot : (i : ℕ) (m : Link) (t : Slab) (j : Lease) (e : Bool) (k : Lease) → is_evicting (slot_in table.slots i) ≡ false → slot_in table.slots i ≡ Held m t j e → j.0 ≡ k.0 → HasSlot table.slots k true → ⊥
+  no_slot :
+      (i : ℕ) (m : Link) (t : Slab) (j : Lease) (e : Bool) (k : Lease) → is_evicting (slot_in table.slots i) ≡ false → slot_in table.slots i ≡ Held m t j e
+      → j.0 ≡ k.0 → HasSlot table.slots k true → ⊥
   no_slot i m t j e k off at same (x, y, u, held) =
       let one : i ≡ x = same_slot table sound i x m y t u j k e true at held same in
       told_off (sym (one_told table.slots i x m y t u j k e true one at held) ∙ held_untold (slot_in table.slots i) m t j e at off)
@@ -234,8 +271,11 @@ module _ (s : Sizes) (states : List SlabState) (ring : List Request) (l : Lender
       told_off e = cc
 
   -- the round is closed: its slots are told to go
-  closed : (set : ℕ) → ((i : ℕ) → has set i ≡ true → is_evicting (slot_in table.slots i) ≡ false) → ((k : Lease) → Waits table k → ⊥) → Allows s states ring l table n b.parcels ended out
-      → Allows s states ring l (record table { slots = marked set 0 table.slots; round = None }) n (forwarded n b (told notice.Evict set 0 table.slots)).parcels ended out
+  closed :
+      (set : ℕ) → ((i : ℕ) → has set i ≡ true → is_evicting (slot_in table.slots i) ≡ false) → ((k : Lease) → Waits table k → ⊥)
+      → Allows s states ring l table n b.parcels ended out
+      → Allows s states ring l (record table { slots = marked set 0 table.slots; round = None }) n
+      (forwarded n b (told notice.Evict set 0 table.slots)).parcels ended out
   closed set off waited h = record {
     told = λ k e. elim (told_named notice.Evict (is_evict k) n set 0 table.slots b e) [
       | inl was ↦ still k (h.told k was)
@@ -245,18 +285,30 @@ module _ (s : Sizes) (states : List SlabState) (ring : List Request) (l : Lender
     done = λ k e. still k (h.done k e);
     done_once = h.done_once;
     evict_once = told_once notice.Evict is_evict n set 0 table.slots b evict_of (differ_of table sound) h.evict_once
-        (λ i m t j e k inside at same. false_from_ne_true _ (λ named. no_slot i m t j e k (off i (subst (λ x. has set x ≡ true) (omega arith) inside)) at same (h.told k named)));
+        (λ i m t j e k inside at same.
+        false_from_ne_true _ (λ named. no_slot i m t j e k (off i (subst (λ x. has set x ≡ true) (omega arith) inside)) at same (h.told k named)));
     apart = λ k e. elim (told_named notice.Evict (is_evict k) n set 0 table.slots b e) [
       | inl was ↦ h.apart k was
-      | inr new ↦ false_from_ne_true _ (λ given. no_slot new.at new.link new.slab new.lease new.told_before k (off new.at (subst (λ x. has set x ≡ true) (omega arith) new.inside)) new.held (evict_of k new.lease new.passes) (h.done k given))
+      | inr new ↦
+          false_from_ne_true _
+          (λ given.
+          no_slot new.at new.link new.slab new.lease new.told_before k (off new.at (subst (λ x. has set x ≡ true) (omega arith) new.inside)) new.held
+          (evict_of k new.lease new.passes) (h.done k given))
     ];
     before = λ u k f e drains. elim (told_named notice.Evict (is_evict k) n set 0 table.slots b e) [
       | inl was ↦ h.before u k f was drains
-      | inr new ↦ no_slot new.at new.link new.slab new.lease new.told_before k (off new.at (subst (λ x. has set x ≡ true) (omega arith) new.inside)) new.held (evict_of k new.lease new.passes) (h.drains u k f drains)
+      | inr new ↦
+          no_slot new.at new.link new.slab new.lease new.told_before k (off new.at (subst (λ x. has set x ≡ true) (omega arith) new.inside)) new.held
+          (evict_of k new.lease new.passes) (h.drains u k f drains)
     ];
-    asks = λ k e. absurd (elim (told_named notice.Evict (is_ask k) n set 0 table.slots b e) [ inl was ↦ waited k (h.asks k was) | inr new ↦ both_ways false refl new.passes ]);
+    asks =
+        λ k e.
+        absurd
+        (elim (told_named notice.Evict (is_ask k) n set 0 table.slots b e) [ inl was ↦ waited k (h.asks k was) | inr new ↦ both_ways false refl new.passes ]);
     rates = λ k e. absurd (waited k (h.rates k e));
-    ask_once = told_once notice.Evict is_ask n set 0 table.slots b (λ k j e. absurd (both_ways false refl e)) (differ_of table sound) h.ask_once (λ i m t j e k inside at same. false_from_ne_true _ (λ named. waited k (h.asks k named)));
+    ask_once =
+        told_once notice.Evict is_ask n set 0 table.slots b (λ k j e. absurd (both_ways false refl e)) (differ_of table sound) h.ask_once
+        (λ i m t j e k inside at same. false_from_ne_true _ (λ named. waited k (h.asks k named)));
     rate_once = h.rate_once;
     one = λ k e. false_from_ne_true _ (λ rates. waited k (h.rates k rates));
     home = λ x y u k e held. let was = was_marked set 0 table.slots x y u k e held in h.home x y u k was.0 was.1;
@@ -264,7 +316,9 @@ module _ (s : Sizes) (states : List SlabState) (ring : List Request) (l : Lender
       | inl was ↦ (let w = was_marked set 0 table.slots x y u k e held in h.refused x y u k w.0 was w.1)
       | inr new ↦ both_ways false refl new.passes
     ];
-    free = free_map table.slots (marked set 0 table.slots) (λ k. ⊥) (λ k. ⊥) out (λ u x y k e _ held. (was_marked set 0 table.slots x y u k e held, λ given. given)) h.free;
+    free =
+        free_map table.slots (marked set 0 table.slots) (λ k. ⊥) (λ k. ⊥) out
+        (λ u x y k e _ held. (was_marked set 0 table.slots x y u k e held, λ given. given)) h.free;
     greets = h.greets;
     kinds = h.kinds;
   }
@@ -273,12 +327,22 @@ module _ (s : Sizes) (states : List SlabState) (ring : List Request) (l : Lender
       still k (x, y, u, held) = (x, y, u, kept_marked set 0 table.slots x y u k held)
 
       now : (k : Lease) → IsNotified notice.Evict (is_evict k) set 0 table.slots → HasSlot (marked set 0 table.slots) k true
-      now k new = (new.at, new.link, new.slab, marked_told set 0 table.slots new.at new.link new.slab new.lease new.told_before new.inside new.held ∙ ap (λ i. Held new.link new.slab (record { 0 = i }) true) (evict_of k new.lease new.passes))
+      now k new = (
+        new.at,
+        new.link,
+        new.slab,
+        marked_told set 0 table.slots new.at new.link new.slab new.lease new.told_before new.inside new.held
+            ∙ ap (λ i. Held new.link new.slab (record { 0 = i }) true) (evict_of k new.lease new.passes),
+      )
 
   -- a round that is ready is closed
-  pub allows_settled : (o : Option ℕ) → due table.round ≡ o → AsksUntold table.round table.slots → Allows s states ring l table n b.parcels ended out → Allows s states ring l (settle_with table o).lender n (forwarded n b (settle_with table o).parcels).parcels ended out
+  pub allows_settled :
+      (o : Option ℕ) → due table.round ≡ o → AsksUntold table.round table.slots → Allows s states ring l table n b.parcels ended out
+      → Allows s states ring l (settle_with table o).lender n (forwarded n b (settle_with table o).parcels).parcels ended out
   allows_settled None is untold h = h
-  allows_settled (Some set) is untold h = closed set (λ i inside. due_asked table.round table.slots set i untold is inside) (λ k w. some_none (sym (ap due w.open_ ∙ not_ready w.round w.at w.low w.answered w.gone w.waits) ∙ is)) h
+  allows_settled (Some set) is untold h =
+      closed set (λ i inside. due_asked table.round table.slots set i untold is inside)
+      (λ k w. some_none (sym (ap due w.open_ ∙ not_ready w.round w.at w.low w.answered w.gone w.waits) ∙ is)) h
 
 -- a slot is lent
 
@@ -289,7 +353,9 @@ set_is (s ∷ ss) zero (suc x) y = inr refl
 set_is (s ∷ ss) (suc i) zero y = inr refl
 set_is (s ∷ ss) (suc i) (suc x) y = elim (set_is ss i x y) [ inl here ↦ inl (ap suc here.0, here.1) | inr there ↦ inr there ]
 
-pub set_stays : (xs : List SlotState) (i x : ℕ) (y : SlotState) (m : Link) (t : Slab) (k : Lease) (e : Bool) → slot_in xs i ≡ Free → slot_in xs x ≡ Held m t k e → slot_in (set xs i y) x ≡ Held m t k e
+pub set_stays :
+    (xs : List SlotState) (i x : ℕ) (y : SlotState) (m : Link) (t : Slab) (k : Lease) (e : Bool) → slot_in xs i ≡ Free → slot_in xs x ≡ Held m t k e
+    → slot_in (set xs i y) x ≡ Held m t k e
 set_stays xs i x y m t k e is held = elim (set_is xs i x y) [
   | inl here ↦ absurd (free_held (sym is ∙ ap (λ z. slot_in xs z) (sym here.0) ∙ held))
   | inr there ↦ there ∙ held
@@ -305,8 +371,12 @@ slab_in d (Held n t k e) = t
 held_slab : (m n : Link) (t u : Slab) (j k : Lease) (e f : Bool) → Held m t j e ≡ Held n u k f → t ≡ u
 held_slab m n t u j k e f is = cc
 
-module _ (s : Sizes) (states : List SlabState) (ring : List Request) (l : LenderNo) (table : Lender) (n : Link) (come : List Parcel) (ended : Bool) (out : List Parcel) where
-  pub allows_granted : (i : ℕ) (m : Link) (t : Slab) (j : Lease) (contents : List (List (List ℕ))) (next : ℕ) → slot_in table.slots i ≡ Free → (borrows_in t ring ≡ true) ⊎ (ended ≡ true) → refuses_in t come ≡ false → list_any (λ (p : Parcel). borrows t p.msg) out ≡ false → Allows s states ring l table n come ended out
+module _ (s : Sizes) (states : List SlabState) (ring : List Request) (l : LenderNo) (table : Lender) (n : Link) (come : List Parcel) (ended : Bool)
+    (out : List Parcel) where
+  pub allows_granted :
+      (i : ℕ) (m : Link) (t : Slab) (j : Lease) (contents : List (List (List ℕ))) (next : ℕ) → slot_in table.slots i ≡ Free
+      → (borrows_in t ring ≡ true) ⊎ (ended ≡ true) → refuses_in t come ≡ false → list_any (λ (p : Parcel). borrows t p.msg) out ≡ false
+      → Allows s states ring l table n come ended out
       → Allows s states ring l (record table { slots = set table.slots i (Held m t j false); contents = contents; next_lease = next }) n come ended out
   allows_granted i m t j contents next is asked_ refused_not borrowed_not h = record {
     told = λ k e. still k (h.told k e);
@@ -322,16 +392,24 @@ module _ (s : Sizes) (states : List SlabState) (ring : List Request) (l : Lender
     rate_once = h.rate_once;
     one = h.one;
     home = λ x y u k e held. elim (set_is table.slots i x (Held m t j false)) [
-      | inl here ↦ elim asked_ [ inl stands ↦ inr (inl (subst (λ z. borrows_in z ring ≡ true) (held_slab m y t u j k false e (sym here.1 ∙ held)) stands)) | inr over ↦ inr (inr (inr over)) ]
+      | inl here ↦
+          elim asked_ [
+            | inl stands ↦ inr (inl (subst (λ z. borrows_in z ring ≡ true) (held_slab m y t u j k false e (sym here.1 ∙ held)) stands))
+            | inr over ↦ inr (inr (inr over))
+          ]
       | inr there ↦ h.home x y u k e (sym there ∙ held)
     ];
     refused = λ x y u k e come_ held. elim (set_is table.slots i x (Held m t j false)) [
-      | inl here ↦ both_ways (refuses_in t come) refused_not (subst (λ z. refuses_in z come ≡ true) (sym (held_slab m y t u j k false e (sym here.1 ∙ held))) come_)
+      | inl here ↦
+          both_ways (refuses_in t come) refused_not (subst (λ z. refuses_in z come ≡ true) (sym (held_slab m y t u j k false e (sym here.1 ∙ held))) come_)
       | inr there ↦ h.refused x y u k e come_ (sym there ∙ held)
     ];
     free = free_map table.slots (set table.slots i (Held m t j false)) (λ k. ⊥) (λ k. ⊥) out
         (λ u x y k e borrowed held. elim (set_is table.slots i x (Held m t j false)) [
-          | inl here ↦ absurd (both_ways (list_any (λ (p : Parcel). borrows t p.msg) out) borrowed_not (subst (λ z. list_any (λ (p : Parcel). borrows z p.msg) out ≡ true) (sym (held_slab m y t u j k false e (sym here.1 ∙ held))) borrowed))
+          | inl here ↦
+              absurd
+              (both_ways (list_any (λ (p : Parcel). borrows t p.msg) out) borrowed_not
+              (subst (λ z. list_any (λ (p : Parcel). borrows z p.msg) out ≡ true) (sym (held_slab m y t u j k false e (sym here.1 ∙ held))) borrowed))
           | inr there ↦ ((e, sym there ∙ held), λ given. given)
         ]) h.free;
     greets = h.greets;
@@ -366,7 +444,8 @@ unfolding slots
 asked_low table word i e = elim (cases_lt i 64) [
   | inl within ↦ within
   | inr past ↦ absurd (both_ways (list_any (λ x. eqb i x) (slots (staying table))) (any-filter-out (has (staying table)) 0 64 i (inr past))
-      (list_any-IsPermutation (λ x. eqb i x) (slots (staying table)) (picks word (slots (staying table))) (IsPermutation-picks word (slots (staying table))) ∙ any_of_take (to_ask table) (picks word (slots (staying table))) (has-set_of (take (to_ask table) (picks word (slots (staying table)))) i ∙ e)))
+      (list_any-IsPermutation (λ x. eqb i x) (slots (staying table)) (picks word (slots (staying table))) (IsPermutation-picks word (slots (staying table)))
+      ∙ any_of_take (to_ask table) (picks word (slots (staying table))) (has-set_of (take (to_ask table) (picks word (slots (staying table)))) i ∙ e)))
 ]
   where
     any_of_take : (m : ℕ) (xs : List ℕ) → list_any (λ x. eqb i x) (take m xs) ≡ true → list_any (λ x. eqb i x) xs ≡ true
@@ -388,25 +467,45 @@ opened_waits set count i e = all_three (has set i) (has 0 i) (has 0 i) e (has-ze
     all_three : (a b c : Bool) → a ≡ true → b ≡ false → c ≡ false → (a && not b && not c) ≡ true
     all_three a b c e f g = cc
 
-module _ (s : Sizes) (states : List SlabState) (ring : List Request) (l : LenderNo) (table : Lender) (n : Link) (b : Lane) (ended : Bool) (out : List Parcel) (sound : IsSound table) where
-  pub allows_opened : (set count usage : ℕ) → table.round ≡ None → ((i : ℕ) → has set i ≡ true → (i < 64) × (is_staying (slot_in table.slots i) ≡ true)) → Allows s states ring l table n b.parcels ended out
-      → Allows s states ring l (record table { usage = usage; round = Some (opened set count) }) n (forwarded n b (told notice.AskRates set 0 table.slots)).parcels ended out
+module _ (s : Sizes) (states : List SlabState) (ring : List Request) (l : LenderNo) (table : Lender) (n : Link) (b : Lane) (ended : Bool) (out : List Parcel)
+    (sound : IsSound table) where
+  pub allows_opened :
+      (set count usage : ℕ) → table.round ≡ None → ((i : ℕ) → has set i ≡ true → (i < 64) × (is_staying (slot_in table.slots i) ≡ true))
+      → Allows s states ring l table n b.parcels ended out
+      → Allows s states ring l (record table { usage = usage; round = Some (opened set count) }) n
+      (forwarded n b (told notice.AskRates set 0 table.slots)).parcels ended out
   allows_opened set count usage none each h = record {
-    told = λ k e. elim (told_named notice.AskRates (is_evict k) n set 0 table.slots b e) [ inl was ↦ h.told k was | inr new ↦ absurd (both_ways false refl new.passes) ];
+    told =
+        λ k e.
+        elim (told_named notice.AskRates (is_evict k) n set 0 table.slots b e) [ inl was ↦ h.told k was | inr new ↦ absurd (both_ways false refl new.passes) ];
     drains = h.drains;
     done = h.done;
     done_once = h.done_once;
     evict_once = told_once notice.AskRates is_evict n set 0 table.slots b (λ k j e. absurd (both_ways false refl e)) (differ_of table sound) h.evict_once
-        (λ i m t j e k inside at same. false_from_ne_true _ (λ named. no_slot s states ring l table n b ended out sound i m t j e k (staying_untold (slot_in table.slots i) (each i (subst (λ x. has set x ≡ true) (omega arith) inside)).1) at same (h.told k named)));
-    apart = λ k e. elim (told_named notice.AskRates (is_evict k) n set 0 table.slots b e) [ inl was ↦ h.apart k was | inr new ↦ absurd (both_ways false refl new.passes) ];
-    before = λ u k f e drains. elim (told_named notice.AskRates (is_evict k) n set 0 table.slots b e) [ inl was ↦ h.before u k f was drains | inr new ↦ both_ways false refl new.passes ];
+        (λ i m t j e k inside at same.
+        false_from_ne_true _
+        (λ named.
+        no_slot s states ring l table n b ended out sound i m t j e k
+        (staying_untold (slot_in table.slots i) (each i (subst (λ x. has set x ≡ true) (omega arith) inside)).1) at same (h.told k named)));
+    apart =
+        λ k e.
+        elim (told_named notice.AskRates (is_evict k) n set 0 table.slots b e) [ inl was ↦ h.apart k was | inr new ↦ absurd (both_ways false refl new.passes) ];
+    before =
+        λ u k f e drains.
+        elim (told_named notice.AskRates (is_evict k) n set 0 table.slots b e)
+        [ inl was ↦ h.before u k f was drains | inr new ↦ both_ways false refl new.passes ];
     asks = λ k e. elim (told_named notice.AskRates (is_ask k) n set 0 table.slots b e) [ inl was ↦ absurd (waited k (h.asks k was)) | inr new ↦ waits k new ];
     rates = λ k e. absurd (waited k (h.rates k e));
-    ask_once = told_once notice.AskRates is_ask n set 0 table.slots b ask_of (differ_of table sound) h.ask_once (λ i m t j e k inside at same. false_from_ne_true _ (λ named. waited k (h.asks k named)));
+    ask_once =
+        told_once notice.AskRates is_ask n set 0 table.slots b ask_of (differ_of table sound) h.ask_once
+        (λ i m t j e k inside at same. false_from_ne_true _ (λ named. waited k (h.asks k named)));
     rate_once = h.rate_once;
     one = λ k e. false_from_ne_true _ (λ rates. waited k (h.rates k rates));
     home = h.home;
-    refused = λ x y u k e come held. elim (told_named notice.AskRates (is_refusal u) n set 0 table.slots b come) [ inl was ↦ h.refused x y u k e was held | inr new ↦ both_ways false refl new.passes ];
+    refused =
+        λ x y u k e come held.
+        elim (told_named notice.AskRates (is_refusal u) n set 0 table.slots b come)
+        [ inl was ↦ h.refused x y u k e was held | inr new ↦ both_ways false refl new.passes ];
     free = h.free;
     greets = h.greets;
     kinds = h.kinds;
@@ -424,7 +523,11 @@ module _ (s : Sizes) (states : List SlabState) (ring : List Request) (l : Lender
             at = new.at;
             link = new.link;
             slab = new.slab;
-            held = new.held ∙ ap (λ e. Held new.link new.slab new.lease e) (held_untold (slot_in table.slots new.at) new.link new.slab new.lease new.told_before new.held (staying_untold (slot_in table.slots new.at) (each new.at inside).1))
+            held =
+                new.held
+                ∙ ap (λ e. Held new.link new.slab new.lease e)
+                (held_untold (slot_in table.slots new.at) new.link new.slab new.lease new.told_before new.held
+                (staying_untold (slot_in table.slots new.at) (each new.at inside).1))
                 ∙ ap (λ i. Held new.link new.slab (record { 0 = i }) false) (ask_of k new.lease new.passes);
             waits = opened_waits set count new.at inside;
             low = (each new.at inside).0;

@@ -34,7 +34,9 @@ or_step false true c e f g h = refl
 or_step false false c e f g h = g h
 
 greet_keeps : (n m : Link) (p : Peer) → is_greeted m p ≡ true → is_greeted m (greet_peer n p) ≡ true
-greet_keeps n m p h = cond_both (is_peer n p) _ _ (λ (x : Peer). is_greeted m x ≡ true) (λ _. and_from (p.link.0 == m.0) true (and_parts (p.link.0 == m.0) p.greeted h).0 refl) (λ _. h)
+greet_keeps n m p h =
+    cond_both (is_peer n p) _ _ (λ (x : Peer). is_greeted m x ≡ true) (λ _. and_from (p.link.0 == m.0) true (and_parts (p.link.0 == m.0) p.greeted h).0 refl)
+    (λ _. h)
 
 any_greets : (n m : Link) (ps : List Peer) → list_any (is_greeted m) ps ≡ true → list_any (is_greeted m) (map (greet_peer n) ps) ≡ true
 any_greets n m [] h = h
@@ -51,7 +53,9 @@ any_stays n m (p ∷ ps) other h = go (not (is_peer n p)) refl (any_stays n m ps
         not_peer true is = absurd (other (sym (eqb-true p.link.0 m.0 (and_parts (p.link.0 == m.0) p.greeted e).0) ∙ eqb-true p.link.0 n.0 is))
         not_peer false is = refl
 
-    go : (b : Bool) → not (is_peer n p) ≡ b → (list_any (is_greeted m) ps ≡ true → list_any (is_greeted m) (without_peer n ps) ≡ true) → (is_greeted m p || list_any (is_greeted m) ps) ≡ true → list_any (is_greeted m) (cond b (p ∷ without_peer n ps) (without_peer n ps)) ≡ true
+    go :
+        (b : Bool) → not (is_peer n p) ≡ b → (list_any (is_greeted m) ps ≡ true → list_any (is_greeted m) (without_peer n ps) ≡ true)
+        → (is_greeted m p || list_any (is_greeted m) ps) ≡ true → list_any (is_greeted m) (cond b (p ∷ without_peer n ps) (without_peer n ps)) ≡ true
     go true is more h = or_step (is_greeted m p) (is_greeted m p) _ _ (λ e. e) more h
     go false is more h = dropped (is_greeted m p) refl h
       where
@@ -59,7 +63,9 @@ any_stays n m (p ∷ ps) other h = go (not (is_peer n p)) refl (any_stays n m ps
         dropped true e h = absurd (both_ways (not (is_peer n p)) is (is_kept e))
         dropped false e h = more h
 
-freed_other : (n : Link) (slots : List SlotState) (i : ℕ) (m : Link) (t : Slab) (k : Lease) (e : Bool) → slot_in (map (freed n) slots) i ≡ Held m t k e → (m.0 ≡ n.0 → ⊥) × (slot_in slots i ≡ Held m t k e)
+freed_other :
+    (n : Link) (slots : List SlotState) (i : ℕ) (m : Link) (t : Slab) (k : Lease) (e : Bool) → slot_in (map (freed n) slots) i ≡ Held m t k e
+    → (m.0 ≡ n.0 → ⊥) × (slot_in slots i ≡ Held m t k e)
 freed_other n [] i m t k e h = cc
 freed_other n (s ∷ ss) zero m t k e h = go s (is_of n s) refl h
   where
@@ -76,14 +82,17 @@ greet_serve : (l : Lender) (n : Link) (m : Msg) (page : List ℕ) → may_send l
 greet_serve l n (msg.Hello version page_bytes pages_per_slab) page may h = λ i m t k e held. any_greets n m l.peers (h i m t k e held)
 greet_serve l n (msg.Borrow u) page may h = cond_both (lends l) _ _ (λ (x : Turn). HeldGreet x.lender)
     (λ _ i m t k e held. elim (set_is l.slots (first_where is_free l.slots) i (Held n u (record { 0 = l.next_lease }) false)) [
-      | inl here ↦ subst (λ (x : Link). has_greeted l x ≡ true) (link_is m t k e (sym here.1 ∙ held)) (and_parts (has_greeted l n) (not (list_any (is_for n u) l.slots)) may).0
+      | inl here ↦
+          subst (λ (x : Link). has_greeted l x ≡ true) (link_is m t k e (sym here.1 ∙ held))
+          (and_parts (has_greeted l n) (not (list_any (is_for n u) l.slots)) may).0
       | inr there ↦ h i m t k e (sym there ∙ held)
     ])
     (λ _. h)
   where
     link_is : (m : Link) (t : Slab) (k : Lease) (e : Bool) → Held n u (record { 0 = l.next_lease }) false ≡ Held m t k e → n ≡ m
     link_is m t k e is = cc
-greet_serve l n (msg.Rates j value) page may h = greet_settle (record l { round = option_map (answer (slot_of l n j) value) l.round }) (due (option_map (answer (slot_of l n j) value) l.round)) h
+greet_serve l n (msg.Rates j value) page may h =
+    greet_settle (record l { round = option_map (answer (slot_of l n j) value) l.round }) (due (option_map (answer (slot_of l n j) value) l.round)) h
 greet_serve l n (msg.Done j) page may h = λ i m t k e held. h i m t k e (freed_was l.slots (slot_of l n j) i m t k e held).1
 greet_serve l n _ page may h = h
 
@@ -94,10 +103,16 @@ none_free (suc count) (suc i) m t k e h = none_free count i m t k e h
 
 greet_each : EachKeeps HeldGreet
 greet_each = record {
-  arrives = λ l n h. cond_both (has_room l) _ _ HeldGreet (λ _ i m t k e held. any_front (is_greeted m) l.peers (record { link = n; greeted = false } ∷ []) (h i m t k e held)) (λ _. h);
+  arrives =
+      λ l n h.
+      cond_both (has_room l) _ _ HeldGreet (λ _ i m t k e held. any_front (is_greeted m) l.peers (record { link = n; greeted = false } ∷ []) (h i m t k e held))
+      (λ _. h);
   takes = λ l n m page h. cond_both (may_send l n m) _ _ (λ (x : Turn). HeldGreet x.lender) (λ may. greet_serve l n m page may h) (λ _. h);
   hosts = λ l used word h. cond_both (opens (measured l used)) _ _ (λ (x : Turn). HeldGreet x.lender) (λ _. h) (λ _. h);
-  leaves = λ l n h. greet_settle (record l { slots = map (freed n) l.slots; peers = without_peer n l.peers; round = option_map (left n l.slots) l.round }) (due (option_map (left n l.slots) l.round))
+  leaves =
+      λ l n h.
+      greet_settle (record l { slots = map (freed n) l.slots; peers = without_peer n l.peers; round = option_map (left n l.slots) l.round })
+      (due (option_map (left n l.slots) l.round))
       (λ i m t k e held. let was = freed_other n l.slots i m t k e held in any_stays n m l.peers was.0 (h i m t k e was.1));
   restarts = λ l h i m t k e held. absurd (none_free l.lending.spec.slots i m t k e held);
 }
@@ -112,4 +127,6 @@ run_keeps P each l (Restart ∷ calls) h = run_keeps P each (restart l) calls (e
 
 -- each held slot is of a link that has greeted
 pub held_greeted : (l : Lender) → IsReached l → (i : ℕ) (m : Link) (t : Slab) (k : Lease) (e : Bool) → slot_in l.slots i ≡ Held m t k e → has_greeted l m ≡ true
-held_greeted l r = subst HeldGreet (sym r.is) (run_keeps HeldGreet greet_each (fresh r.lending) r.calls (λ i m t k e held. absurd (none_free r.lending.spec.slots i m t k e held)))
+held_greeted l r =
+    subst HeldGreet (sym r.is)
+    (run_keeps HeldGreet greet_each (fresh r.lending) r.calls (λ i m t k e held. absurd (none_free r.lending.spec.slots i m t k e held)))

@@ -47,17 +47,29 @@ use Rattle.swap_joint.proofs.Turns.{any_last}
 use Rattle.swap_joint.proofs.Serves.{joined, Clear, any-rest, no_done}
 
 -- a lease that is given back stays so, where no slab has a lease that it hadn't
-pub given_fewer : (l : Lender) (c : Channel) (states states' : List SlabState) (k : Lease) → FewerLeases l states states' → IsGivenBack states l c k → IsGivenBack states' l c k
-given_fewer l c states states' k fewer was = record { known = was.known; unleased = λ t. false_from_ne_true _ (λ now. both_ways (has_lease l k (state_of states t)) (was.unleased t) (fewer t k now)); unlent = was.unlent }
+pub given_fewer :
+    (l : Lender) (c : Channel) (states states' : List SlabState) (k : Lease) → FewerLeases l states states' → IsGivenBack states l c k
+    → IsGivenBack states' l c k
+given_fewer l c states states' k fewer was =
+    record {
+      known = was.known;
+      unleased = λ t. false_from_ne_true _ (λ now. both_ways (has_lease l k (state_of states t)) (was.unleased t) (fewer t k now));
+      unlent = was.unlent;
+    }
 
 new_fewer : (l : Lender) (states states' : List SlabState) (ps : List Parcel) → FewerLeases l states states' → AreNew states l ps → AreNew states' l ps
-new_fewer l states states' ps fewer new = record { fresh = λ k t e. false_from_ne_true _ (λ now. both_ways (has_lease l k (state_of states t)) (new.fresh k t e) (fewer t k now)); once = new.once }
+new_fewer l states states' ps fewer new =
+    record { fresh = λ k t e. false_from_ne_true _ (λ now. both_ways (has_lease l k (state_of states t)) (new.fresh k t e) (fewer t k now)); once = new.once }
 
 -- the device moves, and the link sees it as before: a bit that is set was set, or its page is found
 abbrev pub BitsFound : Sizes → History → History → List SlabState → List Bool → List Bool → Lender → Channel → Type 0
-BitsFound s H H' states bits bits' l c = (p : Page) (k : Lease) → has_lease l k (state_for s states p) ≡ true → has bits' p.0 ≡ true → ((has bits p.0 ≡ true) × (array (zeros s) H' p ≡ array (zeros s) H p)) ⊎ (found s c k p ≡ Some (array (zeros s) H' p))
+BitsFound s H H' states bits bits' l c =
+    (p : Page) (k : Lease) → has_lease l k (state_for s states p) ≡ true → has bits' p.0 ≡ true
+    → ((has bits p.0 ≡ true) × (array (zeros s) H' p ≡ array (zeros s) H p)) ⊎ (found s c k p ≡ Some (array (zeros s) H' p))
 
-stored_seen : (s : Sizes) (H H' : History) (states states' : List SlabState) (bits bits' : List Bool) (l : Lender) (c : Channel) (S : List Request) → FewerLeases l states states' → KeepsEntries H H' → BitsFound s H H' states bits bits' l c → Stored s H states bits l c S → Stored s H' states' bits' l c S
+stored_seen :
+    (s : Sizes) (H H' : History) (states states' : List SlabState) (bits bits' : List Bool) (l : Lender) (c : Channel) (S : List Request)
+    → FewerLeases l states states' → KeepsEntries H H' → BitsFound s H H' states bits bits' l c → Stored s H states bits l c S → Stored s H' states' bits' l c S
 stored_seen s H H' states states' bits bits' l c S fewer entries lit k = record {
   leased = λ t j at. k.leased t j (fewer t j at);
   lent = k.lent;
@@ -70,28 +82,37 @@ stored_seen s H H' states states' bits bits' l c S fewer entries lit k = record 
   given = λ j e. given_fewer l c states states' j fewer (k.given j e);
 }
 
-pub joined_sees : (s : Sizes) (H H' : History) (cs cs' : Calls) (states states' : List SlabState) (bits bits' : List Bool) (ring : List Request) (l : Lender) (c : Channel) → FewerLeases l states states' → AllByRecursion (StaysLeased s l states states') ring → KeepsEntries H H' → BitsFound s H H' states bits bits' l c
+pub joined_sees :
+    (s : Sizes) (H H' : History) (cs cs' : Calls) (states states' : List SlabState) (bits bits' : List Bool) (ring : List Request) (l : Lender) (c : Channel)
+    → FewerLeases l states states' → AllByRecursion (StaysLeased s l states states') ring → KeepsEntries H H' → BitsFound s H H' states bits bits' l c
     → AllByRecursion (StillReads cs cs') ring → JoinedOf s H cs states bits ring l c → JoinedOf s H' cs' states' bits' ring l c
 joined_sees s H H' cs cs' states states' bits bits' ring l c fewer leased entries lit still h =
     joined s H' cs' states' bits' ring l c (served_of h.order) h.order.under_way h.present
-    (order_seen s H H' cs cs' states states' ring l c c.to_lender c.to_device (served_of h.order) h.order.under_way leased entries still (fewer_new s states states' l ring fewer) (itself (Replied s H cs states l) (Asked s H cs states l c) ring c.to_lender c.to_device h.order))
-    (unless-map c.lender_gone _ _ (stored_seen s H H' states states' bits bits' l c (served_of h.order) fewer entries lit) h.stored) (new_fewer l states states' c.to_device.parcels fewer h.loans)
+    (order_seen s H H' cs cs' states states' ring l c c.to_lender c.to_device (served_of h.order) h.order.under_way leased entries still
+    (fewer_new s states states' l ring fewer) (itself (Replied s H cs states l) (Asked s H cs states l c) ring c.to_lender c.to_device h.order))
+    (unless-map c.lender_gone _ _ (stored_seen s H H' states states' bits bits' l c (served_of h.order) fewer entries lit) h.stored)
+    (new_fewer l states states' c.to_device.parcels fewer h.loans)
 
 pub joined_same : (l : Lender) (d d' : Device) (c : Channel) → SeesSame l d d' → Joined d l c → Joined d' l c
 joined_same l d d' c sees h =
     let P : Sizes → Type 0 = λ s. JoinedOf s d'.history d'.calls d'.remote.slabs d'.remote.bits (ring_of d'.remote.links l) l c in
     let Q : List Request → Type 0 = λ r. JoinedOf d.sizes d'.history d'.calls d'.remote.slabs d'.remote.bits r l c in
     subst P (sym sees.sizes) (subst Q (sym sees.ring)
-    (joined_sees d.sizes d.history d'.history d.calls d'.calls d.remote.slabs d'.remote.slabs d.remote.bits d'.remote.bits (ring_of d.remote.links l) l c sees.fewer sees.leased sees.entries (λ p k at set. inl (sees.bits p k at set)) sees.calls h))
+    (joined_sees d.sizes d.history d'.history d.calls d'.calls d.remote.slabs d'.remote.slabs d.remote.bits d'.remote.bits
+    (ring_of d.remote.links l) l c sees.fewer sees.leased sees.entries (λ p k at set. inl (sees.bits p k at set)) sees.calls h))
 
 -- a message more to the lender: what it gives back was given back, or it gives it back
 gives-append : (k : Lease) (a : Lane) (q : Parcel) → gives_back k (appended a q).parcels ≡ true → (gives_back k a.parcels ≡ true) ⊎ (is_done k q.msg ≡ true)
-gives-append k a q = by_append (λ z. gives_back k z.parcels ≡ true → (gives_back k a.parcels ≡ true) ⊎ (is_done k q.msg ≡ true)) a q (λ _ e. inl e) (λ _. any_last (λ (q : Parcel). is_done k q.msg) a.parcels q) (λ _ e. inl e)
+gives-append k a q =
+    by_append (λ z. gives_back k z.parcels ≡ true → (gives_back k a.parcels ≡ true) ⊎ (is_done k q.msg ≡ true)) a q (λ _ e. inl e)
+    (λ _. any_last (λ (q : Parcel). is_done k q.msg) a.parcels q) (λ _ e. inl e)
 
 abbrev pub with_message : Channel → Parcel → Channel
 with_message c q = record c { to_lender = appended c.to_lender q }
 
-stored_said : (s : Sizes) (H : History) (states : List SlabState) (bits : List Bool) (l : Lender) (c : Channel) (S : List Request) (q : Parcel) → ((k : Lease) → is_done k q.msg ≡ true → IsGivenBack states l c k) → Stored s H states bits l c S → Stored s H states bits l (with_message c q) S
+stored_said :
+    (s : Sizes) (H : History) (states : List SlabState) (bits : List Bool) (l : Lender) (c : Channel) (S : List Request) (q : Parcel)
+    → ((k : Lease) → is_done k q.msg ≡ true → IsGivenBack states l c k) → Stored s H states bits l c S → Stored s H states bits l (with_message c q) S
 stored_said s H states bits l c S q back k = record {
   leased = k.leased;
   lent = k.lent;
@@ -104,19 +125,31 @@ stored_said s H states bits l c S q back k = record {
     given_on j was = record { known = was.known; unleased = was.unleased; unlent = was.unlent }
 
 -- a request is sent
-pub joined_sent : (s : Sizes) (H : History) (cs : Calls) (states : List SlabState) (bits : List Bool) (ring : List Request) (l : Lender) (c : Channel) (q : Parcel) (x : Request) → is_request q.msg ≡ true → Carries s H states l q x → Unless c.lender_gone (HoldsFor s H cs states l c x) → JoinedOf s H cs states bits ring l c → JoinedOf s H cs states bits (ring ++ x ∷ []) l (with_message c q)
+pub joined_sent :
+    (s : Sizes) (H : History) (cs : Calls) (states : List SlabState) (bits : List Bool) (ring : List Request) (l : Lender) (c : Channel) (q : Parcel)
+    (x : Request)
+    → is_request q.msg ≡ true → Carries s H states l q x → Unless c.lender_gone (HoldsFor s H cs states l c x) → JoinedOf s H cs states bits ring l c
+    → JoinedOf s H cs states bits (ring ++ x ∷ []) l (with_message c q)
 joined_sent s H cs states bits ring l c q x is carries holds h =
     joined s H cs states bits (ring ++ x ∷ []) l (with_message c q) (served_of h.order) (h.order.under_way ++ x ∷ []) h.present
     (order_sent (Replied s H cs states l) (Asked s H cs states l c) ring c.to_lender c.to_device q x h.order is (carries, holds))
-    (unless-map c.lender_gone _ _ (stored_said s H states bits l c (served_of h.order) q (λ k e. absurd (both_ways (is_done k q.msg) (no_done q.msg is k) e))) h.stored) h.loans
+    (unless-map c.lender_gone _ _
+    (stored_said s H states bits l c (served_of h.order) q (λ k e. absurd (both_ways (is_done k q.msg) (no_done q.msg is k) e))) h.stored)
+    h.loans
 
 -- another message is sent, as Hello
-pub joined_said : (s : Sizes) (H : History) (cs : Calls) (states : List SlabState) (bits : List Bool) (ring : List Request) (l : Lender) (c : Channel) (q : Parcel) → is_request q.msg ≡ false → ((k : Lease) → is_done k q.msg ≡ true → Unless c.lender_gone (IsGivenBack states l c k))
+pub joined_said :
+    (s : Sizes) (H : History) (cs : Calls) (states : List SlabState) (bits : List Bool) (ring : List Request) (l : Lender) (c : Channel) (q : Parcel)
+    → is_request q.msg ≡ false → ((k : Lease) → is_done k q.msg ≡ true → Unless c.lender_gone (IsGivenBack states l c k))
     → JoinedOf s H cs states bits ring l c → JoinedOf s H cs states bits ring l (with_message c q)
 joined_said s H cs states bits ring l c q plain back h =
     joined s H cs states bits ring l (with_message c q) (served_of h.order) h.order.under_way h.present
-    (order_quiet (Replied s H cs states l) (Asked s H cs states l c) ring c.to_lender c.to_device (appended c.to_lender q) c.to_device (served_of h.order) h.order.under_way (said_quiet c.to_lender c.to_device q plain) (itself (Replied s H cs states l) (Asked s H cs states l c) ring c.to_lender c.to_device h.order))
-    (unless_with c.lender_gone _ _ (λ stands. stored_said s H states bits l c (served_of h.order) q (λ k e. unless-at c.lender_gone _ stands (back k e))) h.stored) h.loans
+    (order_quiet (Replied s H cs states l) (Asked s H cs states l c) ring c.to_lender c.to_device (appended c.to_lender q) c.to_device
+    (served_of h.order) h.order.under_way (said_quiet c.to_lender c.to_device q plain)
+    (itself (Replied s H cs states l) (Asked s H cs states l c) ring c.to_lender c.to_device h.order))
+    (unless_with c.lender_gone _ _
+    (λ stands. stored_said s H states bits l c (served_of h.order) q (λ k e. unless-at c.lender_gone _ stands (back k e))) h.stored)
+    h.loans
   where
     unless_with : (b : Bool) (P Q : Type 0) → (b ≡ false → P → Q) → Unless b P → Unless b Q
     unless_with true P Q f p = tt
@@ -135,7 +168,8 @@ or_parts true b e = cc
 or_parts false b e = (refl, e)
 
 -- what is left of a link whose first reply was taken, before the device does anything with it
-pub record Taken (s : Sizes) (H : History) (cs : Calls) (states : List SlabState) (bits : List Bool) (ring : List Request) (l : Lender) (c : Channel) (q : Parcel) (qs : List Parcel) : Type 0 where
+pub record Taken (s : Sizes) (H : History) (cs : Calls) (states : List SlabState) (bits : List Bool) (ring : List Request) (l : Lender) (c : Channel)
+    (q : Parcel) (qs : List Parcel) : Type 0 where
   pub one : Request
   pub rest : List Request
   pub ring_is : ring ≡ one ∷ rest
@@ -149,14 +183,20 @@ pub record Taken (s : Sizes) (H : History) (cs : Calls) (states : List SlabState
   pub loans : AreNew states l qs
 
 -- those of a list without its first message
-pub new_left : (states : List SlabState) (l : Lender) (c : Channel) (q : Parcel) (qs : List Parcel) → c.to_device.parcels ≡ q ∷ qs → AreNew states l c.to_device.parcels → AreNew states l qs
+pub new_left :
+    (states : List SlabState) (l : Lender) (c : Channel) (q : Parcel) (qs : List Parcel) → c.to_device.parcels ≡ q ∷ qs → AreNew states l c.to_device.parcels
+    → AreNew states l qs
 new_left states l c q qs front new =
     let now : AreNew states l (q ∷ qs) = subst (λ ps. AreNew states l ps) front new in
     record { fresh = λ k t e. now.fresh k t (any-rest (λ (q : Parcel). lends k q.msg) q qs e); once = now.once.1 }
 
-pub taken_front : (s : Sizes) (H : History) (cs : Calls) (states : List SlabState) (bits : List Bool) (ring : List Request) (l : Lender) (c : Channel) (q : Parcel) (qs : List Parcel) → c.to_device.parcels ≡ q ∷ qs → is_reply q.msg ≡ true → JoinedOf s H cs states bits ring l c → Taken s H cs states bits ring l c q qs
+pub taken_front :
+    (s : Sizes) (H : History) (cs : Calls) (states : List SlabState) (bits : List Bool) (ring : List Request) (l : Lender) (c : Channel) (q : Parcel)
+    (qs : List Parcel)
+    → c.to_device.parcels ≡ q ∷ qs → is_reply q.msg ≡ true → JoinedOf s H cs states bits ring l c → Taken s H cs states bits ring l c q qs
 taken_front s H cs states bits ring l c q qs front is h =
-    let t : Heard (Replied s H cs states l) (Asked s H cs states l c) ring c.to_lender c.to_device q qs (served_of h.order) h.order.under_way = order_heard (Replied s H cs states l) (Asked s H cs states l c) ring c.to_lender c.to_device q qs h.order front is in
+    let t : Heard (Replied s H cs states l) (Asked s H cs states l c) ring c.to_lender c.to_device q qs (served_of h.order) h.order.under_way =
+    order_heard (Replied s H cs states l) (Asked s H cs states l c) ring c.to_lender c.to_device q qs h.order front is in
     let o = t.after.order in
     record {
       one = t.one;
@@ -172,55 +212,88 @@ taken_front s H cs states bits ring l c q qs front is h =
       loans = new_left states l c q qs front h.loans;
     }
 
-stored_left : (s : Sizes) (H : History) (states : List SlabState) (bits : List Bool) (l : Lender) (c : Channel) (q : Parcel) (qs : List Parcel) (x : Request) (left : List Request) → c.to_device.parcels ≡ q ∷ qs → Stored s H states bits l c (x ∷ left) → Stored s H states bits l (without_reply c qs) left
+stored_left :
+    (s : Sizes) (H : History) (states : List SlabState) (bits : List Bool) (l : Lender) (c : Channel) (q : Parcel) (qs : List Parcel) (x : Request)
+    (left : List Request)
+    → c.to_device.parcels ≡ q ∷ qs → Stored s H states bits l c (x ∷ left) → Stored s H states bits l (without_reply c qs) left
 stored_left s H states bits l c q qs x left front k = record {
   leased = k.leased;
   lent = λ t j at. k.lent t j (ap (lends_to t j) front ∙ any-rest (λ (q : Parcel). lends_slab t j q.msg) q qs at);
   written = λ p j e at is. k.written p j e at (latest-later p x left e is);
   readable = k.readable;
-  given = λ j e. let was = k.given j e in record { known = was.known; unleased = was.unleased; unlent = (or_parts (lends j q.msg) (lends_in j qs) (sym (ap (lends_in j) front) ∙ was.unlent)).1 };
+  given =
+      λ j e. let was = k.given j e in
+      record { known = was.known; unleased = was.unleased; unlent = (or_parts (lends j q.msg) (lends_in j qs) (sym (ap (lends_in j) front) ∙ was.unlent)).1 };
 }
 
 -- a notice is taken: it answers no request
-stored_noticed : (s : Sizes) (H : History) (states : List SlabState) (bits : List Bool) (l : Lender) (c : Channel) (q : Parcel) (qs : List Parcel) (S : List Request) → c.to_device.parcels ≡ q ∷ qs → Stored s H states bits l c S → Stored s H states bits l (without_reply c qs) S
+stored_noticed :
+    (s : Sizes) (H : History) (states : List SlabState) (bits : List Bool) (l : Lender) (c : Channel) (q : Parcel) (qs : List Parcel) (S : List Request)
+    → c.to_device.parcels ≡ q ∷ qs → Stored s H states bits l c S → Stored s H states bits l (without_reply c qs) S
 stored_noticed s H states bits l c q qs S front k = record {
   leased = k.leased;
   lent = λ t j at. k.lent t j (ap (lends_to t j) front ∙ any-rest (λ (q : Parcel). lends_slab t j q.msg) q qs at);
   written = k.written;
   readable = k.readable;
-  given = λ j e. let was = k.given j e in record { known = was.known; unleased = was.unleased; unlent = (or_parts (lends j q.msg) (lends_in j qs) (sym (ap (lends_in j) front) ∙ was.unlent)).1 };
+  given =
+      λ j e. let was = k.given j e in
+      record { known = was.known; unleased = was.unleased; unlent = (or_parts (lends j q.msg) (lends_in j qs) (sym (ap (lends_in j) front) ∙ was.unlent)).1 };
 }
 
-pub joined_noticed : (s : Sizes) (H : History) (cs : Calls) (states : List SlabState) (bits : List Bool) (ring : List Request) (l : Lender) (c : Channel) (q : Parcel) (qs : List Parcel) → c.to_device.parcels ≡ q ∷ qs → is_reply q.msg ≡ false → JoinedOf s H cs states bits ring l c → JoinedOf s H cs states bits ring l (without_reply c qs)
+pub joined_noticed :
+    (s : Sizes) (H : History) (cs : Calls) (states : List SlabState) (bits : List Bool) (ring : List Request) (l : Lender) (c : Channel) (q : Parcel)
+    (qs : List Parcel)
+    → c.to_device.parcels ≡ q ∷ qs → is_reply q.msg ≡ false → JoinedOf s H cs states bits ring l c → JoinedOf s H cs states bits ring l (without_reply c qs)
 joined_noticed s H cs states bits ring l c q qs front plain h =
     let R : Parcel → Request → Type 0 = Replied s H cs states l in
     let C : Parcel → Request → Type 0 = Asked s H cs states l c in
     joined s H cs states bits ring l (without_reply c qs) (served_of h.order) h.order.under_way h.present
     (order_quiet R C ring c.to_lender c.to_device c.to_lender (record c.to_device { parcels = qs }) (served_of h.order) h.order.under_way
-    (record { asks = refl; replies = sym (ap (filter replies_by) front ∙ filter-drops replies_by q qs plain); to_lender = λ f. f; to_device = λ f. f }) (itself R C ring c.to_lender c.to_device h.order))
+    (record { asks = refl; replies = sym (ap (filter replies_by) front ∙ filter-drops replies_by q qs plain); to_lender = λ f. f; to_device = λ f. f })
+    (itself R C ring c.to_lender c.to_device h.order))
     (unless-map c.lender_gone _ _ (stored_noticed s H states bits l c q qs (served_of h.order) front) h.stored) (new_left states l c q qs front h.loans)
 
 -- a lease that its slab gives up as a message is taken may be given back
-pub given_up : (s : Sizes) (H : History) (cs : Calls) (states states' : List SlabState) (bits : List Bool) (ring : List Request) (l : Lender) (c : Channel) (q : Parcel) (qs : List Parcel) (t : Slab) (k : Lease) → c.to_device.parcels ≡ q ∷ qs → IsSound c.lender → has_lease l k (state_of states t) ≡ true
-    → ((u : Slab) → has_lease l k (state_of states' u) ≡ false) → JoinedOf s H cs states bits ring l c → Unless c.lender_gone (IsGivenBack states' l (without_reply c qs) k)
-given_up s H cs states states' bits ring l c q qs t k front sound at none h = unless-map c.lender_gone _ _ (λ (stored : Stored s H states bits l c (served_of h.order)). record {
-  known = seat_given c.lender c.number k t sound (stored.leased t k at);
-  unleased = none;
-  unlent = false_from_ne_true _ (λ e. both_ways (has_lease l k (state_of states t)) (h.loans.fresh k t (ap (lends_in k) front ∙ any-rest (λ (q : Parcel). lends k q.msg) q qs e)) at);
-}) h.stored
+pub given_up :
+    (s : Sizes) (H : History) (cs : Calls) (states states' : List SlabState) (bits : List Bool) (ring : List Request) (l : Lender) (c : Channel) (q : Parcel)
+    (qs : List Parcel) (t : Slab) (k : Lease)
+    → c.to_device.parcels ≡ q ∷ qs → IsSound c.lender → has_lease l k (state_of states t) ≡ true
+    → ((u : Slab) → has_lease l k (state_of states' u) ≡ false) → JoinedOf s H cs states bits ring l c
+    → Unless c.lender_gone (IsGivenBack states' l (without_reply c qs) k)
+given_up s H cs states states' bits ring l c q qs t k front sound at none h =
+    unless-map c.lender_gone _ _ (λ (stored : Stored s H states bits l c (served_of h.order)). record {
+      known = seat_given c.lender c.number k t sound (stored.leased t k at);
+      unleased = none;
+      unlent =
+          false_from_ne_true _
+          (λ e. both_ways (has_lease l k (state_of states t)) (h.loans.fresh k t (ap (lends_in k) front ∙ any-rest (λ (q : Parcel). lends k q.msg) q qs e)) at);
+    }) h.stored
 
 -- a slab is refused, or a page was read: the link sees the device as before
-pub joined_left : (s : Sizes) (H : History) (cs : Calls) (states : List SlabState) (bits : List Bool) (ring : List Request) (l : Lender) (c : Channel) (q : Parcel) (qs : List Parcel) → c.to_device.parcels ≡ q ∷ qs → c.device_gone ≡ false → (t : Taken s H cs states bits ring l c q qs) → JoinedOf s H cs states bits t.rest l (without_reply c qs)
+pub joined_left :
+    (s : Sizes) (H : History) (cs : Calls) (states : List SlabState) (bits : List Bool) (ring : List Request) (l : Lender) (c : Channel) (q : Parcel)
+    (qs : List Parcel)
+    → c.to_device.parcels ≡ q ∷ qs → c.device_gone ≡ false → (t : Taken s H cs states bits ring l c q qs)
+    → JoinedOf s H cs states bits t.rest l (without_reply c qs)
 joined_left s H cs states bits ring l c q qs front present t =
-    joined s H cs states bits t.rest l (without_reply c qs) t.left t.under_way present t.order (unless-map c.lender_gone _ _ (stored_left s H states bits l c q qs t.one t.left front) t.stored) t.loans
+    joined s H cs states bits t.rest l (without_reply c qs) t.left t.under_way present t.order
+    (unless-map c.lender_gone _ _ (stored_left s H states bits l c q qs t.one t.left front) t.stored) t.loans
 
 -- a write came back: its page may be read, where its entry is the last of the page
-pub joined_wrote : (s : Sizes) (H : History) (cs : Calls) (states states' : List SlabState) (bits bits' : List Bool) (ring : List Request) (l : Lender) (c : Channel) (q : Parcel) (qs : List Parcel) (p : Page) (e : EntryNo) → c.to_device.parcels ≡ q ∷ qs → c.device_gone ≡ false → (t : Taken s H cs states bits ring l c q qs) → FewerLeases l states states' → AllByRecursion (StaysLeased s l states states') t.rest → latest p (t.one ∷ t.left) ≡ Some e
-    → bytes_of H e ≡ array (zeros s) H p → ((o : Page) → has bits' o.0 ≡ true → (has bits o.0 ≡ true) ⊎ (o.0 ≡ p.0)) → JoinedOf s H cs states' bits' t.rest l (without_reply c qs)
+pub joined_wrote :
+    (s : Sizes) (H : History) (cs : Calls) (states states' : List SlabState) (bits bits' : List Bool) (ring : List Request) (l : Lender) (c : Channel)
+    (q : Parcel) (qs : List Parcel) (p : Page) (e : EntryNo)
+    → c.to_device.parcels ≡ q ∷ qs → c.device_gone ≡ false → (t : Taken s H cs states bits ring l c q qs) → FewerLeases l states states'
+    → AllByRecursion (StaysLeased s l states states') t.rest → latest p (t.one ∷ t.left) ≡ Some e
+    → bytes_of H e ≡ array (zeros s) H p → ((o : Page) → has bits' o.0 ≡ true → (has bits o.0 ≡ true) ⊎ (o.0 ≡ p.0))
+    → JoinedOf s H cs states' bits' t.rest l (without_reply c qs)
 joined_wrote s H cs states states' bits bits' ring l c q qs p e front present t fewer leased last_write content lit =
     joined s H cs states' bits' t.rest l (without_reply c qs) t.left t.under_way present
-    (order_seen s H H cs cs states states' t.rest l c c.to_lender (record c.to_device { parcels = qs }) t.left t.under_way leased (λ o f out. (out, refl)) (still_all cs cs t.rest (λ a e is. is)) (fewer_new s states states' l t.rest fewer) t.order)
-    (unless-map c.lender_gone _ _ (λ (k : Stored s H states bits l c (t.one ∷ t.left)). stored_seen s H H states states' bits bits' l (without_reply c qs) t.left fewer (λ o f out. (out, refl))
+    (order_seen s H H cs cs states states' t.rest l c c.to_lender (record c.to_device { parcels = qs }) t.left t.under_way leased (λ o f out. (out, refl))
+    (still_all cs cs t.rest (λ a e is. is)) (fewer_new s states states' l t.rest fewer) t.order)
+    (unless-map c.lender_gone _ _
+    (λ (k : Stored s H states bits l c (t.one ∷ t.left)).
+    stored_seen s H H states states' bits bits' l (without_reply c qs) t.left fewer (λ o f out. (out, refl))
     (λ o j at set. elim (lit o set) [
       | inl was ↦ inl (was, refl)
       | inr same ↦ inr (
@@ -257,7 +330,9 @@ lends_reply (msg.Refused slab) u k j e = absurd (neither (let F : Option (Slab �
 lends_reply _ u k j e = cc
 
 pub loan : (m : Msg) (v : Slab) (k : Lease) (u : Slab) (j : Lease) → borrow_reply m ≡ Some (v, Some k) → v.0 ≡ u.0 → k.0 ≡ j.0 → lends_slab u j m ≡ true
-loan (msg.Lent slab lease) v k u j e slab_same lease_same = and_from (slab.0 == u.0) (lease.0 == j.0) (eq-eqb slab.0 u.0 ((let F : Option (Slab × Option Lease) → ℕ = slab_in in ap F e) ∙ slab_same)) (eq-eqb lease.0 j.0 ((let F : Option (Slab × Option Lease) → ℕ = lease_in in ap F e) ∙ lease_same))
+loan (msg.Lent slab lease) v k u j e slab_same lease_same =
+    and_from (slab.0 == u.0) (lease.0 == j.0) (eq-eqb slab.0 u.0 ((let F : Option (Slab × Option Lease) → ℕ = slab_in in ap F e) ∙ slab_same))
+    (eq-eqb lease.0 j.0 ((let F : Option (Slab × Option Lease) → ℕ = lease_in in ap F e) ∙ lease_same))
   where
     slab_in : Option (Slab × Option Lease) → ℕ
     slab_in None = 0
@@ -284,16 +359,28 @@ loan (msg.Refused slab) v k u j e slab_same lease_same = absurd (neither (let F 
     neither e = cc
 loan _ v k u j e slab_same lease_same = cc
 
-pub joined_lent : (s : Sizes) (H : History) (cs : Calls) (states : List SlabState) (bits : List Bool) (ring : List Request) (l : Lender) (c : Channel) (q : Parcel) (qs : List Parcel) (u v : Slab) (k : Lease) → c.to_device.parcels ≡ q ∷ qs → c.device_gone ≡ false → (t : Taken s H cs states bits ring l c q qs)
-    → u.0 < length states → state_of states u ≡ Borrowing l → borrow_reply q.msg ≡ Some (v, Some k) → v.0 ≡ u.0 → ((p : Page) (e : EntryNo) → slab_of s p.0 ≡ u.0 → latest p t.left ≡ Some e → ⊥) → ((p : Page) → slab_of s p.0 ≡ u.0 → has bits p.0 ≡ true → ⊥) → AllByRecursion (NoNewLease s states (slabs.lent states u k) l) t.rest → ((j : Lease) → lends j q.msg ≡ true → lends_in j qs ≡ false)
+pub joined_lent :
+    (s : Sizes) (H : History) (cs : Calls) (states : List SlabState) (bits : List Bool) (ring : List Request) (l : Lender) (c : Channel) (q : Parcel)
+    (qs : List Parcel) (u v : Slab) (k : Lease)
+    → c.to_device.parcels ≡ q ∷ qs → c.device_gone ≡ false → (t : Taken s H cs states bits ring l c q qs)
+    → u.0 < length states → state_of states u ≡ Borrowing l → borrow_reply q.msg ≡ Some (v, Some k) → v.0 ≡ u.0
+    → ((p : Page) (e : EntryNo) → slab_of s p.0 ≡ u.0 → latest p t.left ≡ Some e → ⊥) → ((p : Page) → slab_of s p.0 ≡ u.0 → has bits p.0 ≡ true → ⊥)
+    → AllByRecursion (NoNewLease s states (slabs.lent states u k) l) t.rest → ((j : Lease) → lends j q.msg ≡ true → lends_in j qs ≡ false)
     → JoinedOf s H cs (slabs.lent states u k) bits t.rest l (without_reply c qs)
 joined_lent s H cs states bits ring l c q qs u v k front present t within borrows reply same_slab none clear none_new lent_once =
     joined s H cs states' bits t.rest l (without_reply c qs) t.left t.under_way present
-    (order_seen s H H cs cs states states' t.rest l c c.to_lender (record c.to_device { parcels = qs }) t.left t.under_way (leased_all s l states states' t.rest kept) (λ o f out. (out, refl)) (still_all cs cs t.rest (λ a e is. is)) none_new t.order)
-    (unless-map c.lender_gone _ _ (λ (h : Stored s H states bits l c (t.one ∷ t.left)). let g : Stored s H states bits l (without_reply c qs) t.left = stored_left s H states bits l c q qs t.one t.left front h in record {
+    (order_seen s H H cs cs states states' t.rest l c c.to_lender (record c.to_device { parcels = qs }) t.left t.under_way
+    (leased_all s l states states' t.rest kept) (λ o f out. (out, refl)) (still_all cs cs t.rest (λ a e is. is)) none_new t.order)
+    (unless-map c.lender_gone _ _
+    (λ (h : Stored s H states bits l c (t.one ∷ t.left)). let g : Stored s H states bits l (without_reply c qs) t.left =
+    stored_left s H states bits l c q qs t.one t.left front h in
+    record {
       leased = λ w j at.
           by_slab (λ w. has_lease l j (state_of states' w) ≡ true → HasSeat c.lender c.number j w) u w
-          (λ at. h.lent u j (ap (lends_to u j) front ∙ any_first (lends_slab u j q.msg) (lends_to u j qs) (loan q.msg v k u j reply same_slab (lease_is j (sym (ap (has_lease l j) now) ∙ at)))))
+          (λ at.
+          h.lent u j
+          (ap (lends_to u j) front
+          ∙ any_first (lends_slab u j q.msg) (lends_to u j qs) (loan q.msg v k u j reply same_slab (lease_is j (sym (ap (has_lease l j) now) ∙ at)))))
           (λ other at. g.leased w j (sym (ap (has_lease l j) (state-other states u w (slabs.after_lent (state_of states u) k) other)) ∙ at)) at;
       lent = g.lent;
       written = λ p j e at is. g.written p j e (old p j (λ same. none p e same is) at) is;
@@ -301,14 +388,19 @@ joined_lent s H cs states bits ring l c q qs u v k front present t within borrow
       given = λ j e. let was = h.given j e in record {
         known = was.known;
         unleased = λ w. by_slab (λ w. has_lease l j (state_of states' w) ≡ false) u w
-            (ap (has_lease l j) now ∙ ap (λ b. (l.0 == l.0) && b) (sym (lends_reply q.msg v k j reply) ∙ (or_parts (lends j q.msg) (lends_in j qs) (sym (ap (lends_in j) front) ∙ was.unlent)).0) ∙ and_off (l.0 == l.0))
+            (ap (has_lease l j) now
+            ∙ ap (λ b. (l.0 == l.0) && b)
+            (sym (lends_reply q.msg v k j reply) ∙ (or_parts (lends j q.msg) (lends_in j qs) (sym (ap (lends_in j) front) ∙ was.unlent)).0)
+            ∙ and_off (l.0 == l.0))
             (λ other. ap (has_lease l j) (state-other states u w (slabs.after_lent (state_of states u) k) other) ∙ was.unleased w);
         unlent = (g.given j e).unlent;
       };
     }) t.stored)
     (record {
       fresh = λ j w e. by_slab (λ w. has_lease l j (state_of states' w) ≡ false) u w
-          (ap (has_lease l j) now ∙ false_from_ne_true _ (λ at. both_ways (lends_in j qs) (lent_once j (lends_reply q.msg v k j reply ∙ (and_parts (l.0 == l.0) (k.0 == j.0) at).1)) e))
+          (ap (has_lease l j) now
+          ∙ false_from_ne_true _
+          (λ at. both_ways (lends_in j qs) (lent_once j (lends_reply q.msg v k j reply ∙ (and_parts (l.0 == l.0) (k.0 == j.0) at).1)) e))
           (λ other. ap (has_lease l j) (state-other states u w (slabs.after_lent (state_of states u) k) other) ∙ t.loans.fresh j w e);
       once = t.loans.once;
     })
@@ -331,14 +423,21 @@ joined_lent s H cs states bits ring l c q qs u v k front present t within borrow
     and_off false = refl
 
     kept : (w : Slab) (j : Lease) → has_lease l j (state_of states w) ≡ true → has_lease l j (state_of (slabs.lent states u k) w) ≡ true
-    kept w j at = by_slab (λ w. has_lease l j (state_of states w) ≡ true → has_lease l j (state_of (slabs.lent states u k) w) ≡ true) u w (λ at. absurd (both_ways (has_lease l j (state_of states u)) (ap (has_lease l j) borrows) at)) (λ other at. ap (has_lease l j) (state-other states u w (slabs.after_lent (state_of states u) k) other) ∙ at) at
+    kept w j at =
+        by_slab (λ w. has_lease l j (state_of states w) ≡ true → has_lease l j (state_of (slabs.lent states u k) w) ≡ true) u w
+        (λ at. absurd (both_ways (has_lease l j (state_of states u)) (ap (has_lease l j) borrows) at))
+        (λ other at. ap (has_lease l j) (state-other states u w (slabs.after_lent (state_of states u) k) other) ∙ at) at
 
-    old : (p : Page) (j : Lease) → (slab_of s p.0 ≡ u.0 → ⊥) → has_lease l j (state_for s (slabs.lent states u k) p) ≡ true → has_lease l j (state_for s states p) ≡ true
+    old :
+        (p : Page) (j : Lease) → (slab_of s p.0 ≡ u.0 → ⊥) → has_lease l j (state_for s (slabs.lent states u k) p) ≡ true
+        → has_lease l j (state_for s states p) ≡ true
     old p j other at = sym (ap (has_lease l j) (state-other states u (slab_for s p) (slabs.after_lent (state_of states u) k) other)) ∙ at
 
 -- what the device and its links agree on says of the pages at a lender
 
-pub latest_mapped : (s : Sizes) (H : History) (cs : Calls) (states : List SlabState) (l : Lender) (p : Page) (ring : List Request) (e : EntryNo) → AllByRecursion (IsAwaited s H cs states l) ring → latest p ring ≡ Some e → IsLeasedFrom l (state_for s states p)
+pub latest_mapped :
+    (s : Sizes) (H : History) (cs : Calls) (states : List SlabState) (l : Lender) (p : Page) (ring : List Request) (e : EntryNo)
+    → AllByRecursion (IsAwaited s H cs states l) ring → latest p ring ≡ Some e → IsLeasedFrom l (state_for s states p)
 latest_mapped s H cs states l p [] e all is = cc
 latest_mapped s H cs states l p (x ∷ ring) e all is = go (latest p ring) refl is (latest_mapped s H cs states l p ring e all.1)
   where
@@ -352,21 +451,27 @@ latest_mapped s H cs states l p (x ∷ ring) e all is = go (latest p ring) refl 
         test true same is = subst (λ n. IsLeasedFrom l (state_for s states (record { 0 = n }))) (eqb-true q.0 p.0 same) a.1
         test false same is = cc
 
-    go : (o : Option EntryNo) → latest p ring ≡ o → first_of o (entry_to p x) ≡ Some e → (latest p ring ≡ Some e → IsLeasedFrom l (state_for s states p)) → IsLeasedFrom l (state_for s states p)
+    go :
+        (o : Option EntryNo) → latest p ring ≡ o → first_of o (entry_to p x) ≡ Some e → (latest p ring ≡ Some e → IsLeasedFrom l (state_for s states p))
+        → IsLeasedFrom l (state_for s states p)
     go (Some f) same is rest = rest (same ∙ is)
     go None same is rest = here x all.0 is
 
 pub bit_within : (bits : List Bool) (i : ℕ) → has bits i ≡ true → i < length bits
 bit_within bits i set = elim (cases_lt i (length bits)) [ inl within ↦ within | inr past ↦ absurd (both_ways (has bits i) (get_or_past bits i false past) set) ]
 
-pub clear_of : (keeps : Keeping) (owes : Owing) (s : Sizes) (n : ℕ) (H : History) (cs : Calls) (r : Remote) (l : Lender) → Serves keeps owes s n H cs r → Clear s r.slabs r.bits (ring_of r.links l) l
+pub clear_of :
+    (keeps : Keeping) (owes : Owing) (s : Sizes) (n : ℕ) (H : History) (cs : Calls) (r : Remote) (l : Lender) → Serves keeps owes s n H cs r
+    → Clear s r.slabs r.bits (ring_of r.links l) l
 clear_of keeps owes s n H cs r l k = record {
   single = k.single;
   ordered = (k.link l).ordered;
   none = λ p j at set. go p j (state_for s r.slabs p) at set (k.page p (subst (λ m. p.0 < m) k.bits_len (bit_within r.bits p.0 set)));
 }
   where
-    go : (p : Page) (j : Lease) (x : SlabState) → has_lease l j x ≡ true → has_page r p ≡ true → PageFits keeps s H r.links p (has_page r p) x → latest p (ring_of r.links l) ≡ None
+    go :
+        (p : Page) (j : Lease) (x : SlabState) → has_lease l j x ≡ true → has_page r p ≡ true → PageFits keeps s H r.links p (has_page r p) x
+        → latest p (ring_of r.links l) ≡ None
     go p j Local at set fits = cc
     go p j (Asking pair) at set fits = cc
     go p j (Borrowing m) at set fits = cc

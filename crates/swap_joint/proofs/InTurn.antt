@@ -68,11 +68,17 @@ stays_by M (msg.Evict lease) k other h = (h, other lease refl)
 stays_by M _ k other h = h
 
 -- a list with a message more, where the message may come
-turn-append : (M : Lease → Type 0) (b : Lane) (q : Parcel) → InTurn M b.parcels → (b.ended ≡ false → MayCome (λ k. After M b.parcels k) q.msg) → InTurn M (appended b q).parcels
+turn-append :
+    (M : Lease → Type 0) (b : Lane) (q : Parcel) → InTurn M b.parcels → (b.ended ≡ false → MayCome (λ k. After M b.parcels k) q.msg)
+    → InTurn M (appended b q).parcels
 turn-append M b q h may = by_append (λ z. InTurn M z.parcels) b q (λ _. h) (λ e. turn_last M b.parcels q h (may e)) (λ _. h)
 
-after-append : (M : Lease → Type 0) (b : Lane) (q : Parcel) (k : Lease) → (b.ended ≡ false → Then (λ j. After M b.parcels j) q.msg k) → (appended b q).ended ≡ false → After M (appended b q).parcels k
-after-append M b q k h = by_append (λ z. z.ended ≡ false → After M z.parcels k) b q (λ e f. absurd (both_ways b.ended f e)) (λ e _. after_last M b.parcels q k (h e)) (λ _ f. absurd (both_ways true f refl))
+after-append :
+    (M : Lease → Type 0) (b : Lane) (q : Parcel) (k : Lease) → (b.ended ≡ false → Then (λ j. After M b.parcels j) q.msg k) → (appended b q).ended ≡ false
+    → After M (appended b q).parcels k
+after-append M b q k h =
+    by_append (λ z. z.ended ≡ false → After M z.parcels k) b q (λ e f. absurd (both_ways b.ended f e)) (λ e _. after_last M b.parcels q k (h e))
+    (λ _ f. absurd (both_ways true f refl))
 
 -- a reply is appended
 
@@ -94,11 +100,15 @@ pub turn_reply : (M : Lease → Type 0) (b : Lane) (q : Parcel) → is_reply q.m
 turn_reply M b q is h = turn-append M b q h (λ _. reply_comes (λ k. After M b.parcels k) q.msg is)
 
 pub stays_reply : (M : Lease → Type 0) (slots : List SlotState) (b : Lane) (q : Parcel) → is_reply q.msg ≡ true → Stays M slots b → Stays M slots (appended b q)
-stays_reply M slots b q is h open_ i n t k held = after-append M b q k (λ e. stays_by (λ j. After M b.parcels j) q.msg k (λ j. reply_stays q.msg k j is) (h e i n t k held)) open_
+stays_reply M slots b q is h open_ i n t k held =
+    after-append M b q k (λ e. stays_by (λ j. After M b.parcels j) q.msg k (λ j. reply_stays q.msg k j is) (h e i n t k held)) open_
 
 -- a slot is lent by a lease that the reply names
-pub stays_lent : (M : Lease → Type 0) (slots : List SlotState) (b : Lane) (q : Parcel) (j : ℕ) (m : Link) (u : Slab) (lease : Lease) → q.msg ≡ msg.Lent u lease → Stays M slots b → Stays M (set slots j (Held m u lease false)) (appended b q)
-stays_lent M slots b q j m u lease is h open_ i n t k held = after-append M b q k (λ e. let P : Msg → Type 0 = λ x. Then (λ j. After M b.parcels j) x k in subst P (sym is) (here e)) open_
+pub stays_lent :
+    (M : Lease → Type 0) (slots : List SlotState) (b : Lane) (q : Parcel) (j : ℕ) (m : Link) (u : Slab) (lease : Lease) → q.msg ≡ msg.Lent u lease
+    → Stays M slots b → Stays M (set slots j (Held m u lease false)) (appended b q)
+stays_lent M slots b q j m u lease is h open_ i n t k held =
+    after-append M b q k (λ e. let P : Msg → Type 0 = λ x. Then (λ j. After M b.parcels j) x k in subst P (sym is) (here e)) open_
   where
     lease_is : (m n : Link) (u t : Slab) (lease k : Lease) (a b : Bool) → Held m u lease a ≡ Held n t k b → lease.0 ≡ k.0
     lease_is m n u t lease k a b e = cc
@@ -106,7 +116,11 @@ stays_lent M slots b q j m u lease is h open_ i n t k held = after-append M b q 
     here : b.ended ≡ false → After M b.parcels k ⊎ (lease.0 ≡ k.0)
     here e = elim (cases_eq i j) [
       | inl same ↦ elim (cases_lt j (length slots)) [
-        | inl within ↦ inr (lease_is m n u t lease k false false (sym (get_or-set_same slots j (Held m u lease false) Free within) ∙ ap (λ x. get_or (set slots j (Held m u lease false)) x Free) (sym same) ∙ held))
+        | inl within ↦
+            inr
+            (lease_is m n u t lease k false false
+            (sym (get_or-set_same slots j (Held m u lease false) Free within) ∙ ap (λ x. get_or (set slots j (Held m u lease false)) x Free) (sym same)
+            ∙ held))
         | inr past ↦ inl (h e i n t k (sym (unset slots j (Held m u lease false) past i) ∙ held))
       ]
       | inr other ↦ inl (h e i n t k (sym (get_or-set_other slots j i (Held m u lease false) Free other) ∙ held))
@@ -137,10 +151,12 @@ forwarded_both n b (x ∷ xs) ys = forwarded_both n (posted n b x.0 (parcel_of x
 
 -- of the slots of a set from this number on, each held one has a lease that maps its slab once all is taken
 abbrev pub Ready : (Lease → Type 0) → ℕ → ℕ → List SlotState → Lane → Type 0
-Ready M set from slots b = b.ended ≡ false → (i : ℕ) (n : Link) (t : Slab) (k : Lease) (e : Bool) → has set (from + i) ≡ true → slot_in slots i ≡ Held n t k e → After M b.parcels k
+Ready M set from slots b =
+    b.ended ≡ false → (i : ℕ) (n : Link) (t : Slab) (k : Lease) (e : Bool) → has set (from + i) ≡ true → slot_in slots i ≡ Held n t k e → After M b.parcels k
 
 abbrev pub Differ : List SlotState → Type 0
-Differ slots = (i j : ℕ) (n m : Link) (t u : Slab) (k l : Lease) (e f : Bool) → slot_in slots i ≡ Held n t k e → slot_in slots j ≡ Held m u l f → k.0 ≡ l.0 → i ≡ j
+Differ slots =
+    (i j : ℕ) (n m : Link) (t u : Slab) (k l : Lease) (e f : Bool) → slot_in slots i ≡ Held n t k e → slot_in slots j ≡ Held m u l f → k.0 ≡ l.0 → i ≡ j
 
 ready_rest : (M : Lease → Type 0) (set from : ℕ) (s : SlotState) (ss : List SlotState) (b : Lane) → Ready M set from (s ∷ ss) b → Ready M set (from + 1) ss b
 ready_rest M set from s ss b h open_ i n t k e is held = h open_ (suc i) n t k e (subst (λ m. has set m ≡ true) (omega arith) is) held
@@ -167,60 +183,100 @@ one_posted M n link b q =
 lease_same : (n m : Link) (t u : Slab) (k j : Lease) (e f : Bool) → Held n t k e ≡ Held m u j f → k ≡ j
 lease_same n m t u k j e f h = cc
 
-pub asks_turn : (M : Lease → Type 0) (n : Link) (set from : ℕ) (slots : List SlotState) (b : Lane) → InTurn M b.parcels → Ready M set from slots b → InTurn M (forwarded n b (told notice.AskRates set from slots)).parcels
+pub asks_turn :
+    (M : Lease → Type 0) (n : Link) (set from : ℕ) (slots : List SlotState) (b : Lane) → InTurn M b.parcels → Ready M set from slots b
+    → InTurn M (forwarded n b (told notice.AskRates set from slots)).parcels
 asks_turn M n set from [] b h ready_ = h
-asks_turn M n set from (s ∷ ss) b h ready_ = subst (λ (z : Lane). InTurn M z.parcels) (sym (forwarded_both n b (tell_slot notice.AskRates (has set from) s) (told notice.AskRates set (from + 1) ss))) (go (has set from) refl s refl (asks_turn M n set (from + 1) ss))
+asks_turn M n set from (s ∷ ss) b h ready_ =
+    subst (λ (z : Lane). InTurn M z.parcels) (sym (forwarded_both n b (tell_slot notice.AskRates (has set from) s) (told notice.AskRates set (from + 1) ss)))
+    (go (has set from) refl s refl (asks_turn M n set (from + 1) ss))
   where
-    go : (in_set : Bool) → has set from ≡ in_set → (x : SlotState) → s ≡ x → ((c : Lane) → InTurn M c.parcels → Ready M set (from + 1) ss c → InTurn M (forwarded n c (told notice.AskRates set (from + 1) ss)).parcels) → InTurn M (forwarded n (forwarded n b (tell_slot notice.AskRates in_set x)) (told notice.AskRates set (from + 1) ss)).parcels
+    go :
+        (in_set : Bool) → has set from ≡ in_set → (x : SlotState) → s ≡ x
+        → ((c : Lane) → InTurn M c.parcels → Ready M set (from + 1) ss c → InTurn M (forwarded n c (told notice.AskRates set (from + 1) ss)).parcels)
+        → InTurn M (forwarded n (forwarded n b (tell_slot notice.AskRates in_set x)) (told notice.AskRates set (from + 1) ss)).parcels
     go false out x is more = more b h (ready_rest M set from s ss b ready_)
     go true in_set Free is more = more b h (ready_rest M set from s ss b ready_)
     go true in_set (Held m t k e) is more =
         let q : Parcel = parcel_of (msg.AskRates k) [] in
         let one = one_posted M n m b q in
         more (posted n b m q) (one.turn h (λ open_. ready_ open_ 0 m t k e (subst (λ i. has set i ≡ true) (omega arith) in_set) is))
-        (λ open_ i m' t' k' e' inside held. one.after k' (λ j evict same. (let no : msg.AskRates k ≡ msg.Evict j = evict in cc)) (λ was. ready_rest M set from s ss b ready_ was i m' t' k' e' inside held) open_)
+        (λ open_ i m' t' k' e' inside held.
+        one.after k' (λ j evict same. (let no : msg.AskRates k ≡ msg.Evict j = evict in cc))
+        (λ was. ready_rest M set from s ss b ready_ was i m' t' k' e' inside held) open_)
 
-pub asks_after : (M : Lease → Type 0) (n : Link) (set from : ℕ) (slots : List SlotState) (b : Lane) (k : Lease) → (b.ended ≡ false → After M b.parcels k) → (forwarded n b (told notice.AskRates set from slots)).ended ≡ false → After M (forwarded n b (told notice.AskRates set from slots)).parcels k
+pub asks_after :
+    (M : Lease → Type 0) (n : Link) (set from : ℕ) (slots : List SlotState) (b : Lane) (k : Lease) → (b.ended ≡ false → After M b.parcels k)
+    → (forwarded n b (told notice.AskRates set from slots)).ended ≡ false → After M (forwarded n b (told notice.AskRates set from slots)).parcels k
 asks_after M n set from [] b k h = h
 asks_after M n set from (s ∷ ss) b k h =
-    subst (λ (z : Lane). z.ended ≡ false → After M z.parcels k) (sym (forwarded_both n b (tell_slot notice.AskRates (has set from) s) (told notice.AskRates set (from + 1) ss))) (go (has set from) s (λ c. asks_after M n set (from + 1) ss c k))
+    subst (λ (z : Lane). z.ended ≡ false → After M z.parcels k)
+    (sym (forwarded_both n b (tell_slot notice.AskRates (has set from) s) (told notice.AskRates set (from + 1) ss)))
+    (go (has set from) s (λ c. asks_after M n set (from + 1) ss c k))
   where
-    go : (in_set : Bool) (x : SlotState) → ((c : Lane) → (c.ended ≡ false → After M c.parcels k) → (forwarded n c (told notice.AskRates set (from + 1) ss)).ended ≡ false → After M (forwarded n c (told notice.AskRates set (from + 1) ss)).parcels k) → (forwarded n (forwarded n b (tell_slot notice.AskRates in_set x)) (told notice.AskRates set (from + 1) ss)).ended ≡ false → After M (forwarded n (forwarded n b (tell_slot notice.AskRates in_set x)) (told notice.AskRates set (from + 1) ss)).parcels k
+    go :
+        (in_set : Bool) (x : SlotState)
+        → ((c : Lane) → (c.ended ≡ false → After M c.parcels k) → (forwarded n c (told notice.AskRates set (from + 1) ss)).ended ≡ false
+        → After M (forwarded n c (told notice.AskRates set (from + 1) ss)).parcels k)
+        → (forwarded n (forwarded n b (tell_slot notice.AskRates in_set x)) (told notice.AskRates set (from + 1) ss)).ended ≡ false
+        → After M (forwarded n (forwarded n b (tell_slot notice.AskRates in_set x)) (told notice.AskRates set (from + 1) ss)).parcels k
     go false x more = more b h
     go true Free more = more b h
     go true (Held m t j e) more =
-        let q : Parcel = parcel_of (msg.AskRates j) [] in more (posted n b m q) ((one_posted M n m b q).after k (λ i evict same. (let no : msg.AskRates j ≡ msg.Evict i = evict in cc)) h)
+        let q : Parcel = parcel_of (msg.AskRates j) [] in
+        more (posted n b m q) ((one_posted M n m b q).after k (λ i evict same. (let no : msg.AskRates j ≡ msg.Evict i = evict in cc)) h)
 
-pub evicts_turn : (M : Lease → Type 0) (n : Link) (set from : ℕ) (slots : List SlotState) (b : Lane) → Differ slots → InTurn M b.parcels → Ready M set from slots b → InTurn M (forwarded n b (told notice.Evict set from slots)).parcels
+pub evicts_turn :
+    (M : Lease → Type 0) (n : Link) (set from : ℕ) (slots : List SlotState) (b : Lane) → Differ slots → InTurn M b.parcels → Ready M set from slots b
+    → InTurn M (forwarded n b (told notice.Evict set from slots)).parcels
 evicts_turn M n set from [] b differ h ready_ = h
-evicts_turn M n set from (s ∷ ss) b differ h ready_ = subst (λ (z : Lane). InTurn M z.parcels) (sym (forwarded_both n b (tell_slot notice.Evict (has set from) s) (told notice.Evict set (from + 1) ss))) (go (has set from) refl s refl (λ c. evicts_turn M n set (from + 1) ss c (differ_rest s ss differ)))
+evicts_turn M n set from (s ∷ ss) b differ h ready_ =
+    subst (λ (z : Lane). InTurn M z.parcels) (sym (forwarded_both n b (tell_slot notice.Evict (has set from) s) (told notice.Evict set (from + 1) ss)))
+    (go (has set from) refl s refl (λ c. evicts_turn M n set (from + 1) ss c (differ_rest s ss differ)))
   where
-    go : (in_set : Bool) → has set from ≡ in_set → (x : SlotState) → s ≡ x → ((c : Lane) → InTurn M c.parcels → Ready M set (from + 1) ss c → InTurn M (forwarded n c (told notice.Evict set (from + 1) ss)).parcels) → InTurn M (forwarded n (forwarded n b (tell_slot notice.Evict in_set x)) (told notice.Evict set (from + 1) ss)).parcels
+    go :
+        (in_set : Bool) → has set from ≡ in_set → (x : SlotState) → s ≡ x
+        → ((c : Lane) → InTurn M c.parcels → Ready M set (from + 1) ss c → InTurn M (forwarded n c (told notice.Evict set (from + 1) ss)).parcels)
+        → InTurn M (forwarded n (forwarded n b (tell_slot notice.Evict in_set x)) (told notice.Evict set (from + 1) ss)).parcels
     go false out x is more = more b h (ready_rest M set from s ss b ready_)
     go true in_set Free is more = more b h (ready_rest M set from s ss b ready_)
     go true in_set (Held m t k e) is more =
         let q : Parcel = parcel_of (msg.Evict k) [] in
         let one = one_posted M n m b q in
         more (posted n b m q) (one.turn h (λ open_. ready_ open_ 0 m t k e (subst (λ i. has set i ≡ true) (omega arith) in_set) is))
-        (λ open_ i m' t' k' e' inside held. one.after k' (λ j evict same. apart j evict i m' t' k' e' held same) (λ was. ready_rest M set from s ss b ready_ was i m' t' k' e' inside held) open_)
+        (λ open_ i m' t' k' e' inside held.
+        one.after k' (λ j evict same. apart j evict i m' t' k' e' held same) (λ was. ready_rest M set from s ss b ready_ was i m' t' k' e' inside held) open_)
       where
         evict_is : (a b : Lease) → msg.Evict a ≡ msg.Evict b → a.0 ≡ b.0
         evict_is a b e = cc
 
-        apart : (j : Lease) → msg.Evict k ≡ msg.Evict j → (i : ℕ) (m' : Link) (t' : Slab) (k' : Lease) (e' : Bool) → slot_in ss i ≡ Held m' t' k' e' → j.0 ≡ k'.0 → ⊥
-        apart j evict i m' t' k' e' held same = let one : 0 ≡ suc i = differ 0 (suc i) m m' t t' k k' e e' is held (evict_is k j evict ∙ same) in absurd (omega (arith, one))
+        apart :
+            (j : Lease) → msg.Evict k ≡ msg.Evict j → (i : ℕ) (m' : Link) (t' : Slab) (k' : Lease) (e' : Bool) → slot_in ss i ≡ Held m' t' k' e' → j.0 ≡ k'.0
+            → ⊥
+        apart j evict i m' t' k' e' held same =
+            let one : 0 ≡ suc i = differ 0 (suc i) m m' t t' k k' e e' is held (evict_is k j evict ∙ same) in absurd (omega (arith, one))
 
 -- leases of slots that aren't of the set stay
-pub evicts_after : (M : Lease → Type 0) (n : Link) (set from : ℕ) (slots : List SlotState) (b : Lane) (k : Lease) → ((i : ℕ) (m : Link) (t : Slab) (j : Lease) (e : Bool) → has set (from + i) ≡ true → slot_in slots i ≡ Held m t j e → j.0 ≡ k.0 → ⊥) → (b.ended ≡ false → After M b.parcels k)
+pub evicts_after :
+    (M : Lease → Type 0) (n : Link) (set from : ℕ) (slots : List SlotState) (b : Lane) (k : Lease)
+    → ((i : ℕ) (m : Link) (t : Slab) (j : Lease) (e : Bool) → has set (from + i) ≡ true → slot_in slots i ≡ Held m t j e → j.0 ≡ k.0 → ⊥)
+    → (b.ended ≡ false → After M b.parcels k)
     → (forwarded n b (told notice.Evict set from slots)).ended ≡ false → After M (forwarded n b (told notice.Evict set from slots)).parcels k
 evicts_after M n set from [] b k other h = h
 evicts_after M n set from (s ∷ ss) b k other h =
-    subst (λ (z : Lane). z.ended ≡ false → After M z.parcels k) (sym (forwarded_both n b (tell_slot notice.Evict (has set from) s) (told notice.Evict set (from + 1) ss))) (go (has set from) refl s refl (λ c. evicts_after M n set (from + 1) ss c k later))
+    subst (λ (z : Lane). z.ended ≡ false → After M z.parcels k)
+    (sym (forwarded_both n b (tell_slot notice.Evict (has set from) s) (told notice.Evict set (from + 1) ss)))
+    (go (has set from) refl s refl (λ c. evicts_after M n set (from + 1) ss c k later))
   where
     later : (i : ℕ) (m : Link) (t : Slab) (j : Lease) (e : Bool) → has set (from + 1 + i) ≡ true → slot_in ss i ≡ Held m t j e → j.0 ≡ k.0 → ⊥
     later i m t j e is held = other (suc i) m t j e (subst (λ x. has set x ≡ true) (omega arith) is) held
 
-    go : (in_set : Bool) → has set from ≡ in_set → (x : SlotState) → s ≡ x → ((c : Lane) → (c.ended ≡ false → After M c.parcels k) → (forwarded n c (told notice.Evict set (from + 1) ss)).ended ≡ false → After M (forwarded n c (told notice.Evict set (from + 1) ss)).parcels k) → (forwarded n (forwarded n b (tell_slot notice.Evict in_set x)) (told notice.Evict set (from + 1) ss)).ended ≡ false → After M (forwarded n (forwarded n b (tell_slot notice.Evict in_set x)) (told notice.Evict set (from + 1) ss)).parcels k
+    go :
+        (in_set : Bool) → has set from ≡ in_set → (x : SlotState) → s ≡ x
+        → ((c : Lane) → (c.ended ≡ false → After M c.parcels k) → (forwarded n c (told notice.Evict set (from + 1) ss)).ended ≡ false
+        → After M (forwarded n c (told notice.Evict set (from + 1) ss)).parcels k)
+        → (forwarded n (forwarded n b (tell_slot notice.Evict in_set x)) (told notice.Evict set (from + 1) ss)).ended ≡ false
+        → After M (forwarded n (forwarded n b (tell_slot notice.Evict in_set x)) (told notice.Evict set (from + 1) ss)).parcels k
     go false out x is more = more b h
     go true in_set Free is more = more b h
     go true in_set (Held m t j e) is more =

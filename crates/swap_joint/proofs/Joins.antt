@@ -59,15 +59,20 @@ pub joins_alone : (n : ℕ) (d d' : Device) (h : Harbor) → ((l : Lender) → S
 joins_alone n d d' h sees all l within up = joined_same l d d' (channel_of h l) (sees l) (all l within (sym (sees l).up ∙ up))
 
 -- a call of one link: every other has its channel
-pub others_through : (n : ℕ) (d d' : Device) (f g : Harbor) (c : FabricCall) (r : FabricAnswer c) → harbor.Moves f c r g → ((l : Lender) → (l.0 ≡ (lender_of c).0 → ⊥) → SeesSame l d d') → AllJoinedBut (lender_of c) n d f → AllJoinedBut (lender_of c) n d' g
+pub others_through :
+    (n : ℕ) (d d' : Device) (f g : Harbor) (c : FabricCall) (r : FabricAnswer c) → harbor.Moves f c r g
+    → ((l : Lender) → (l.0 ≡ (lender_of c).0 → ⊥) → SeesSame l d d') → AllJoinedBut (lender_of c) n d f → AllJoinedBut (lender_of c) n d' g
 others_through n d d' f g c r moved sees all l within other up =
     let P : FabricAnswer c × Harbor → Type 0 = λ x. Joined d' l (channel_of x.1 l) in
     subst P moved.1 (subst (λ ch. Joined d' l ch) (sym (other_channel f l (lender_of c) (on_channel (channel_of f (lender_of c)) c).1 other))
     (joined_same l d d' (channel_of f l) (sees l other) (all l within other (sym (sees l other).up ∙ up))))
 
 -- and the link that was called
-pub joins_through : (n : ℕ) (d d' : Device) (f g : Harbor) (c : FabricCall) (r : FabricAnswer c) → harbor.Moves f c r g → ((l : Lender) → (l.0 ≡ (lender_of c).0 → ⊥) → SeesSame l d d') → AllJoinedBut (lender_of c) n d f
-    → ((lender_of c).0 < n → is_up d'.remote.links (lender_of c) ≡ true → Joined d' (lender_of c) (on_channel (channel_of f (lender_of c)) c).1) → AllJoined n d' g
+pub joins_through :
+    (n : ℕ) (d d' : Device) (f g : Harbor) (c : FabricCall) (r : FabricAnswer c) → harbor.Moves f c r g
+    → ((l : Lender) → (l.0 ≡ (lender_of c).0 → ⊥) → SeesSame l d d') → AllJoinedBut (lender_of c) n d f
+    → ((lender_of c).0 < n → is_up d'.remote.links (lender_of c) ≡ true → Joined d' (lender_of c) (on_channel (channel_of f (lender_of c)) c).1)
+    → AllJoined n d' g
 joins_through n d d' f g c r moved sees all here l within up = elim (cases_eq l.0 (lender_of c).0) [
   | inl e ↦ (
       let m : Lender = lender_of c in
@@ -86,17 +91,22 @@ joins_through n d d' f g c r moved sees all here l within up = elim (cases_eq l.
 pub lost_down : (d : Device) (l : Lender) → is_up (lost d l).remote.links l ≡ false
 lost_down d l = elim (cases_lt l.0 (length d.remote.links)) [
   | inl within ↦ ap (λ (k : LinkState). k.up) (link-same d.remote.links l rings.down within)
-  | inr past ↦ ap (λ (k : LinkState). k.up) (get_or_past (set d.remote.links l.0 rings.down) l.0 rings.down (subst (λ n. n ≤ l.0) (sym (length-set d.remote.links l.0 rings.down)) past))
+  | inr past ↦
+      ap (λ (k : LinkState). k.up)
+      (get_or_past (set d.remote.links l.0 rings.down) l.0 rings.down (subst (λ n. n ≤ l.0) (sym (length-set d.remote.links l.0 rings.down)) past))
 ]
 
 pub joins_lost : (n : ℕ) (d : Device) (h : Harbor) (m : Lender) → AllJoinedBut m n d h → AllJoined n (lost d m) h
 joins_lost n d h m all l within up = elim (cases_eq l.0 m.0) [
-  | inl e ↦ absurd (both_ways (is_up (lost d m).remote.links l) (subst (λ k. is_up (lost d m).remote.links (record { 0 = k }) ≡ false) (sym e) (lost_down d m)) up)
+  | inl e ↦
+      absurd (both_ways (is_up (lost d m).remote.links l) (subst (λ k. is_up (lost d m).remote.links (record { 0 = k }) ≡ false) (sym e) (lost_down d m)) up)
   | inr other ↦ joined_same l d (lost d m) (channel_of h l) (sees_lost l m d other) (all l within other (sym (sees_lost l m d other).up ∙ up))
 ]
 
 -- a call that finds the link down, and one that loses it
-pub joins_down : (n : ℕ) (d : Device) (f g : Harbor) (c : FabricCall) (r : FabricAnswer c) → harbor.Moves f c r g → AllJoinedBut (lender_of c) n d f → AllJoined n (lost d (lender_of c)) g
+pub joins_down :
+    (n : ℕ) (d : Device) (f g : Harbor) (c : FabricCall) (r : FabricAnswer c) → harbor.Moves f c r g → AllJoinedBut (lender_of c) n d f
+    → AllJoined n (lost d (lender_of c)) g
 joins_down n d f g c r moved all = joins_lost n d g (lender_of c) (others_through n d d f g c r moved (λ l other. sees_itself l d) all)
 
 -- a request is sent
@@ -104,15 +114,23 @@ joins_down n d f g c r moved all = joins_lost n d g (lender_of c) (others_throug
 pub sends : (c : Channel) (q : Parcel) → c.device_gone ≡ false → (sent c q).1 ≡ with_message c q
 sends c q present = ap (λ (x : Sent × Channel). x.1) (cond-false c.device_gone (sent_is.Down, c) (sent_is.Sent, with_message c q) present)
 
-pub asks_here : (s : Sizes) (H : History) (cs cs' : Calls) (states states' : List SlabState) (bits : List Bool) (ring ring' : List Request) (l : Lender) (c : Channel) (q : Parcel) (x : Request) → is_request q.msg ≡ true → Carries s H states' l q x → SameLeases l states states' → AllByRecursion (StillReads cs cs') ring → ring' ≡ ring ++ x ∷ []
-    → (JoinedOf s H cs states bits ring l c → Unless c.lender_gone (HoldsFor s H cs' states' l c x)) → JoinedOf s H cs states bits ring l c → JoinedOf s H cs' states' bits ring' l (sent c q).1
+pub asks_here :
+    (s : Sizes) (H : History) (cs cs' : Calls) (states states' : List SlabState) (bits : List Bool) (ring ring' : List Request) (l : Lender) (c : Channel)
+    (q : Parcel) (x : Request)
+    → is_request q.msg ≡ true → Carries s H states' l q x → SameLeases l states states' → AllByRecursion (StillReads cs cs') ring → ring' ≡ ring ++ x ∷ []
+    → (JoinedOf s H cs states bits ring l c → Unless c.lender_gone (HoldsFor s H cs' states' l c x)) → JoinedOf s H cs states bits ring l c
+    → JoinedOf s H cs' states' bits ring' l (sent c q).1
 asks_here s H cs cs' states states' bits ring ring' l c q x is carries leases still now holds h =
-    subst (λ r. JoinedOf s H cs' states' bits r l (sent c q).1) (sym now) (subst (λ ch. JoinedOf s H cs' states' bits (ring ++ x ∷ []) l ch) (sym (sends c q h.present))
-    (joined_sent s H cs' states' bits ring l c q x is carries (holds h) (joined_sees s H H cs cs' states states' bits bits ring l c (λ t k at. sym (leases t k) ∙ at) (leased_all s l states states' ring (λ t k at. leases t k ∙ at)) (entries_stay H) (λ p k at set. inl (set, refl)) still h)))
+    subst (λ r. JoinedOf s H cs' states' bits r l (sent c q).1) (sym now)
+    (subst (λ ch. JoinedOf s H cs' states' bits (ring ++ x ∷ []) l ch) (sym (sends c q h.present))
+    (joined_sent s H cs' states' bits ring l c q x is carries (holds h)
+    (joined_sees s H H cs cs' states states' bits bits ring l c (λ t k at. sym (leases t k) ∙ at)
+    (leased_all s l states states' ring (λ t k at. leases t k ∙ at)) (entries_stay H) (λ p k at set. inl (set, refl)) still h)))
 
 -- no send finds a link down that is up
 pub not_down : (c : Channel) (q : Parcel) → c.device_gone ≡ false → (sent c q).0 ≡ sent_is.Down → ⊥
-not_down c q present e = sends_not (sym (ap (λ (x : Sent × Channel). x.0) (cond-false c.device_gone (sent_is.Down, c) (sent_is.Sent, with_message c q) present)) ∙ e)
+not_down c q present e =
+    sends_not (sym (ap (λ (x : Sent × Channel). x.0) (cond-false c.device_gone (sent_is.Down, c) (sent_is.Sent, with_message c q) present)) ∙ e)
   where
     sends_not : sent_is.Sent ≡ sent_is.Down → ⊥
     sends_not e = cc
@@ -123,16 +141,22 @@ last_out [] p e is = cc
 last_out (row ∷ H) p e is = go (is_out_of p row) refl is (last_out H p e)
   where
     go : (b : Bool) → is_out_of p row ≡ b → cond b (Some (next_name H)) (last H p) ≡ Some e → (last H p ≡ Some e → IsOut H p e) → IsOut (row ∷ H) p e
-    go true out is rest = let same : next_name H ≡ e = cc in subst (λ (x : EntryNo). IsOut (row ∷ H) p x) same (subst (λ o. IsOutIn p o) (sym (named_last H row)) out)
+    go true out is rest =
+        let same : next_name H ≡ e = cc in subst (λ (x : EntryNo). IsOut (row ∷ H) p x) same (subst (λ o. IsOutIn p o) (sym (named_last H row)) out)
     go false out is rest = (out_on H row p e (rest is)).0
 
 -- a read that is sent reads its call's entry
-pub holds_newest : (s : Sizes) (H : History) (cs : Calls) (states states' : List SlabState) (bits : List Bool) (ring : List Request) (l : Lender) (c : Channel) (a : Caller) (p : Page) (e : EntryNo) (since : ℕ) → SameLeases l states states' → has bits p.0 ≡ true → last H p ≡ Some e → JoinedOf s H cs states bits ring l c
+pub holds_newest :
+    (s : Sizes) (H : History) (cs : Calls) (states states' : List SlabState) (bits : List Bool) (ring : List Request) (l : Lender) (c : Channel) (a : Caller)
+    (p : Page) (e : EntryNo) (since : ℕ)
+    → SameLeases l states states' → has bits p.0 ≡ true → last H p ≡ Some e → JoinedOf s H cs states bits ring l c
     → Unless c.lender_gone (HoldsFor s H (calls.reads cs a p e (via.Lender l) since) states' l c (request.Read a p))
-holds_newest s H cs states states' bits ring l c a p e since leases set newest h = unless-map c.lender_gone _ _ (λ (k : Stored s H states bits l c (served_of h.order)) j g at is.
+holds_newest s H cs states states' bits ring l c a p e since leases set newest h =
+    unless-map c.lender_gone _ _ (λ (k : Stored s H states bits l c (served_of h.order)) j g at is.
     let same : e ≡ g = entry_is g is in
     let out : IsOut H p e = last_out H p e newest in
-    let there : found s c j p ≡ Some (bytes_of H e) = k.readable p j (sym (leases (slab_for s p) j) ∙ at) set ∙ ap (λ b. Some b) (sym (last_bytes (zeros s) H p e newest)) in
+    let there : found s c j p ≡ Some (bytes_of H e) =
+    k.readable p j (sym (leases (slab_for s p) j) ∙ at) set ∙ ap (λ b. Some b) (sym (last_bytes (zeros s) H p e newest)) in
     (subst (λ x. IsOut H p x) same out, there ∙ ap (λ x. Some (bytes_of H x)) same)) h.stored
   where
     some_same : (x y : EntryNo) → Some x ≡ Some y → x ≡ y
@@ -143,13 +167,28 @@ holds_newest s H cs states states' bits ring l c a p e since leases set newest h
 
     entry_is : (g : EntryNo) → kept_entry (state_of (calls.reads cs a p e (via.Lender l) since) a) ≡ Some g → e ≡ g
     entry_is g is = elim (cases_lt a.0 (length cs)) [
-      | inl within ↦ some_same e g (sym (ap (λ (x : Call). kept_entry x.state) (get_or-set_same cs a.0 (record { state = Reading p e (via.Lender l) arrived.Waiting false since; bytes = [] }) calls.idle within)) ∙ is)
-      | inr past ↦ absurd (none_some g (sym (ap (λ (x : Call). kept_entry x.state) (get_or_past (calls.reads cs a p e (via.Lender l) since) a.0 calls.idle (subst (λ n. n ≤ a.0) (sym (length-set cs a.0 (record { state = Reading p e (via.Lender l) arrived.Waiting false since; bytes = [] }))) past))) ∙ is))
+      | inl within ↦
+          some_same e g
+          (sym
+          (ap (λ (x : Call). kept_entry x.state)
+          (get_or-set_same cs a.0 (record { state = Reading p e (via.Lender l) arrived.Waiting false since; bytes = [] }) calls.idle within))
+          ∙ is)
+      | inr past ↦
+          absurd
+          (none_some g
+          (sym
+          (ap (λ (x : Call). kept_entry x.state)
+          (get_or_past (calls.reads cs a p e (via.Lender l) since) a.0 calls.idle
+          (subst (λ n. n ≤ a.0)
+          (sym (length-set cs a.0 (record { state = Reading p e (via.Lender l) arrived.Waiting false since; bytes = [] }))) past)))
+          ∙ is))
     ]
 
 -- a link that is up is one of the links
 pub up_within : (links : List LinkState) (l : Lender) → is_up links l ≡ true → l.0 < length links
-up_within links l up = elim (cases_lt l.0 (length links)) [ inl within ↦ within | inr past ↦ absurd (both_ways (is_up links l) (ap (λ (k : LinkState). k.up) (get_or_past links l.0 rings.down past)) up) ]
+up_within links l up =
+    elim (cases_lt l.0 (length links))
+    [ inl within ↦ within | inr past ↦ absurd (both_ways (is_up links l) (ap (λ (k : LinkState). k.up) (get_or_past links l.0 rings.down past)) up) ]
 
 pub target_lease : (s : Sizes) (r : Remote) (p : Page) (at : Lender × Lease) → Target s r p at → has_lease at.0 at.1 (state_for s r.slabs p) ≡ true
 target_lease s r p at t = ap (has_lease at.0 at.1) t.mapped ∙ has_own at.0 at.1 t.flying

@@ -46,12 +46,17 @@ left_took s l c h = cond_both c.device_gone _ _ (λ (x : Handed × Channel). Lef
     from (p ∷ ps) = h
 
 -- through a call of one link
-through : (s : Sizes) (f g : Harbor) (c : FabricCall) (r : FabricAnswer c) → harbor.Moves f c r g → (l : Lender) → (l.0 ≡ (lender_of c).0 → Left s (lender_of c) (on_channel (channel_of f (lender_of c)) c).1) → ((l.0 ≡ (lender_of c).0 → ⊥) → Left s l (channel_of f l)) → Left s l (channel_of g l)
+through :
+    (s : Sizes) (f g : Harbor) (c : FabricCall) (r : FabricAnswer c) → harbor.Moves f c r g → (l : Lender)
+    → (l.0 ≡ (lender_of c).0 → Left s (lender_of c) (on_channel (channel_of f (lender_of c)) c).1) → ((l.0 ≡ (lender_of c).0 → ⊥) → Left s l (channel_of f l))
+    → Left s l (channel_of g l)
 through s f g c r moved l here there = elim (cases_eq l.0 (lender_of c).0) [
   | inl e ↦ (
       let same : lender_of c ≡ l = ap (λ (k : ℕ). record { 0 = k }) (sym e) in
       let P : FabricAnswer c × Harbor → Type 0 = λ x. Left s (lender_of c) (channel_of x.1 (lender_of c)) in
-      let at : Left s (lender_of c) (channel_of g (lender_of c)) = subst P moved.1 (subst (λ ch. Left s (lender_of c) ch) (sym (called f (lender_of c) (on_channel (channel_of f (lender_of c)) c).1 moved.0.range)) (here e)) in
+      let at : Left s (lender_of c) (channel_of g (lender_of c)) =
+      subst P moved.1
+      (subst (λ ch. Left s (lender_of c) ch) (sym (called f (lender_of c) (on_channel (channel_of f (lender_of c)) c).1 moved.0.range)) (here e)) in
       subst (λ (x : Lender). Left s x (channel_of g x)) same at
       )
   | inr other ↦ (
@@ -64,7 +69,9 @@ up_same : (links links' : List LinkState) (l : Lender) → is_up links l ≡ tru
 up_same links links' l up same off = both_ways (is_up links' l) off (same ∙ up)
 
 -- a link that sends, and one that hears, stays up
-sent_itself : (W : Within) (d : Device) (l : Lender) (q : Parcel) (e base : Device) → l.0 < length d.remote.links → Sends W d l q e base → is_up e.remote.links l ≡ is_up d.remote.links l
+sent_itself :
+    (W : Within) (d : Device) (l : Lender) (q : Parcel) (e base : Device) → l.0 < length d.remote.links → Sends W d l q e base
+    → is_up e.remote.links l ≡ is_up d.remote.links l
 sent_itself W d l q e base there (write {p = p} outs is) = ap (λ (k : LinkState). k.up) (sent-same d.remote.links l _ there)
 sent_itself W d l q e base there (read {p = p} ins w is none at) = ap (λ (k : LinkState). k.up) (sent-same d.remote.links l _ there)
 sent_itself W d l q e base there (borrow {t = t} w may) = ap (λ (k : LinkState). k.up) (sent-same d.remote.links l _ there)
@@ -76,20 +83,26 @@ there_is n d h l serves within = omega (arith, serves.links_len, serves.few, wit
 
 answered_up : (links : List LinkState) (l m : Lender) → l.0 < length links → is_up (rings.answered links l) m ≡ is_up links m
 answered_up links l m there = elim (cases_eq m.0 l.0) [
-  | inl e ↦ subst (λ (i : ℕ). is_up (rings.answered links l) (record { 0 = i }) ≡ is_up links (record { 0 = i })) (sym e) (ap (λ (k : LinkState). k.up) (answered-same links l there))
+  | inl e ↦
+      subst (λ (i : ℕ). is_up (rings.answered links l) (record { 0 = i }) ≡ is_up links (record { 0 = i })) (sym e)
+      (ap (λ (k : LinkState). k.up) (answered-same links l there))
   | inr other ↦ ap (λ (k : LinkState). k.up) (answered-other links l m other)
 ]
 
-heard_links : (d : Device) (l : Lender) (q : Parcel) (x : Heard) → l.0 < length d.remote.links → Hears d l q x → (m : Lender) → is_up x.device.remote.links m ≡ is_up d.remote.links m
+heard_links :
+    (d : Device) (l : Lender) (q : Parcel) (x : Heard) → l.0 < length d.remote.links → Hears d l q x → (m : Lender)
+    → is_up x.device.remote.links m ≡ is_up d.remote.links m
 heard_links d l q x there (roomy is says same) m = answered_up d.remote.links l m there
 heard_links d l q x there (lent is says same none) m = answered_up d.remote.links l m there
 heard_links d l q x there (refused is says same) m = answered_up d.remote.links l m there
-heard_links d l q x there (written {p = p} {e = e} is says named) m = ap (λ links. is_up links m) (written_links _ (remote.settled_for d.sizes d.remote l p) p) ∙ answered_up d.remote.links l m there
+heard_links d l q x there (written {p = p} {e = e} is says named) m =
+    ap (λ links. is_up links m) (written_links _ (remote.settled_for d.sizes d.remote l p) p) ∙ answered_up d.remote.links l m there
 heard_links d l q x there (brought is says named) m = answered_up d.remote.links l m there
 heard_links d l q x there (asked_rate says at) m = refl
 heard_links d l q x there (told_to_go says at) m = refl
 
-module _ {D : Type 0} (disk : DiskMeaning D) (follows : FollowsItsMoves disk) (laws : Promises harbor_meaning) (T : Bool) (o : FabricOf) (far_may : Lender → Type 0) (bytes_may : List ℕ → Type 0) where
+module _ {D : Type 0} (disk : DiskMeaning D) (follows : FollowsItsMoves disk) (laws : Promises harbor_meaning) (T : Bool) (o : FabricOf)
+    (far_may : Lender → Type 0) (bytes_may : List ℕ → Type 0) where
   abbrev There : Within
   There = of_sizes o.sizes o.lenders far_may bytes_may
 
@@ -97,7 +110,9 @@ module _ {D : Type 0} (disk : DiskMeaning D) (follows : FollowsItsMoves disk) (l
   Agree = keep.Agree disk follows harbor_meaning laws T o far_may bytes_may
 
   abbrev Before : Speaker → D → Harbor → Type 0
-  Before x k h = (joint.Agrees disk follows laws T o far_may bytes_may x k h × joint.JoinedAt disk follows laws T o far_may bytes_may x k h) × AllowedOwing o.lenders x.device h x.owed
+  Before x k h =
+      (joint.Agrees disk follows laws T o far_may bytes_may x k h × joint.JoinedAt disk follows laws T o far_may bytes_may x k h)
+      × AllowedOwing o.lenders x.device h x.owed
 
   abbrev pub LeftAt : Speaker → D → Harbor → Type 0
   LeftAt x k h = AllLeft o.sizes o.lenders x.device h x.owed
@@ -106,10 +121,13 @@ module _ {D : Type 0} (disk : DiskMeaning D) (follows : FollowsItsMoves disk) (l
   serves_at d k h agree = joint.serves_at disk follows laws T o far_may bytes_may d k h agree
 
   -- a link that is up, as it is lost
-  leaves : (d : Device) (k : D) (h : Harbor) (l : Lender) → Agree d k h → AllJoined o.lenders d h → AllAllowed o.lenders d h → l.0 < o.lenders → is_up d.remote.links l ≡ true → Left o.sizes l (channel_of h l)
+  leaves :
+      (d : Device) (k : D) (h : Harbor) (l : Lender) → Agree d k h → AllJoined o.lenders d h → AllAllowed o.lenders d h → l.0 < o.lenders
+      → is_up d.remote.links l ≡ true → Left o.sizes l (channel_of h l)
   leaves d k h l agree joined allowed within up =
       let link = (serves_at d k h agree).link l in
-      subst (λ (x : FabricOf). Left x.sizes l (channel_of h l)) agree.is (left_of d l (channel_of h l) (joined l within up) link.awaited link.ordered (allowed l within up))
+      subst (λ (x : FabricOf). Left x.sizes l (channel_of h l)) agree.is
+      (left_of d l (channel_of h l) (joined l within up) link.awaited link.ordered (allowed l within up))
 
   same_links : (d d' : Device) (h : Harbor) → d'.remote.links ≡ d.remote.links → AllLeft o.sizes o.lenders d h [] → AllLeft o.sizes o.lenders d' h []
   same_links d d' h same all l within off = all l within (ap (λ links. is_up links l) (sym same) ∙ off)
@@ -122,18 +140,29 @@ module _ {D : Type 0} (disk : DiskMeaning D) (follows : FollowsItsMoves disk) (l
   lost_same d l m other = ap (λ (k : LinkState). k.up) (link-other d.remote.links l m rings.down other)
 
   -- the far side moves
-  far_leaves : (d : Device) (k : D) (f g : Harbor) (c : FabricCall) (r : FabricAnswer c) → IsFar There c → Agree d k f → AreSound f → AllLeft o.sizes o.lenders d f [] → harbor.Moves f c r g → AllLeft o.sizes o.lenders d g []
+  far_leaves :
+      (d : Device) (k : D) (f g : Harbor) (c : FabricCall) (r : FabricAnswer c) → IsFar There c → Agree d k f → AreSound f → AllLeft o.sizes o.lenders d f []
+      → harbor.Moves f c r g → AllLeft o.sizes o.lenders d g []
   far_leaves d k f g c r (far_give {l = l} may) agree sound all moved m within off = through o.sizes f g (Give l) r moved m
-      (λ e. left_given o.sizes l (channel_of f l) moved.0.channel.sound (sound.untold l moved.0.range) (sound.lodged l moved.0.range) (subst (λ (s : Sizes). IsKnown s (channel_of f l)) (ap (λ (x : FabricOf). x.sizes) agree.of_f) (sound.known l moved.0.range)) (at_l e))
+      (λ e.
+      left_given o.sizes l (channel_of f l) moved.0.channel.sound (sound.untold l moved.0.range) (sound.lodged l moved.0.range)
+      (subst (λ (s : Sizes). IsKnown s (channel_of f l)) (ap (λ (x : FabricOf). x.sizes) agree.of_f) (sound.known l moved.0.range)) (at_l e))
       (λ _. all m within off)
     where
       at_l : m.0 ≡ l.0 → Left o.sizes l (channel_of f l)
       at_l e = let same : m ≡ l = ap (λ (i : ℕ). record { 0 = i }) e in subst (λ (x : Lender). Left o.sizes x (channel_of f x)) same (all m within off)
   far_leaves d k f g c r (far_cut {l = l} {a = a} {b = b} may) agree sound all moved m within off = through o.sizes f g (Cut l a b) r moved m
-      (λ e. left_cut o.sizes l (channel_of f l) a b (let same : m ≡ l = ap (λ (i : ℕ). record { 0 = i }) e in subst (λ (x : Lender). Left o.sizes x (channel_of f x)) same (all m within off))) (λ _. all m within off)
-  far_leaves d k f g c r (far_crash {l = l} may) agree sound all moved m within off = through o.sizes f g (Crash l) r moved m (λ e. left_crashed o.sizes l (channel_of f l)) (λ _. all m within off)
-  far_leaves d k f g c r (far_host {l = l} {used = used} {word = word} may) agree sound all moved m within off = through o.sizes f g (Host l used word) r moved m
-      (λ e. left_hosted o.sizes l (channel_of f l) used word (sound.reached l moved.0.range) moved.0.channel.sound (let same : m ≡ l = ap (λ (i : ℕ). record { 0 = i }) e in subst (λ (x : Lender). Left o.sizes x (channel_of f x)) same (all m within off)))
+      (λ e.
+      left_cut o.sizes l (channel_of f l) a b
+      (let same : m ≡ l = ap (λ (i : ℕ). record { 0 = i }) e in subst (λ (x : Lender). Left o.sizes x (channel_of f x)) same (all m within off)))
+      (λ _. all m within off)
+  far_leaves d k f g c r (far_crash {l = l} may) agree sound all moved m within off =
+      through o.sizes f g (Crash l) r moved m (λ e. left_crashed o.sizes l (channel_of f l)) (λ _. all m within off)
+  far_leaves d k f g c r (far_host {l = l} {used = used} {word = word} may) agree sound all moved m within off =
+      through o.sizes f g (Host l used word) r moved m
+      (λ e.
+      left_hosted o.sizes l (channel_of f l) used word (sound.reached l moved.0.range) moved.0.channel.sound
+      (let same : m ≡ l = ap (λ (i : ℕ). record { 0 = i }) e in subst (λ (x : Lender). Left o.sizes x (channel_of f x)) same (all m within off)))
       (λ _. all m within off)
 
   named : (f : Harbor) (m l : Lender) → m.0 ≡ l.0 → Left o.sizes l (channel_of f l) → Left o.sizes m (channel_of f m)
@@ -152,43 +181,71 @@ module _ {D : Type 0} (disk : DiskMeaning D) (follows : FollowsItsMoves disk) (l
   each_left x asked y k k' f f' (gives_up {d = d} l t off asks) stay before all = all
   each_left x asked y k k' f f' (starts {d = d} el ec) (by_disk moved) before all = all
   each_left x asked y k k' f f' (waits_for_disk {d = d} ins within is none) (by_disk moved) before all = all
-  each_left x asked y k k' f f' (takes {d = d} {taken = taken}) (by_disk moved) before all = same_links d (device.took_back d taken).0 f (ap (λ (r : Remote). r.links) (back_remote d taken)) all
+  each_left x asked y k k' f f' (takes {d = d} {taken = taken}) (by_disk moved) before all =
+      same_links d (device.took_back d taken).0 f (ap (λ (r : Remote). r.links) (back_remote d taken)) all
   each_left x asked y k k' f f' lets_finish (by_disk moved) before all = all
   each_left x asked y k k' f f' (sends {d = d} {e = e} {base = base} {l = l} {q = q} one) (by_fabric moved) before all =
       let serves = serves_at d k f before.0.0 in
       let up : is_up d.remote.links l ≡ true = keep.sends_up There d l q e base one in
       λ m inside off. through o.sizes f f' (Send l q) sent_is.Sent moved m
-      (λ same. absurd (both_ways (is_up e.remote.links l) (subst (λ (i : ℕ). is_up e.remote.links (record { 0 = i }) ≡ false) same off) (sent_itself There d l q e base (there_is o.lenders d f l serves ((serves.link l).lender up)) one ∙ up)))
+      (λ same.
+      absurd
+      (both_ways (is_up e.remote.links l) (subst (λ (i : ℕ). is_up e.remote.links (record { 0 = i }) ≡ false) same off)
+      (sent_itself There d l q e base (there_is o.lenders d f l serves ((serves.link l).lender up)) one ∙ up)))
       (λ other. all m inside (sym (sent_up There d l m q e base one other) ∙ off))
   each_left x asked y k k' f f' (finds_down {d = d} {e = e} {base = base} {l = l} {q = q} one) (by_fabric moved) before all =
-      absurd (not_down (channel_of f l) q (joint.present_at disk follows laws T o far_may bytes_may d k f l before.0.0 before.0.1.1 (keep.sends_up There d l q e base one)) (ap (λ (x : Sent × Harbor). x.0) moved.1))
-  each_left x asked y k k' f f' (raises {d = d} {l = l} {r = r} within off_) (by_fabric moved) before all = λ m inside off. through o.sizes f f' (Connect l (next_link d)) r moved m
-      (λ same. absurd (both_ways (is_up (raised d l).remote.links l) (subst (λ (i : ℕ). is_up (raised d l).remote.links (record { 0 = i }) ≡ false) same off) (raised_up o.lenders d f l (serves_at d k f before.0.0) within)))
+      absurd
+      (not_down (channel_of f l) q
+      (joint.present_at disk follows laws T o far_may bytes_may d k f l before.0.0 before.0.1.1 (keep.sends_up There d l q e base one))
+      (ap (λ (x : Sent × Harbor). x.0) moved.1))
+  each_left x asked y k k' f f' (raises {d = d} {l = l} {r = r} within off_) (by_fabric moved) before all =
+      λ m inside off. through o.sizes f f' (Connect l (next_link d)) r moved m
+      (λ same.
+      absurd
+      (both_ways (is_up (raised d l).remote.links l) (subst (λ (i : ℕ). is_up (raised d l).remote.links (record { 0 = i }) ≡ false) same off)
+      (raised_up o.lenders d f l (serves_at d k f before.0.0) within)))
       (λ other. all m inside (sym (ap (λ (k : LinkState). k.up) (link-other d.remote.links l m rings.fresh other)) ∙ off))
-  each_left x asked y k k' f f' (speaks {d = d} {l = l} {q = q} word) (by_fabric moved) before all = λ m inside off. through o.sizes f f' (Send l q) sent_is.Sent moved m
-      (λ same. absurd (both_ways (is_up d.remote.links l) (subst (λ (i : ℕ). is_up d.remote.links (record { 0 = i }) ≡ false) same off) before.0.1.1.1)) (λ other. all m inside off)
+  each_left x asked y k k' f f' (speaks {d = d} {l = l} {q = q} word) (by_fabric moved) before all =
+      λ m inside off. through o.sizes f f' (Send l q) sent_is.Sent moved m
+      (λ same. absurd (both_ways (is_up d.remote.links l) (subst (λ (i : ℕ). is_up d.remote.links (record { 0 = i }) ≡ false) same off) before.0.1.1.1))
+      (λ other. all m inside off)
   each_left x asked y k k' f f' (speaks_to_nobody {d = d} {l = l} {q = q} word) (by_fabric moved) before all =
-      absurd (not_down (channel_of f l) q (joint.present_at disk follows laws T o far_may bytes_may d k f l before.0.0.0 before.0.1.1.0 before.0.1.1.1) (ap (λ (x : Sent × Harbor). x.0) moved.1))
+      absurd
+      (not_down (channel_of f l) q (joint.present_at disk follows laws T o far_may bytes_may d k f l before.0.0.0 before.0.1.1.0 before.0.1.1.1)
+      (ap (λ (x : Sent × Harbor). x.0) moved.1))
   each_left x asked y k k' f f' (hears {d = d} {h = heard} {l = l} {q = q} up one) (by_fabric moved) before all =
       let serves = serves_at d k f before.0.0 in
-      let seen : (m : Lender) → is_up heard.device.remote.links m ≡ is_up d.remote.links m = heard_links d l q heard (there_is o.lenders d f l serves ((serves.link l).lender up)) one in
+      let seen : (m : Lender)
+      → is_up heard.device.remote.links m ≡ is_up d.remote.links m =
+      heard_links d l q heard (there_is o.lenders d f l serves ((serves.link l).lender up)) one in
       by_words heard.word (λ m inside off. through o.sizes f f' (Take l) (Brought q) moved m
-      (λ same. absurd (both_ways (is_up d.remote.links l) (subst (λ (i : ℕ). is_up d.remote.links (record { 0 = i }) ≡ false) same (sym (seen m) ∙ off)) up)) (λ other. all m inside (sym (seen m) ∙ off)))
+      (λ same. absurd (both_ways (is_up d.remote.links l) (subst (λ (i : ℕ). is_up d.remote.links (record { 0 = i }) ≡ false) same (sym (seen m) ∙ off)) up))
+      (λ other. all m inside (sym (seen m) ∙ off)))
     where
-      by_words : (word : Option Parcel) → ((m : Lender) → m.0 < o.lenders → is_up heard.device.remote.links m ≡ false → Left o.sizes m (channel_of f' m)) → AllLeft o.sizes o.lenders heard.device f' (words l word)
+      by_words :
+          (word : Option Parcel) → ((m : Lender) → m.0 < o.lenders → is_up heard.device.remote.links m ≡ false → Left o.sizes m (channel_of f' m))
+          → AllLeft o.sizes o.lenders heard.device f' (words l word)
       by_words None h = h
       by_words (Some w) h = h
-  each_left x asked y k k' f f' (hears_nothing {d = d} {l = l} up) (by_fabric moved) before all = λ m inside off. through o.sizes f f' (Take l) NothingCame moved m
-      (λ same. absurd (both_ways (is_up d.remote.links l) (subst (λ (i : ℕ). is_up d.remote.links (record { 0 = i }) ≡ false) same off) up)) (λ other. all m inside off)
+  each_left x asked y k k' f f' (hears_nothing {d = d} {l = l} up) (by_fabric moved) before all =
+      λ m inside off. through o.sizes f f' (Take l) NothingCame moved m
+      (λ same. absurd (both_ways (is_up d.remote.links l) (subst (λ (i : ℕ). is_up d.remote.links (record { 0 = i }) ≡ false) same off) up))
+      (λ other. all m inside off)
   each_left x asked y k k' f f' (loses {d = d} {l = l} up) (by_fabric moved) before all =
       let within : l.0 < o.lenders = ((serves_at d k f before.0.0).link l).lender up in
-      λ m inside off. through o.sizes f f' (Take l) LinkLost moved m (λ same. left_took o.sizes l (channel_of f l) (leaves d k f l before.0.0 before.0.1.1 before.1 within up)) (λ other. all m inside (sym (lost_same d l m other) ∙ off))
+      λ m inside off.
+      through o.sizes f f' (Take l) LinkLost moved m
+      (λ same. left_took o.sizes l (channel_of f l) (leaves d k f l before.0.0 before.0.1.1 before.1 within up))
+      (λ other. all m inside (sym (lost_same d l m other) ∙ off))
   each_left x asked y k k' f f' (misunderstands {d = d} {l = l} {q = q} up) (by_fabric moved) before all =
       let within : l.0 < o.lenders = ((serves_at d k f before.0.0).link l).lender up in
-      λ m inside off. through o.sizes f f' (Take l) (Brought q) moved m (λ same. left_took o.sizes l (channel_of f l) (leaves d k f l before.0.0 before.0.1.1 before.1 within up))
+      λ m inside off.
+      through o.sizes f f' (Take l) (Brought q) moved m
+      (λ same. left_took o.sizes l (channel_of f l) (leaves d k f l before.0.0 before.0.1.1 before.1 within up))
       (λ other. elim off [ inl down ↦ all m inside down | inr same ↦ absurd (other same) ])
   each_left x asked y k k' f f' (breaks_off {d = d} {l = l} {r = r}) (by_fabric moved) before all = λ m inside off. through o.sizes f f' (End l) r moved m
-      (λ same. let at : Left o.sizes l (channel_of f l) = named f l m (sym same) (all m inside (inr same)) in at) (λ other. all m inside (inl (sym (lost_same d l m other) ∙ off)))
+      (λ same. let at : Left o.sizes l (channel_of f l) = named f l m (sym same) (all m inside (inr same)) in at)
+      (λ other. all m inside (inl (sym (lost_same d l m other) ∙ off)))
   each_left x asked y k k' f f' (far {d = d} {c = c} {r = r} one) (by_fabric moved) before all = far_leaves d k f f' c r one before.0.0 before.0.1.0 all moved
 
 -- no link of lenders as they are made stands

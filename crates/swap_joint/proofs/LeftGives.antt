@@ -42,22 +42,33 @@ use Rattle.swap_joint.proofs.Lefts.{allows_left}
 
 -- slots that stay where a message uses them
 
-reach_map : (slots slots' : List SlotState) (places : ℕ) (m : Msg) → ((k : Lease) → uses k m ≡ true → HasHeld slots k → HasHeld slots' k) → IsReach slots places m → IsReach slots' places m
+reach_map :
+    (slots slots' : List SlotState) (places : ℕ) (m : Msg) → ((k : Lease) → uses k m ≡ true → HasHeld slots k → HasHeld slots' k) → IsReach slots places m
+    → IsReach slots' places m
 reach_map slots slots' places (msg.Write k i) each h = (each k (eq-eqb k.0 k.0 refl) h.0, h.1)
 reach_map slots slots' places (msg.Read k i) each h = (each k (eq-eqb k.0 k.0 refl) h.0, h.1)
 reach_map slots slots' places _ each h = tt
 
-reach_all_map : (slots slots' : List SlotState) (places : ℕ) (ps : List Parcel) → ((k : Lease) → list_any (λ (p : Parcel). uses k p.msg) ps ≡ true → HasHeld slots k → HasHeld slots' k) → AllByRecursion (λ (q : Parcel). IsReach slots places q.msg) ps → AllByRecursion (λ (q : Parcel). IsReach slots' places q.msg) ps
+reach_all_map :
+    (slots slots' : List SlotState) (places : ℕ) (ps : List Parcel)
+    → ((k : Lease) → list_any (λ (p : Parcel). uses k p.msg) ps ≡ true → HasHeld slots k → HasHeld slots' k)
+    → AllByRecursion (λ (q : Parcel). IsReach slots places q.msg) ps → AllByRecursion (λ (q : Parcel). IsReach slots' places q.msg) ps
 reach_all_map slots slots' places [] each h = tt
-reach_all_map slots slots' places (p ∷ ps) each h =
-    (reach_map slots slots' places p.msg (λ k e held. each k (front_true (uses k p.msg) _ e) held) h.0, reach_all_map slots slots' places ps (λ k e held. each k (back_true (uses k p.msg) _ e) held) h.1)
+reach_all_map slots slots' places (p ∷ ps) each h = (
+  reach_map slots slots' places p.msg (λ k e held. each k (front_true (uses k p.msg) _ e) held) h.0,
+  reach_all_map slots slots' places ps (λ k e held. each k (back_true (uses k p.msg) _ e) held) h.1,
+)
   where
     back_true : (a b : Bool) → b ≡ true → (a || b) ≡ true
     back_true true b e = refl
     back_true false b e = e
 
-orderly_map : (slots slots' : List SlotState) (places : ℕ) (ps : List Parcel) → ((k : Lease) → list_any (λ (p : Parcel). uses k p.msg) ps ≡ true → HasHeld slots k → HasHeld slots' k) → Orderly slots places ps → Orderly slots' places ps
-orderly_map slots slots' places ps each h = record { reach = reach_all_map slots slots' places ps each h.reach; done_last = h.done_last; borrow_once = h.borrow_once }
+orderly_map :
+    (slots slots' : List SlotState) (places : ℕ) (ps : List Parcel)
+    → ((k : Lease) → list_any (λ (p : Parcel). uses k p.msg) ps ≡ true → HasHeld slots k → HasHeld slots' k) → Orderly slots places ps
+    → Orderly slots' places ps
+orderly_map slots slots' places ps each h =
+    record { reach = reach_all_map slots slots' places ps each h.reach; done_last = h.done_last; borrow_once = h.borrow_once }
 
 orderly_rest : (slots : List SlotState) (places : ℕ) (q : Parcel) (ps : List Parcel) → Orderly slots places (q ∷ ps) → Orderly slots places ps
 orderly_rest slots places q ps h = record { reach = h.reach.1; done_last = h.done_last.1; borrow_once = h.borrow_once.1 }
@@ -73,7 +84,9 @@ orderly_take slots places (suc n) (p ∷ ps) h =
       borrow_once = ((λ t e. none-take (λ (q : Parcel). borrows t q.msg) n ps (h.borrow_once.0 t e)), rest.borrow_once);
     }
 
-marked_held : (set_ from : ℕ) (slots : List SlotState) (i : ℕ) (m : Link) (t : Slab) (k : Lease) (e : Bool) → slot_in slots i ≡ Held m t k e → (f : Bool) × (slot_in (marked set_ from slots) i ≡ Held m t k f)
+marked_held :
+    (set_ from : ℕ) (slots : List SlotState) (i : ℕ) (m : Link) (t : Slab) (k : Lease) (e : Bool) → slot_in slots i ≡ Held m t k e
+    → (f : Bool) × (slot_in (marked set_ from slots) i ≡ Held m t k f)
 marked_held set_ from [] i m t k e is = (e, is)
 marked_held set_ from (s ∷ ss) zero m t k e is = go (has set_ from)
   where
@@ -82,12 +95,15 @@ marked_held set_ from (s ∷ ss) zero m t k e is = go (has set_ from)
     go false = (e, is)
 marked_held set_ from (s ∷ ss) (suc i) m t k e is = marked_held set_ (from + 1) ss i m t k e is
 
-orderly_settled : (places : ℕ) (table : Lender) (o : Option ℕ) (ps : List Parcel) → Orderly table.slots places ps → Orderly (settle_with table o).lender.slots places ps
+orderly_settled :
+    (places : ℕ) (table : Lender) (o : Option ℕ) (ps : List Parcel) → Orderly table.slots places ps → Orderly (settle_with table o).lender.slots places ps
 orderly_settled places table None ps h = h
 orderly_settled places table (Some set_) ps h =
-    orderly_map table.slots (marked set_ 0 table.slots) places ps (λ k _ held. let now = marked_held set_ 0 table.slots held.1.0 held.1.1 held.1.2 k held.0 held.1.3 in (now.0, (held.1.0, held.1.1, held.1.2, now.1))) h
+    orderly_map table.slots (marked set_ 0 table.slots) places ps
+    (λ k _ held. let now = marked_held set_ 0 table.slots held.1.0 held.1.1 held.1.2 k held.0 held.1.3 in (now.0, (held.1.0, held.1.1, held.1.2, now.1))) h
 
-module _ (s : Sizes) (l : LenderNo) (table : Lender) (n : Link) (q : Parcel) (ps : List Parcel) (sound : IsSound table) (held : HeldOf table n) (h : Allows s [] [] l table n [] true (q ∷ ps)) (orderly : Orderly table.slots s.pages_per_slab (q ∷ ps)) where
+module _ (s : Sizes) (l : LenderNo) (table : Lender) (n : Link) (q : Parcel) (ps : List Parcel) (sound : IsSound table) (held : HeldOf table n)
+    (h : Allows s [] [] l table n [] true (q ∷ ps)) (orderly : Orderly table.slots s.pages_per_slab (q ∷ ps)) where
   -- what is left to be served reaches its slots
   pub serve_orderly : (m : Msg) (page : List ℕ) → q.msg ≡ m → Orderly (serve table n m page).lender.slots s.pages_per_slab ps
   serve_orderly (msg.Borrow t) page is =
@@ -95,10 +111,20 @@ module _ (s : Sizes) (l : LenderNo) (table : Lender) (n : Link) (q : Parcel) (ps
       cond_both (lends table) _ _ (λ (x : Turn). Orderly x.lender.slots s.pages_per_slab ps)
       (λ _. let new : SlotState = Held n t (record { 0 = table.next_lease }) false in
       orderly_map table.slots (set table.slots (first_where is_free table.slots) new) s.pages_per_slab ps
-      (λ k _ slot. (slot.0, (slot.1.0, slot.1.1, slot.1.2, set_stays table.slots (first_where is_free table.slots) slot.1.0 new slot.1.1 slot.1.2 k slot.0 (lowest_free table.slots) slot.1.3))) rest)
+      (λ k _ slot. (
+        slot.0,
+        (
+          slot.1.0,
+          slot.1.1,
+          slot.1.2,
+          set_stays table.slots (first_where is_free table.slots) slot.1.0 new slot.1.1 slot.1.2 k slot.0 (lowest_free table.slots) slot.1.3,
+        ),
+      ))
+      rest)
       (λ _. rest)
   serve_orderly (msg.Rates j v) page is =
-      orderly_settled s.pages_per_slab (record table { round = option_map (answer (slot_of table n j) v) table.round }) (due (option_map (answer (slot_of table n j) v) table.round)) ps (orderly_rest table.slots s.pages_per_slab q ps orderly)
+      orderly_settled s.pages_per_slab (record table { round = option_map (answer (slot_of table n j) v) table.round })
+      (due (option_map (answer (slot_of table n j) v) table.round)) ps (orderly_rest table.slots s.pages_per_slab q ps orderly)
   serve_orderly (msg.Done j) page is =
       let x = h.done j (front_true (is_done j q.msg) _ (ap (is_done j) is ∙ eq-eqb j.0 j.0 refl)) in
       let at = slot_found table n j x.0 x.1 x.2 true sound x.3 (held x.0 x.1 x.2 j true x.3) in
@@ -111,7 +137,10 @@ module _ (s : Sizes) (l : LenderNo) (table : Lender) (n : Link) (q : Parcel) (ps
           slot.1.2,
           freed_stays table.slots (slot_of table n j) slot.1.0
               (λ same. both_ways (list_any (λ (p : Parcel). uses k p.msg) ps)
-              (orderly.done_last.0 k (ap (is_done k) is ∙ eq-eqb j.0 k.0 (sym (one_lease table.slots slot.1.0 x.0 slot.1.1 x.1 slot.1.2 x.2 k j slot.0 true (same ∙ at.is) slot.1.3 x.3)))) used)
+              (orderly.done_last.0 k
+              (ap (is_done k) is
+              ∙ eq-eqb j.0 k.0 (sym (one_lease table.slots slot.1.0 x.0 slot.1.1 x.1 slot.1.2 x.2 k j slot.0 true (same ∙ at.is) slot.1.3 x.3))))
+              used)
               ∙ slot.1.3,
         ),
       )) (orderly_rest table.slots s.pages_per_slab q ps orderly)
@@ -121,23 +150,32 @@ module _ (s : Sizes) (l : LenderNo) (table : Lender) (n : Link) (q : Parcel) (ps
 abbrev nothing_comes : Lane
 nothing_comes = empty_lane true 0 0
 
-pub left_at : (s : Sizes) (l : LenderNo) (c : Channel) → c.lender_gone ≡ false → Left s l c → Allows s [] [] l c.lender c.number [] true c.to_lender.parcels × Orderly c.lender.slots s.pages_per_slab c.to_lender.parcels
+pub left_at :
+    (s : Sizes) (l : LenderNo) (c : Channel) → c.lender_gone ≡ false → Left s l c
+    → Allows s [] [] l c.lender c.number [] true c.to_lender.parcels × Orderly c.lender.slots s.pages_per_slab c.to_lender.parcels
 left_at s l c stands h = opened_by c.lender_gone _ stands h
 
 -- the lender takes the first message, or its end leaves
-pub left_given : (s : Sizes) (l : LenderNo) (c : Channel) → IsSound c.lender → AsksUntold c.lender.round c.lender.slots → Lodges c → IsKnown s c → Left s l c → Left s l (given c).1
-left_given s l c sound untold lodges known h = cond_both c.lender_gone _ _ (λ (x : Gave × Channel). Left s l x.1) (λ _. h) (λ stands. from stands c.to_lender.parcels refl)
+pub left_given :
+    (s : Sizes) (l : LenderNo) (c : Channel) → IsSound c.lender → AsksUntold c.lender.round c.lender.slots → Lodges c → IsKnown s c → Left s l c
+    → Left s l (given c).1
+left_given s l c sound untold lodges known h =
+    cond_both c.lender_gone _ _ (λ (x : Gave × Channel). Left s l x.1) (λ _. h) (λ stands. from stands c.to_lender.parcels refl)
   where
-    fine : c.lender_gone ≡ false → (q : Parcel) (ps : List Parcel) → c.to_lender.parcels ≡ q ∷ ps → Left s l (delivered (record c { to_lender = record c.to_lender { parcels = ps } }) (serve c.lender c.number q.msg q.page))
+    fine :
+        c.lender_gone ≡ false → (q : Parcel) (ps : List Parcel) → c.to_lender.parcels ≡ q ∷ ps
+        → Left s l (delivered (record c { to_lender = record c.to_lender { parcels = ps } }) (serve c.lender c.number q.msg q.page))
     fine stands q ps front =
-        let both : Allows s [] [] l c.lender c.number [] true (q ∷ ps) × Orderly c.lender.slots s.pages_per_slab (q ∷ ps) = subst (λ out. Allows s [] [] l c.lender c.number [] true out × Orderly c.lender.slots s.pages_per_slab out) front (left_at s l c stands h) in
+        let both : Allows s [] [] l c.lender c.number [] true (q ∷ ps) × Orderly c.lender.slots s.pages_per_slab (q ∷ ps) =
+        subst (λ out. Allows s [] [] l c.lender c.number [] true out × Orderly c.lender.slots s.pages_per_slab out) front (left_at s l c stands h) in
         let wants : Wants [] [] l c.lender c.number [] true q ps = record {
           hello = greeted_known s c stands known;
           borrow = λ t is. (inr refl, refl, both.1.borrow_once.0 t (ap (borrows t) is ∙ eq-eqb t.0 t.0 refl));
           done = λ j is u. refl;
         } in
         stands_so c.lender_gone _ (
-          allows_left s [] [] l (serve c.lender c.number q.msg q.page).lender c.number _ true ps (serve_by s [] [] l c.lender c.number nothing_comes true q ps sound (held_of c lodges) untold wants both.0 q.msg q.page refl),
+          allows_left s [] [] l (serve c.lender c.number q.msg q.page).lender c.number _ true ps
+              (serve_by s [] [] l c.lender c.number nothing_comes true q ps sound (held_of c lodges) untold wants both.0 q.msg q.page refl),
           serve_orderly s l c.lender c.number q ps sound (held_of c lodges) both.0 both.1 q.msg q.page refl,
         )
 
@@ -145,22 +183,40 @@ left_given s l c sound untold lodges known h = cond_both c.lender_gone _ _ (λ (
     from stands [] is = cond_both c.to_lender.ended _ _ (λ (x : Gave × Channel). Left s l x.1) (λ _. tt) (λ _. h)
     from stands (q ∷ ps) is =
         cond_both (may_send c.lender c.number q.msg) _ _ (λ (x : Gave × Channel). Left s l x.1)
-        (λ may. subst (λ (t : Turn). Left s l (delivered (record c { to_lender = record c.to_lender { parcels = ps } }) t)) (sym (took-served c.lender c.number q.msg q.page may)) (fine stands q ps is)) (λ _. tt)
+        (λ may.
+        subst (λ (t : Turn). Left s l (delivered (record c { to_lender = record c.to_lender { parcels = ps } }) t))
+        (sym (took-served c.lender c.number q.msg q.page may)) (fine stands q ps is))
+        (λ _. tt)
 
 pub left_cut : (s : Sizes) (l : LenderNo) (c : Channel) (m n : ℕ) → Left s l c → Left s l (severed c m n).1
-left_cut s l c m n h = unless-map c.lender_gone _ _ (λ (b : Allows s [] [] l c.lender c.number [] true c.to_lender.parcels × Orderly c.lender.slots s.pages_per_slab c.to_lender.parcels). (allows_left s [] [] l c.lender c.number (take 0 []) true (take m c.to_lender.parcels) (allows_cut s [] [] l c.lender c.number [] true c.to_lender.parcels m 0 b.0), orderly_take c.lender.slots s.pages_per_slab m c.to_lender.parcels b.1)) h
+left_cut s l c m n h =
+    unless-map c.lender_gone _ _
+    (λ (b : Allows s [] [] l c.lender c.number [] true c.to_lender.parcels × Orderly c.lender.slots s.pages_per_slab c.to_lender.parcels). (
+      allows_left s [] [] l c.lender c.number (take 0 []) true (take m c.to_lender.parcels)
+          (allows_cut s [] [] l c.lender c.number [] true c.to_lender.parcels m 0 b.0),
+      orderly_take c.lender.slots s.pages_per_slab m c.to_lender.parcels b.1,
+    ))
+    h
 
 pub left_crashed : (s : Sizes) (l : LenderNo) (c : Channel) → Left s l (crashed c)
-left_crashed s l c = cond_both c.lender_gone _ _ (λ (x : Channel). Left s l x) (λ gone. unless c.lender_gone _ (λ stands. absurd (both_ways c.lender_gone stands gone))) (λ _. tt)
+left_crashed s l c =
+    cond_both c.lender_gone _ _ (λ (x : Channel). Left s l x) (λ gone. unless c.lender_gone _ (λ stands. absurd (both_ways c.lender_gone stands gone)))
+    (λ _. tt)
 
-pub left_hosted : (s : Sizes) (l : LenderNo) (c : Channel) (used word : ℕ) → IsReached c.lender → IsSound c.lender → Left s l c → Left s l (delivered c (host c.lender used word))
+pub left_hosted :
+    (s : Sizes) (l : LenderNo) (c : Channel) (used word : ℕ) → IsReached c.lender → IsSound c.lender → Left s l c
+    → Left s l (delivered c (host c.lender used word))
 left_hosted s l c used word reached sound h = unless-map c.lender_gone _ _
     (λ (b : Allows s [] [] l c.lender c.number [] true c.to_lender.parcels × Orderly c.lender.slots s.pages_per_slab c.to_lender.parcels).
-    cond_both (opens (measured c.lender used)) _ _ (λ (t : Turn). (host c.lender used word ≡ t) → Allows s [] [] l t.lender c.number [] true c.to_lender.parcels × Orderly t.lender.slots s.pages_per_slab c.to_lender.parcels)
+    cond_both (opens (measured c.lender used)) _ _
+    (λ (t : Turn). (host c.lender used word ≡ t)
+    → Allows s [] [] l t.lender c.number [] true c.to_lender.parcels × Orderly t.lender.slots s.pages_per_slab c.to_lender.parcels)
     (λ opens_ is. (
       allows_left s [] [] l _ c.number _ true c.to_lender.parcels
-          (allows_opened s [] [] l c.lender c.number nothing_comes true c.to_lender.parcels sound (asked (measured c.lender used) word) (to_evict (measured c.lender used)) (measured c.lender used).usage (none_is c.lender.round (and_parts (is_none c.lender.round) _ opens_).0)
-          (λ i inside. (asked_low (measured c.lender used) word i inside, asks_stay c.lender used word reached (λ n r. (are_owned n r).round) is i inside)) b.0),
+          (allows_opened s [] [] l c.lender c.number nothing_comes true c.to_lender.parcels sound (asked (measured c.lender used) word)
+          (to_evict (measured c.lender used)) (measured c.lender used).usage (none_is c.lender.round (and_parts (is_none c.lender.round) _ opens_).0)
+          (λ i inside. (asked_low (measured c.lender used) word i inside, asks_stay c.lender used word reached (λ n r. (are_owned n r).round) is i inside))
+          b.0),
       b.1,
     ))
     (λ _ is. (allows_table s [] [] l c.lender (measured c.lender used) c.number [] true c.to_lender.parcels refl refl refl b.0, b.1)) refl) h
@@ -170,7 +226,8 @@ left_hosted s l c used word reached sound h = unless-map c.lender_gone _ _
     none_is (Some r) e = cc
 
 -- the first message under way is allowed
-module _ (s : Sizes) (l : LenderNo) (c : Channel) (q : Parcel) (ps : List Parcel) (sound : IsSound c.lender) (known : IsKnown s c) (lodges : Lodges c) (allows : Allows s [] [] l c.lender c.number [] true (q ∷ ps)) (orderly : Orderly c.lender.slots s.pages_per_slab (q ∷ ps)) where
+module _ (s : Sizes) (l : LenderNo) (c : Channel) (q : Parcel) (ps : List Parcel) (sound : IsSound c.lender) (known : IsKnown s c) (lodges : Lodges c)
+    (allows : Allows s [] [] l c.lender c.number [] true (q ∷ ps)) (orderly : Orderly c.lender.slots s.pages_per_slab (q ∷ ps)) where
   greeted : is_hello q.msg ≡ false → has_greeted c.lender c.number ≡ true
   greeted plain = greeted_before s (has_greeted c.lender c.number) true q ps plain allows.greets
 
@@ -179,7 +236,8 @@ module _ (s : Sizes) (l : LenderNo) (c : Channel) (q : Parcel) (ps : List Parcel
       let first = greets_first s (has_greeted c.lender c.number) true q ps (ap is_hello e) allows.greets in
       let same : msg.Hello v bytes pages ≡ (greeting s).msg = sym e ∙ ap (λ (p : Parcel). p.msg) first.1 in
       all_four (has_greeted c.lender c.number) (v == 1) (bytes == c.lender.lending.page_bytes) (pages == c.lender.lending.pages_per_slab) first.0
-      (eq-eqb v 1 (version_is same)) (eq-eqb bytes c.lender.lending.page_bytes (bytes_is same ∙ sym known.page_bytes)) (eq-eqb pages c.lender.lending.pages_per_slab (pages_is same ∙ sym known.pages_per_slab))
+      (eq-eqb v 1 (version_is same)) (eq-eqb bytes c.lender.lending.page_bytes (bytes_is same ∙ sym known.page_bytes))
+      (eq-eqb pages c.lender.lending.pages_per_slab (pages_is same ∙ sym known.pages_per_slab))
     where
       all_four : (a b e f : Bool) → a ≡ false → b ≡ true → e ≡ true → f ≡ true → (not a && b && e && f) ≡ true
       all_four a b e f x y z w = cc
@@ -196,7 +254,9 @@ module _ (s : Sizes) (l : LenderNo) (c : Channel) (q : Parcel) (ps : List Parcel
   reaches : (k : Lease) (i : ℕ) → HasHeld c.lender.slots k → i < s.pages_per_slab → may_reach c.lender c.number k i ≡ true
   reaches k i (e, (x, m, t, is)) within =
       let at = slot_found c.lender c.number k x m t e sound is (held_of c lodges x m t k e is) in
-      and_from (holds c.lender c.number k) (nat_lt i c.lender.lending.pages_per_slab) (lt-ltb (slot_of c.lender c.number k) (length c.lender.slots) (subst (λ j. j < length c.lender.slots) (sym at.is) at.within)) (lt-ltb i c.lender.lending.pages_per_slab (subst (λ m. i < m) (sym known.pages_per_slab) within))
+      and_from (holds c.lender c.number k) (nat_lt i c.lender.lending.pages_per_slab)
+      (lt-ltb (slot_of c.lender c.number k) (length c.lender.slots) (subst (λ j. j < length c.lender.slots) (sym at.is) at.within))
+      (lt-ltb i c.lender.lending.pages_per_slab (subst (λ m. i < m) (sym known.pages_per_slab) within))
 
   may_of : (m : Msg) → q.msg ≡ m → may_send c.lender c.number m ≡ true
   may_of (msg.Hello v bytes pages) e = hello_may v bytes pages e
@@ -204,10 +264,16 @@ module _ (s : Sizes) (l : LenderNo) (c : Channel) (q : Parcel) (ps : List Parcel
   may_of (msg.Borrow t) e =
       and_from (has_greeted c.lender c.number) (not (list_any (is_for c.number t) c.lender.slots)) (greeted (ap is_hello e))
       (ap not (none_for c.number t c.lender.slots (λ i m k told held. allows.free.0 t i m k told e held)))
-  may_of (msg.Write k i) e = let at : IsReach c.lender.slots s.pages_per_slab (msg.Write k i) = subst (λ (m : Msg). IsReach c.lender.slots s.pages_per_slab m) e orderly.reach.0 in reaches k i at.0 at.1
-  may_of (msg.Read k i) e = let at : IsReach c.lender.slots s.pages_per_slab (msg.Read k i) = subst (λ (m : Msg). IsReach c.lender.slots s.pages_per_slab m) e orderly.reach.0 in reaches k i at.0 at.1
-  may_of (msg.Rates k value) e = rates_allowed c.lender c.number k sound (held_of c lodges) (allows.rates k (ap (λ b. b || rates_in k ps) (ap (is_rate k) e ∙ eq-eqb k.0 k.0 refl)))
-  may_of (msg.Done k) e = done_allowed c.lender c.number k sound (held_of c lodges) (allows.done k (ap (λ b. b || gives_back k ps) (ap (is_done k) e ∙ eq-eqb k.0 k.0 refl)))
+  may_of (msg.Write k i) e =
+      let at : IsReach c.lender.slots s.pages_per_slab (msg.Write k i) = subst (λ (m : Msg). IsReach c.lender.slots s.pages_per_slab m) e orderly.reach.0 in
+      reaches k i at.0 at.1
+  may_of (msg.Read k i) e =
+      let at : IsReach c.lender.slots s.pages_per_slab (msg.Read k i) = subst (λ (m : Msg). IsReach c.lender.slots s.pages_per_slab m) e orderly.reach.0 in
+      reaches k i at.0 at.1
+  may_of (msg.Rates k value) e =
+      rates_allowed c.lender c.number k sound (held_of c lodges) (allows.rates k (ap (λ b. b || rates_in k ps) (ap (is_rate k) e ∙ eq-eqb k.0 k.0 refl)))
+  may_of (msg.Done k) e =
+      done_allowed c.lender c.number k sound (held_of c lodges) (allows.done k (ap (λ b. b || gives_back k ps) (ap (is_done k) e ∙ eq-eqb k.0 k.0 refl)))
   may_of _ e = absurd (subst IsToLender e allows.kinds.0)
 
   pub left_may : may_send c.lender c.number q.msg ≡ true

@@ -64,7 +64,9 @@ by_give P each ch h = cond_both ch.lender_gone _ _ (λ (x : Gave × Channel). P 
   where
     from : (ps : List Parcel) → P (given_from ch ps).1.lender
     from [] = cond_both ch.to_lender.ended _ _ (λ (x : Gave × Channel). P x.1.lender) (λ _. each.leaves ch.lender ch.number h) (λ _. h)
-    from (p ∷ ps) = cond_both (may_send ch.lender ch.number p.msg) _ _ (λ (x : Gave × Channel). P x.1.lender) (λ _. each.takes ch.lender ch.number p.msg p.page h) (λ _. each.leaves ch.lender ch.number h)
+    from (p ∷ ps) =
+        cond_both (may_send ch.lender ch.number p.msg) _ _ (λ (x : Gave × Channel). P x.1.lender) (λ _. each.takes ch.lender ch.number p.msg p.page h)
+        (λ _. each.leaves ch.lender ch.number h)
 
 by_call : (P : Lender → Type 0) → EachKeeps P → (ch : Channel) (c : FabricCall) → P ch.lender → P (on_channel ch c).1.lender
 by_call P each ch (Connect m n) h = each.arrives (let_go ch) n (cond_both ch.lender_gone _ _ P (λ _. h) (λ _. each.leaves ch.lender ch.number h))
@@ -76,11 +78,14 @@ by_call P each ch (Cut m a b) h = h
 by_call P each ch (Crash m) h = cond_both ch.lender_gone _ _ (λ (x : Channel). P x.lender) (λ _. each.restarts ch.lender h) (λ _. each.restarts ch.lender h)
 by_call P each ch (Host m used word) h = each.hosts ch.lender used word h
 
-by_move : (P : Lender → Type 0) → EachKeeps P → (f : Harbor) (c : FabricCall) (r : FabricAnswer c) (g : Harbor) → Moves f c r g → ((l : LenderNo) → l.0 < length f.channels → P (channel_of f l).lender) → (l : LenderNo) → l.0 < length g.channels → P (channel_of g l).lender
+by_move :
+    (P : Lender → Type 0) → EachKeeps P → (f : Harbor) (c : FabricCall) (r : FabricAnswer c) (g : Harbor) → Moves f c r g
+    → ((l : LenderNo) → l.0 < length f.channels → P (channel_of f l).lender) → (l : LenderNo) → l.0 < length g.channels → P (channel_of g l).lender
 by_move P each f c r g moved all l within =
     let Q : FabricAnswer c × Harbor → Type 0 = λ x. P (channel_of x.1 l).lender in
     let size : length g.channels ≡ length f.channels = ap (λ (o : FabricOf). o.lenders) (moves_keep_of f c r g moved) in
-    subst Q moved.1 (through (λ ch. P ch.lender) f c l moved.0 (all l (subst (λ n. l.0 < n) size within)) (λ _ h. by_call P each (channel_of f (lender_of c)) c h))
+    subst Q moved.1
+    (through (λ ch. P ch.lender) f c l moved.0 (all l (subst (λ n. l.0 < n) size within)) (λ _ h. by_call P each (channel_of f (lender_of c)) c h))
 
 -- the number of slots
 
@@ -89,8 +94,10 @@ slots_settle l None h = h
 slots_settle l (Some set) h = length-marked set 0 l.slots ∙ h
 
 slots_serve : (l : Lender) (n : Link) (m : Msg) (page : List ℕ) → AreSlots l → AreSlots (serve l n m page).lender
-slots_serve l n (msg.Borrow u) page h = cond_both (lends l) _ _ (λ (x : Turn). AreSlots x.lender) (λ _. length-set l.slots (first_where is_free l.slots) _ ∙ h) (λ _. h)
-slots_serve l n (msg.Rates j value) page h = slots_settle (record l { round = option_map (answer (slot_of l n j) value) l.round }) (due (option_map (answer (slot_of l n j) value) l.round)) h
+slots_serve l n (msg.Borrow u) page h =
+    cond_both (lends l) _ _ (λ (x : Turn). AreSlots x.lender) (λ _. length-set l.slots (first_where is_free l.slots) _ ∙ h) (λ _. h)
+slots_serve l n (msg.Rates j value) page h =
+    slots_settle (record l { round = option_map (answer (slot_of l n j) value) l.round }) (due (option_map (answer (slot_of l n j) value) l.round)) h
 slots_serve l n (msg.Done j) page h = length-set l.slots (slot_of l n j) Free ∙ h
 slots_serve l n _ page h = h
 
@@ -99,7 +106,10 @@ slots_each = record {
   arrives = λ l n h. cond_both (has_room l) _ _ AreSlots (λ _. h) (λ _. h);
   takes = λ l n m page h. cond_both (may_send l n m) _ _ (λ (x : Turn). AreSlots x.lender) (λ _. slots_serve l n m page h) (λ _. h);
   hosts = λ l used word h. cond_both (opens (measured l used)) _ _ (λ (x : Turn). AreSlots x.lender) (λ _. h) (λ _. h);
-  leaves = λ l n h. slots_settle (record l { slots = map (freed n) l.slots; peers = without_peer n l.peers; round = option_map (left n l.slots) l.round }) (due (option_map (left n l.slots) l.round)) (length-map l.slots (freed n) ∙ h);
+  leaves =
+      λ l n h.
+      slots_settle (record l { slots = map (freed n) l.slots; peers = without_peer n l.peers; round = option_map (left n l.slots) l.round })
+      (due (option_map (left n l.slots) l.round)) (length-map l.slots (freed n) ∙ h);
   restarts = λ l h. length-replicate l.lending.spec.slots Free;
 }
 
@@ -130,14 +140,17 @@ are_owned l r = subst AreOwned (sym r.is) (record { slots = always_owned r.lendi
 
 -- rounds that ask no slot that was told to go
 
-untold_set : (slots : List SlotState) (j i : ℕ) (x : SlotState) → is_evicting x ≡ false → is_evicting (get_or slots i Free) ≡ false → is_evicting (get_or (set slots j x) i Free) ≡ false
+untold_set :
+    (slots : List SlotState) (j i : ℕ) (x : SlotState) → is_evicting x ≡ false → is_evicting (get_or slots i Free) ≡ false
+    → is_evicting (get_or (set slots j x) i Free) ≡ false
 untold_set [] j i x new was = was
 untold_set (s ∷ ss) zero zero x new was = new
 untold_set (s ∷ ss) zero (suc i) x new was = was
 untold_set (s ∷ ss) (suc j) zero x new was = was
 untold_set (s ∷ ss) (suc j) (suc i) x new was = untold_set ss j i x new was
 
-untold_freed : (n : Link) (slots : List SlotState) (i : ℕ) → is_evicting (get_or slots i Free) ≡ false → is_evicting (get_or (map (freed n) slots) i Free) ≡ false
+untold_freed :
+    (n : Link) (slots : List SlotState) (i : ℕ) → is_evicting (get_or slots i Free) ≡ false → is_evicting (get_or (map (freed n) slots) i Free) ≡ false
 untold_freed n [] i was = was
 untold_freed n (s ∷ ss) zero was = cond_both (is_of n s) _ _ (λ x. is_evicting x ≡ false) (λ _. refl) (λ _. was)
 untold_freed n (s ∷ ss) (suc i) was = untold_freed n ss i was
@@ -146,7 +159,9 @@ left_asked : (xs : List ℕ) (r : Round) → (fold (λ r slot. leave slot r) r x
 left_asked [] r = refl
 left_asked (x ∷ xs) r = left_asked xs (leave x r)
 
-untold_by : (o : Option Round) (slots slots' : List SlotState) → ((i : ℕ) → is_evicting (slot_in slots i) ≡ false → is_evicting (slot_in slots' i) ≡ false) → AsksUntold o slots → AsksUntold o slots'
+untold_by :
+    (o : Option Round) (slots slots' : List SlotState) → ((i : ℕ) → is_evicting (slot_in slots i) ≡ false → is_evicting (slot_in slots' i) ≡ false)
+    → AsksUntold o slots → AsksUntold o slots'
 untold_by None slots slots' each h = tt
 untold_by (Some r) slots slots' each h = λ i e. each i (h i e)
 
@@ -166,20 +181,27 @@ untold_settle l None h = h
 untold_settle l (Some set) h = tt
 
 untold_serve : (l : Lender) (n : Link) (m : Msg) (page : List ℕ) → Untold l → Untold (serve l n m page).lender
-untold_serve l n (msg.Borrow u) page h = cond_both (lends l) _ _ (λ (x : Turn). Untold x.lender) (λ _. untold_by l.round l.slots _ (λ i. untold_set l.slots (first_where is_free l.slots) i (Held n u (record { 0 = l.next_lease }) false) refl) h) (λ _. h)
+untold_serve l n (msg.Borrow u) page h =
+    cond_both (lends l) _ _ (λ (x : Turn). Untold x.lender)
+    (λ _. untold_by l.round l.slots _ (λ i. untold_set l.slots (first_where is_free l.slots) i (Held n u (record { 0 = l.next_lease }) false) refl) h) (λ _. h)
 untold_serve l n (msg.Rates j value) page h =
-    untold_settle (record l { round = option_map (answer (slot_of l n j) value) l.round }) (due (option_map (answer (slot_of l n j) value) l.round)) (untold_answer l.round (slot_of l n j) value l.slots h)
+    untold_settle (record l { round = option_map (answer (slot_of l n j) value) l.round }) (due (option_map (answer (slot_of l n j) value) l.round))
+    (untold_answer l.round (slot_of l n j) value l.slots h)
 untold_serve l n (msg.Done j) page h = untold_by l.round l.slots _ (λ i. untold_set l.slots (slot_of l n j) i Free refl) h
 untold_serve l n _ page h = h
 
 -- a round that is opened waits for slots that stay
 untold_host : (l : Lender) (used word : ℕ) → IsReached l → Untold l → Untold (host l used word).lender
-untold_host l used word r h = cond_both (opens (measured l used)) _ _ (λ (x : Turn). (host l used word ≡ x) → Untold x.lender) (λ _ is. opened_ is) (λ _ is. h) refl
+untold_host l used word r h =
+    cond_both (opens (measured l used)) _ _ (λ (x : Turn). (host l used word ≡ x) → Untold x.lender) (λ _ is. opened_ is) (λ _ is. h) refl
   where
-    opened_ : host l used word ≡ open_round (measured l used) (asked (measured l used) word) → Untold (open_round (measured l used) (asked (measured l used) word)).lender
+    opened_ :
+        host l used word ≡ open_round (measured l used) (asked (measured l used) word)
+        → Untold (open_round (measured l used) (asked (measured l used) word)).lender
     opened_ is i inside =
         let P : Turn → Type 0 = λ t. AsksStaying t.lender.round t.lender.slots in
-        let alive : AsksStaying (Some (opened (asked (measured l used) word) (to_evict (measured l used)))) l.slots = subst P is (are_owned (host l used word).lender (reached_more l (Hosts used word) r)).round in
+        let alive : AsksStaying (Some (opened (asked (measured l used) word) (to_evict (measured l used)))) l.slots =
+        subst P is (are_owned (host l used word).lender (reached_more l (Hosts used word) r)).round in
         not_told (slot_in l.slots i) (alive.waits i (all_three (has (asked (measured l used) word) i) (has 0 i) (has 0 i) inside (has-zero i) (has-zero i)))
       where
         all_three : (a b c : Bool) → a ≡ true → b ≡ false → c ≡ false → (a && not b && not c) ≡ true
@@ -196,12 +218,16 @@ ReachedUntold l = IsReached l × Untold l
 untold_each : EachKeeps ReachedUntold
 untold_each = record {
   arrives = λ l n h. (reached_each.arrives l n h.0, cond_both (has_room l) _ _ Untold (λ _. h.1) (λ _. h.1));
-  takes = λ l n m page h. (reached_each.takes l n m page h.0, cond_both (may_send l n m) _ _ (λ (x : Turn). Untold x.lender) (λ _. untold_serve l n m page h.1) (λ _. h.1));
+  takes =
+      λ l n m page h.
+      (reached_each.takes l n m page h.0, cond_both (may_send l n m) _ _ (λ (x : Turn). Untold x.lender) (λ _. untold_serve l n m page h.1) (λ _. h.1));
   hosts = λ l used word h. (reached_each.hosts l used word h.0, untold_host l used word h.0 h.1);
   leaves = λ l n h. (
     reached_each.leaves l n h.0,
-    untold_settle (record l { slots = map (freed n) l.slots; peers = without_peer n l.peers; round = option_map (left n l.slots) l.round }) (due (option_map (left n l.slots) l.round))
-        (untold_by (option_map (left n l.slots) l.round) l.slots (map (freed n) l.slots) (λ i. untold_freed n l.slots i) (untold_left l.round n l.slots l.slots h.1)),
+    untold_settle (record l { slots = map (freed n) l.slots; peers = without_peer n l.peers; round = option_map (left n l.slots) l.round })
+        (due (option_map (left n l.slots) l.round))
+        (untold_by (option_map (left n l.slots) l.round) l.slots (map (freed n) l.slots) (λ i. untold_freed n l.slots i)
+        (untold_left l.round n l.slots l.slots h.1)),
   );
   restarts = λ l h. (reached_each.restarts l h.0, tt);
 }
@@ -229,8 +255,11 @@ held_settle l None n h = h
 held_settle l (Some set) n h = held_part (marked set 0 l.slots) l.slots n (part_marked set l.slots) h
 
 held_serve : (l : Lender) (n : Link) (m : Msg) (page : List ℕ) → HeldBy l.slots n → HeldBy (serve l n m page).lender.slots n
-held_serve l n (msg.Borrow u) page h = cond_both (lends l) _ _ (λ (x : Turn). HeldBy x.lender.slots n) (λ _. held_set l.slots (first_where is_free l.slots) n u (record { 0 = l.next_lease }) h) (λ _. h)
-held_serve l n (msg.Rates j value) page h = held_settle (record l { round = option_map (answer (slot_of l n j) value) l.round }) (due (option_map (answer (slot_of l n j) value) l.round)) n h
+held_serve l n (msg.Borrow u) page h =
+    cond_both (lends l) _ _ (λ (x : Turn). HeldBy x.lender.slots n) (λ _. held_set l.slots (first_where is_free l.slots) n u (record { 0 = l.next_lease }) h)
+    (λ _. h)
+held_serve l n (msg.Rates j value) page h =
+    held_settle (record l { round = option_map (answer (slot_of l n j) value) l.round }) (due (option_map (answer (slot_of l n j) value) l.round)) n h
 held_serve l n (msg.Done j) page h = held_part (set l.slots (slot_of l n j) Free) l.slots n (part_free l.slots (slot_of l n j)) h
 held_serve l n _ page h = h
 
@@ -243,11 +272,15 @@ freed_none n (s ∷ ss) h zero a e = go s e (h zero a)
     go Free e was = cc
     go (Held m u k told) e was =
         cond_both (m.0 == n.0) Free (Held m u k told) (λ x. tenant x ≡ Some a → ⊥) (λ _ e. cc)
-        (λ other e. let same : record { link = m; slab = u; lease = k } ≡ a = cc in both_ways (m.0 == n.0) other (eq-eqb m.0 n.0 (ap (λ (t : Tenant). t.link.0) same ∙ was e))) e
+        (λ other e. let same : record { link = m; slab = u; lease = k } ≡ a = cc in
+        both_ways (m.0 == n.0) other (eq-eqb m.0 n.0 (ap (λ (t : Tenant). t.link.0) same ∙ was e)))
+        e
 freed_none n (s ∷ ss) h (suc i) a e = freed_none n ss (λ i a e. h (suc i) a e) i a e
 
 gone_none : (l : Lender) (n : Link) → HeldBy l.slots n → HeldByNone (gone l n).lender.slots
-gone_none l n h = settle_none (record l { slots = map (freed n) l.slots; peers = without_peer n l.peers; round = option_map (left n l.slots) l.round }) (due (option_map (left n l.slots) l.round)) (freed_none n l.slots h)
+gone_none l n h =
+    settle_none (record l { slots = map (freed n) l.slots; peers = without_peer n l.peers; round = option_map (left n l.slots) l.round })
+    (due (option_map (left n l.slots) l.round)) (freed_none n l.slots h)
   where
     settle_none : (l : Lender) (o : Option ℕ) → HeldByNone l.slots → HeldByNone (settle_with l o).lender.slots
     settle_none l None h = h
@@ -271,21 +304,29 @@ lodges_give : (ch : Channel) → Lodges ch → Lodges (given ch).1
 lodges_give ch h = cond_both ch.lender_gone _ _ (λ (x : Gave × Channel). Lodges x.1) (λ _. h) (λ stands. from stands ch.to_lender.parcels)
   where
     from : ch.lender_gone ≡ false → (ps : List Parcel) → Lodges (given_from ch ps).1
-    from stands [] = cond_both ch.to_lender.ended _ _ (λ (x : Gave × Channel). Lodges x.1) (λ _. lodges_none (abandoned ch) (gone_none ch.lender ch.number (by_lodges ch h))) (λ _. h)
+    from stands [] =
+        cond_both ch.to_lender.ended _ _ (λ (x : Gave × Channel). Lodges x.1) (λ _. lodges_none (abandoned ch) (gone_none ch.lender ch.number (by_lodges ch h)))
+        (λ _. h)
     from stands (p ∷ ps) =
         cond_both (may_send ch.lender ch.number p.msg) _ _ (λ (x : Gave × Channel). Lodges x.1)
-        (λ may. lodges_by (delivered (record ch { to_lender = record ch.to_lender { parcels = ps } }) (took ch.lender ch.number p.msg p.page)) stands (took_held p may))
+        (λ may.
+        lodges_by (delivered (record ch { to_lender = record ch.to_lender { parcels = ps } }) (took ch.lender ch.number p.msg p.page)) stands
+        (took_held p may))
         (λ _. lodges_none (abandoned (record ch { to_lender = record ch.to_lender { parcels = ps } })) (gone_none ch.lender ch.number (by_lodges ch h)))
       where
         took_held : (p : Parcel) → may_send ch.lender ch.number p.msg ≡ true → HeldBy (took ch.lender ch.number p.msg p.page).lender.slots ch.number
-        took_held p may = cond_both (may_send ch.lender ch.number p.msg) _ _ (λ (x : Turn). HeldBy x.lender.slots ch.number) (λ _. held_serve ch.lender ch.number p.msg p.page (by_lodges ch h)) (λ _. by_lodges ch h)
+        took_held p may =
+            cond_both (may_send ch.lender ch.number p.msg) _ _ (λ (x : Turn). HeldBy x.lender.slots ch.number)
+            (λ _. held_serve ch.lender ch.number p.msg p.page (by_lodges ch h)) (λ _. by_lodges ch h)
 
 -- a link that is made finds no slot held
 pub connected_none : (ch : Channel) (n : Link) → Lodges ch → HeldByNone (arrive (let_go ch) n).slots
 connected_none ch n h = cond_both (has_room (let_go ch)) _ _ (λ (x : Lender). HeldByNone x.slots) (λ _. none) (λ _. none)
   where
     none : HeldByNone (let_go ch).slots
-    none = cond_both ch.lender_gone _ _ (λ (x : Lender). HeldByNone x.slots) (λ left i a e. both_ways ch.lender_gone (h i a e).0 left) (λ _. gone_none ch.lender ch.number (by_lodges ch h))
+    none =
+        cond_both ch.lender_gone _ _ (λ (x : Lender). HeldByNone x.slots) (λ left i a e. both_ways ch.lender_gone (h i a e).0 left)
+        (λ _. gone_none ch.lender ch.number (by_lodges ch h))
 
 lodges_call : (ch : Channel) (c : FabricCall) → Lodges ch → Lodges (on_channel ch c).1
 lodges_call ch (Connect m n) h = lodges_none (on_channel ch (Connect m n)).1 (connected_none ch n h)
@@ -300,12 +341,18 @@ lodges_call ch (Give m) h = lodges_give ch h
 lodges_call ch (Cut m a b) h = h
 lodges_call ch (Crash m) h = lodges_none (crashed ch) (λ i a e. restart_none ch.lender.lending.spec.slots i a (crashed_slots i a e))
   where
-    crashed_slots : (i : ℕ) (a : Tenant) → tenant (slot_in (crashed ch).lender.slots i) ≡ Some a → tenant (slot_in (replicate ch.lender.lending.spec.slots Free) i) ≡ Some a
-    crashed_slots i a = cond_both ch.lender_gone _ _ (λ (x : Channel). tenant (slot_in x.lender.slots i) ≡ Some a → tenant (slot_in (replicate ch.lender.lending.spec.slots Free) i) ≡ Some a) (λ _ e. e) (λ _ e. e)
+    crashed_slots :
+        (i : ℕ) (a : Tenant) → tenant (slot_in (crashed ch).lender.slots i) ≡ Some a → tenant (slot_in (replicate ch.lender.lending.spec.slots Free) i) ≡ Some a
+    crashed_slots i a =
+        cond_both ch.lender_gone _ _
+        (λ (x : Channel). tenant (slot_in x.lender.slots i) ≡ Some a → tenant (slot_in (replicate ch.lender.lending.spec.slots Free) i) ≡ Some a) (λ _ e. e)
+        (λ _ e. e)
 lodges_call ch (Host m used word) h = λ i a e. h i a (hosted_slots i a e)
   where
     hosted_slots : (i : ℕ) (a : Tenant) → tenant (slot_in (host ch.lender used word).lender.slots i) ≡ Some a → tenant (slot_in ch.lender.slots i) ≡ Some a
-    hosted_slots i a = cond_both (opens (measured ch.lender used)) _ _ (λ (x : Turn). tenant (slot_in x.lender.slots i) ≡ Some a → tenant (slot_in ch.lender.slots i) ≡ Some a) (λ _ e. e) (λ _ e. e)
+    hosted_slots i a =
+        cond_both (opens (measured ch.lender used)) _ _ (λ (x : Turn). tenant (slot_in x.lender.slots i) ≡ Some a → tenant (slot_in ch.lender.slots i) ≡ Some a)
+        (λ _ e. e) (λ _ e. e)
 
 lodges_move : (f : Harbor) (c : FabricCall) (r : FabricAnswer c) (g : Harbor) → Moves f c r g → AllLodge f → AllLodge g
 lodges_move f c r g moved all l within =
@@ -332,12 +379,15 @@ none_left s c left h = subst (λ b. IsAlone c.number b c.lender.peers) left h.al
 
 -- a link that is let go leaves none, and the one that arrives then is the only one
 let_go_none : (s : Sizes) (c : Channel) → IsKnown s c → (let_go c).peers ≡ []
-let_go_none s c h = cond_both c.lender_gone _ _ (λ (x : Lender). x.peers ≡ []) (λ left. none_left s c left h) (λ stands. peers-gone c.lender c.number (alone_stands s c stands h))
+let_go_none s c h =
+    cond_both c.lender_gone _ _ (λ (x : Lender). x.peers ≡ []) (λ left. none_left s c left h)
+    (λ stands. peers-gone c.lender c.number (alone_stands s c stands h))
 
 let_go_lending : (c : Channel) → (let_go c).lending ≡ c.lender.lending
 let_go_lending c = cond_both c.lender_gone _ _ (λ (x : Lender). x.lending ≡ c.lender.lending) (λ _. refl) (λ _. gone_lending c.lender c.number)
 
-arrives_alone : (s : Sizes) (c : Channel) (n : Link) → IsKnown s c → arrive (let_go c) n ≡ record (let_go c) { peers = record { link = n; greeted = false } ∷ [] }
+arrives_alone :
+    (s : Sizes) (c : Channel) (n : Link) → IsKnown s c → arrive (let_go c) n ≡ record (let_go c) { peers = record { link = n; greeted = false } ∷ [] }
 arrives_alone s c n h = arrived (let_go c) n (let_go_none s c h) (ap (λ (x : Lending). x.links) (let_go_lending c) ∙ h.one)
 
 known_connected : (s : Sizes) (c : Channel) (n : Link) → IsKnown s c → IsKnown s (connected c n)
@@ -355,7 +405,8 @@ connected_fresh s c n h = ap (λ (x : Lender). has_greeted x n) (arrives_alone s
 
 pub greeted_known : (s : Sizes) (c : Channel) → c.lender_gone ≡ false → IsKnown s c → has_greeted (hello c.lender c.number).lender c.number ≡ true
 greeted_known s c stands h =
-    ap (λ (ps : List Peer). list_any (is_greeted c.number) ps) (greets c.lender.peers (alone_stands s c stands h)) ∙ by_own (c.number.0 == c.number.0) (eq-eqb c.number.0 c.number.0 refl)
+    ap (λ (ps : List Peer). list_any (is_greeted c.number) ps) (greets c.lender.peers (alone_stands s c stands h))
+    ∙ by_own (c.number.0 == c.number.0) (eq-eqb c.number.0 c.number.0 refl)
   where
     by_own : (b : Bool) → b ≡ true → ((b && true) || false) ≡ true
     by_own true e = refl
@@ -368,7 +419,9 @@ greeted_known s c stands h =
 known_abandoned : (s : Sizes) (c d : Channel) → c.lender_gone ≡ false → IsKnown s c → d.lender ≡ c.lender → d.number ≡ c.number → IsKnown s (abandoned d)
 known_abandoned s c d stands h lender number =
     known_by s c (abandoned d) h (gone_lending d.lender d.number ∙ ap (λ (x : Lender). x.lending) lender)
-    (peers-gone d.lender d.number (subst (λ n. IsAlone n false d.lender.peers) (sym number) (subst (λ (x : Lender). IsAlone c.number false x.peers) (sym lender) (alone_stands s c stands h))))
+    (peers-gone d.lender d.number
+    (subst (λ n. IsAlone n false d.lender.peers) (sym number)
+    (subst (λ (x : Lender). IsAlone c.number false x.peers) (sym lender) (alone_stands s c stands h))))
 
 known_give : (s : Sizes) (c : Channel) → IsKnown s c → IsKnown s (given c).1
 known_give s c h = cond_both c.lender_gone _ _ (λ (x : Gave × Channel). IsKnown s x.1) (λ _. h) (λ stands. from stands c.to_lender.parcels)
@@ -377,34 +430,46 @@ known_give s c h = cond_both c.lender_gone _ _ (λ (x : Gave × Channel). IsKnow
     from stands [] = cond_both c.to_lender.ended _ _ (λ (x : Gave × Channel). IsKnown s x.1) (λ _. known_abandoned s c c stands h refl refl) (λ _. h)
     from stands (p ∷ ps) =
         cond_both (may_send c.lender c.number p.msg) _ _ (λ (x : Gave × Channel). IsKnown s x.1)
-        (λ may. known_by s c (delivered (record c { to_lender = record c.to_lender { parcels = ps } }) (took c.lender c.number p.msg p.page)) h (took_lending c.lender c.number p.msg p.page)
+        (λ may.
+        known_by s c (delivered (record c { to_lender = record c.to_lender { parcels = ps } }) (took c.lender c.number p.msg p.page)) h
+        (took_lending c.lender c.number p.msg p.page)
         (subst (λ b. IsAlone c.number b (took c.lender c.number p.msg p.page).lender.peers) (sym stands) (took_alone p)))
         (λ _. known_abandoned s c (record c { to_lender = record c.to_lender { parcels = ps } }) stands h refl refl)
       where
         took_alone : (p : Parcel) → IsAlone c.number false (took c.lender c.number p.msg p.page).lender.peers
-        took_alone p = cond_both (may_send c.lender c.number p.msg) _ _ (λ (x : Turn). IsAlone c.number false x.lender.peers) (λ _. alone-serve c.lender c.number p.msg p.page (alone_stands s c stands h)) (λ _. alone_stands s c stands h)
+        took_alone p =
+            cond_both (may_send c.lender c.number p.msg) _ _ (λ (x : Turn). IsAlone c.number false x.lender.peers)
+            (λ _. alone-serve c.lender c.number p.msg p.page (alone_stands s c stands h)) (λ _. alone_stands s c stands h)
 
 known_same : (s : Sizes) (c d : Channel) → IsKnown s c → d.lender ≡ c.lender → d.number ≡ c.number → d.lender_gone ≡ c.lender_gone → IsKnown s d
 known_same s c d h lender number left =
     known_by s c d h (ap (λ (x : Lender). x.lending) lender)
-    (subst (λ (x : Lender). IsAlone d.number d.lender_gone x.peers) (sym lender) (subst (λ n. IsAlone n d.lender_gone c.lender.peers) (sym number) (subst (λ b. IsAlone c.number b c.lender.peers) (sym left) h.alone)))
+    (subst (λ (x : Lender). IsAlone d.number d.lender_gone x.peers) (sym lender)
+    (subst (λ n. IsAlone n d.lender_gone c.lender.peers) (sym number) (subst (λ b. IsAlone c.number b c.lender.peers) (sym left) h.alone)))
 
 known_call : (s : Sizes) (ch : Channel) (c : FabricCall) → IsKnown s ch → IsKnown s (on_channel ch c).1
 known_call s ch (Connect m n) h = known_connected s ch n h
-known_call s ch (Send m p) h = cond_both ch.device_gone _ _ (λ (x : Sent × Channel). IsKnown s x.1) (λ _. h) (λ _. known_same s ch (record ch { to_lender = appended ch.to_lender p }) h refl refl refl)
+known_call s ch (Send m p) h =
+    cond_both ch.device_gone _ _ (λ (x : Sent × Channel). IsKnown s x.1) (λ _. h)
+    (λ _. known_same s ch (record ch { to_lender = appended ch.to_lender p }) h refl refl refl)
 known_call s ch (Take m) h = cond_both ch.device_gone _ _ (λ (x : Handed × Channel). IsKnown s x.1) (λ _. h) (λ _. from ch.to_device.parcels)
   where
     from : (ps : List Parcel) → IsKnown s (taken_from ch ps).1
-    from [] = cond_both ch.to_device.ended _ _ (λ (x : Handed × Channel). IsKnown s x.1) (λ _. known_same s ch (record ch { to_lender = ended ch.to_lender; device_gone = true }) h refl refl refl) (λ _. h)
+    from [] =
+        cond_both ch.to_device.ended _ _ (λ (x : Handed × Channel). IsKnown s x.1)
+        (λ _. known_same s ch (record ch { to_lender = ended ch.to_lender; device_gone = true }) h refl refl refl) (λ _. h)
     from (p ∷ ps) = known_same s ch (record ch { to_device = record ch.to_device { parcels = ps } }) h refl refl refl
 known_call s ch (End m) h = known_same s ch (on_channel ch (End m)).1 h refl refl refl
 known_call s ch (Give m) h = known_give s ch h
 known_call s ch (Cut m a b) h = known_same s ch (severed ch a b).1 h refl refl refl
 known_call s ch (Crash m) h =
-    cond_both ch.lender_gone _ _ (λ (x : Channel). IsKnown s x) (λ left. known_by s ch (record ch { lender = restart ch.lender }) h refl (subst (λ b. IsAlone ch.number b []) (sym left) refl))
-    (λ _. known_by s ch (record ch { lender = restart ch.lender; to_lender = cut ch.to_lender 0; to_device = ended ch.to_device; lender_gone = true }) h refl refl)
+    cond_both ch.lender_gone _ _ (λ (x : Channel). IsKnown s x)
+    (λ left. known_by s ch (record ch { lender = restart ch.lender }) h refl (subst (λ b. IsAlone ch.number b []) (sym left) refl))
+    (λ _.
+    known_by s ch (record ch { lender = restart ch.lender; to_lender = cut ch.to_lender 0; to_device = ended ch.to_device; lender_gone = true }) h refl refl)
 known_call s ch (Host m used word) h =
-    known_by s ch (on_channel ch (Host m used word)).1 h (host_lending ch.lender used word) (subst (λ ps. IsAlone ch.number ch.lender_gone ps) (sym (peers-host ch.lender used word)) h.alone)
+    known_by s ch (on_channel ch (Host m used word)).1 h (host_lending ch.lender used word)
+    (subst (λ ps. IsAlone ch.number ch.lender_gone ps) (sym (peers-host ch.lender used word)) h.alone)
 
 known_move : (f : Harbor) (c : FabricCall) (r : FabricAnswer c) (g : Harbor) → Moves f c r g → AllKnown f → AllKnown g
 known_move f c r g moved all l within =
@@ -412,7 +477,8 @@ known_move f c r g moved all l within =
     let keeps = moves_keep_of f c r g moved in
     let size : length g.channels ≡ length f.channels = ap (λ (o : FabricOf). o.lenders) keeps in
     subst (λ s. IsKnown s (channel_of g l)) (sym (ap (λ (o : FabricOf). o.sizes) keeps))
-    (subst Q moved.1 (through (IsKnown f.sizes) f c l moved.0 (all l (subst (λ n. l.0 < n) size within)) (λ _ h. known_call f.sizes (channel_of f (lender_of c)) c h)))
+    (subst Q moved.1
+    (through (IsKnown f.sizes) f c l moved.0 (all l (subst (λ n. l.0 < n) size within)) (λ _ h. known_call f.sizes (channel_of f (lender_of c)) c h)))
 
 -- lenders as they are made
 
@@ -426,7 +492,9 @@ made_reached h o made l within =
     let is = All-get_or (λ c. c ≡ new_channel h.sizes c.lender.lending.spec) h.channels l.0 (no_channel h.sizes) within made.channels in
     record { lending = lending_for h.sizes (channel_of h l).lender.lending.spec; calls = []; is = ap (λ (c : Channel). c.lender) is }
 
-pub made_at : (h : Harbor) (o : FabricOf) → IsFresh h o → (l : LenderNo) → l.0 < length h.channels → channel_of h l ≡ new_channel h.sizes (channel_of h l).lender.lending.spec
+pub made_at :
+    (h : Harbor) (o : FabricOf) → IsFresh h o → (l : LenderNo) → l.0 < length h.channels
+    → channel_of h l ≡ new_channel h.sizes (channel_of h l).lender.lending.spec
 made_at h o made l within = All-get_or (λ c. c ≡ new_channel h.sizes c.lender.lending.spec) h.channels l.0 (no_channel h.sizes) within made.channels
 
 made_sound : (h : Harbor) (o : FabricOf) → IsFresh h o → AreSound h
@@ -434,7 +502,10 @@ made_sound h o made = record {
   whole = made_slots h o made;
   reached = made_reached h o made;
   untold = λ l within. subst (λ (c : Channel). AsksUntold c.lender.round c.lender.slots) (sym (made_at h o made l within)) tt;
-  lodged = λ l within. subst Lodges (sym (made_at h o made l within)) (lodges_none (new_channel h.sizes (channel_of h l).lender.lending.spec) (restart_none (channel_of h l).lender.lending.spec.slots));
+  lodged =
+      λ l within.
+      subst Lodges (sym (made_at h o made l within))
+      (lodges_none (new_channel h.sizes (channel_of h l).lender.lending.spec) (restart_none (channel_of h l).lender.lending.spec.slots));
   known = λ l within. subst (IsKnown h.sizes) (sym (made_at h o made l within)) (record { alone = refl; one = refl; page_bytes = refl; pages_per_slab = refl });
 }
 

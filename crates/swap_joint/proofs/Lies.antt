@@ -59,14 +59,20 @@ use Rattle.swap_joint.proofs.Joins.{ServesAt}
 use Rattle.swap_joint.proofs.Takes.{FrontIs, taken_brings}
 
 -- the slab that is mapped by a lease is found
-mapped_found : (states : List SlabState) (l : Lender) (k : Lease) → AreSingle states → IsMappedAt states l k → (t : Slab) × (remote.mapped_by states l k ≡ Some t)
+mapped_found :
+    (states : List SlabState) (l : Lender) (k : Lease) → AreSingle states → IsMappedAt states l k → (t : Slab) × (remote.mapped_by states l k ≡ Some t)
 mapped_found states l k single (t, f, is) = go (position (λ state. has_lease l k state) states) refl
   where
     here : has_lease l k (slabs.state_of states t) ≡ true
     here = ap (has_lease l k) is ∙ has_own l k f
 
-    go : (o : Option ℕ) → position (λ state. has_lease l k state) states ≡ o → (t : Slab) × (remote.only_mapped states (option_map {U = Slab} (λ (i : ℕ). record { 0 = i }) o) ≡ Some t)
-    go None at = absurd (both_ways (has_lease l k (slabs.state_of states t)) (unleased states l k t (ap (λ (o : Option ℕ). option_map {U = Slab} (λ (i : ℕ). record { 0 = i }) o) at)) here)
+    go :
+        (o : Option ℕ) → position (λ state. has_lease l k state) states ≡ o
+        → (t : Slab) × (remote.only_mapped states (option_map {U = Slab} (λ (i : ℕ). record { 0 = i }) o) ≡ Some t)
+    go None at =
+        absurd
+        (both_ways (has_lease l k (slabs.state_of states t))
+        (unleased states l k t (ap (λ (o : Option ℕ). option_map {U = Slab} (λ (i : ℕ). record { 0 = i }) o) at)) here)
     go (Some i) at =
         let there = position-Some (λ state. has_lease l k state) states i Local at in
         let same : i ≡ t.0 = only_slab states l k t (record { 0 = i }) single here there.1 in
@@ -74,12 +80,16 @@ mapped_found states l k single (t, f, is) = go (position (λ state. has_lease l 
         (record { 0 = i }, cond-true (slabs.is_mapped (slabs.state_of states (record { 0 = i }))) (Some (record { 0 = i })) None (ap slabs.is_mapped state))
 
 -- no slab has a lease that none has
-unleased_found : (states : List SlabState) (l : Lender) (k : Lease) → ((t : Slab) → has_lease l k (slabs.state_of states t) ≡ false) → slabs.by_lease states l k ≡ None
+unleased_found :
+    (states : List SlabState) (l : Lender) (k : Lease) → ((t : Slab) → has_lease l k (slabs.state_of states t) ≡ false) → slabs.by_lease states l k ≡ None
 unleased_found states l k none = go (position (λ state. has_lease l k state) states) refl
   where
     go : (o : Option ℕ) → position (λ state. has_lease l k state) states ≡ o → option_map {U = Slab} (λ (i : ℕ). record { 0 = i }) o ≡ None
     go None at = refl
-    go (Some i) at = absurd (both_ways (has_lease l k (slabs.state_of states (record { 0 = i }))) (none (record { 0 = i })) (position-Some (λ state. has_lease l k state) states i Local at).1)
+    go (Some i) at =
+        absurd
+        (both_ways (has_lease l k (slabs.state_of states (record { 0 = i }))) (none (record { 0 = i }))
+        (position-Some (λ state. has_lease l k state) states i Local at).1)
 
 -- a message that is understood
 abbrev pub IsHeard : Option Heard → Type 0
@@ -88,7 +98,8 @@ IsHeard o = (x : Heard) × (o ≡ Some x)
 abbrev IsNew : Device → Lender → Msg → Type 0
 IsNew d l m = (k : Lease) → lends k m ≡ true → (t : Slab) → has_lease l k (slabs.state_of d.remote.slabs t) ≡ false
 
-answers_heard : (d : Device) (l : Lender) (q : Parcel) (x : Request) → Answers d.sizes d.remote.slabs l q x → IsNew d l q.msg → IsHeard (device.answered d l q (Some x))
+answers_heard :
+    (d : Device) (l : Lender) (q : Parcel) (x : Request) → Answers d.sizes d.remote.slabs l q x → IsNew d l q.msg → IsHeard (device.answered d l q (Some x))
 answers_heard d l q (Query t) answers new = go (query_reply q.msg) answers
   where
     go : (o : Option (Slab × ℕ)) → IsRoomFor t o → IsHeard (device.query_answered d l t o)
@@ -100,21 +111,33 @@ answers_heard d l q (Borrow t) answers new = go (borrow_reply q.msg) refl answer
     go None is h = absurd h
     go (Some (u, None)) is h = (_, cond-true (u.0 == t.0) _ None (eq-eqb u.0 t.0 h))
     go (Some (u, Some k)) is h =
-        let free : slabs.by_lease d.remote.slabs l k ≡ None = unleased_found d.remote.slabs l k (new k (lends_reply q.msg u k k is ∙ eq-eqb k.0 k.0 refl)) in
-        (_, cond-true (u.0 == t.0) _ None (eq-eqb u.0 t.0 h) ∙ cond-true (is_none (slabs.by_lease d.remote.slabs l k)) _ None (ap (λ (o : Option Slab). is_none o) free))
+        let free : slabs.by_lease d.remote.slabs l k ≡ None = unleased_found d.remote.slabs l k (new k (lends_reply q.msg u k k is ∙ eq-eqb k.0 k.0 refl)) in (
+          _,
+          cond-true (u.0 == t.0) _ None (eq-eqb u.0 t.0 h)
+              ∙ cond-true (is_none (slabs.by_lease d.remote.slabs l k)) _ None (ap (λ (o : Option Slab). is_none o) free),
+        )
 answers_heard d l q (Write p e) answers new = go (write_reply q.msg) answers
   where
     go : (o : Option (Lease × ℕ)) → Names d.sizes d.remote.slabs l p o → IsHeard (device.write_answered d l p e o)
     go None h = absurd h
-    go (Some at) h = (_, cond-true (remote.names_page d.sizes d.remote l p at.0 at.1) _ None (and_from (has_lease l at.0 (state_for d.sizes d.remote.slabs p)) (place_of d.sizes p.0 == at.1) h.0 (eq-eqb (place_of d.sizes p.0) at.1 h.1)))
+    go (Some at) h = (
+      _,
+      cond-true (remote.names_page d.sizes d.remote l p at.0 at.1) _ None
+          (and_from (has_lease l at.0 (state_for d.sizes d.remote.slabs p)) (place_of d.sizes p.0 == at.1) h.0 (eq-eqb (place_of d.sizes p.0) at.1 h.1)),
+    )
 answers_heard d l q (Read c p) answers new = go (read_reply q.msg) answers
   where
     go : (o : Option (Lease × ℕ)) → Names d.sizes d.remote.slabs l p o → IsHeard (device.read_answered d l c p q.page o)
     go None h = absurd h
-    go (Some at) h = (_, cond-true (remote.names_page d.sizes d.remote l p at.0 at.1) _ None (and_from (has_lease l at.0 (state_for d.sizes d.remote.slabs p)) (place_of d.sizes p.0 == at.1) h.0 (eq-eqb (place_of d.sizes p.0) at.1 h.1)))
+    go (Some at) h = (
+      _,
+      cond-true (remote.names_page d.sizes d.remote l p at.0 at.1) _ None
+          (and_from (has_lease l at.0 (state_for d.sizes d.remote.slabs p)) (place_of d.sizes p.0 == at.1) h.0 (eq-eqb (place_of d.sizes p.0) at.1 h.1)),
+    )
 
 -- the front of what is under way to a device
-module _ (d : Device) (l : Lender) (c : Channel) (q : Parcel) (qs : List Parcel) (joined : Joined d l c) (turned : Turned d.remote.slabs l c) (single : AreSingle d.remote.slabs) (front : c.to_device.parcels ≡ q ∷ qs) where
+module _ (d : Device) (l : Lender) (c : Channel) (q : Parcel) (qs : List Parcel) (joined : Joined d l c) (turned : Turned d.remote.slabs l c)
+    (single : AreSingle d.remote.slabs) (front : c.to_device.parcels ≡ q ∷ qs) where
   new : IsNew d l q.msg
   new k e t = joined.loans.fresh k t (ap (lends_in k) front ∙ ap (λ b. b || lends_in k qs) e)
 
@@ -126,8 +149,12 @@ module _ (d : Device) (l : Lender) (c : Channel) (q : Parcel) (qs : List Parcel)
   pub front_heard : IsHeard (heard d l q (oldest (ring_of d.remote.links l)))
   front_heard = go q.msg refl (subst (λ ps. InTurn (λ k. IsMappedAt d.remote.slabs l k) ps) front turned.turn).0
     where
-      by_msg : (m : Msg) → q.msg ≡ m → IsHeard (device.heard_by d l q (oldest (ring_of d.remote.links l)) (device.rate_asked m) (device.taken_back m)) → IsHeard (heard d l q (oldest (ring_of d.remote.links l)))
-      by_msg m is h = let P : Msg → Type 0 = λ m. IsHeard (device.heard_by d l q (oldest (ring_of d.remote.links l)) (device.rate_asked m) (device.taken_back m)) in subst P (sym is) h
+      by_msg :
+          (m : Msg) → q.msg ≡ m → IsHeard (device.heard_by d l q (oldest (ring_of d.remote.links l)) (device.rate_asked m) (device.taken_back m))
+          → IsHeard (heard d l q (oldest (ring_of d.remote.links l)))
+      by_msg m is h =
+          let P : Msg → Type 0 = λ m. IsHeard (device.heard_by d l q (oldest (ring_of d.remote.links l)) (device.rate_asked m) (device.taken_back m)) in
+          subst P (sym is) h
 
       is_reply_of : (m : Msg) → q.msg ≡ m → is_reply m ≡ true → is_reply q.msg ≡ true
       is_reply_of m is e = ap is_reply is ∙ e
@@ -157,36 +184,66 @@ ends_it (gave.Ended msg) = true
 ends_it _ = false
 
 module _ {D : Type 0} (disk_moves : D → (c : DiskCall) → DiskAnswer c → D → Type 0) where
-  answered_by : {A B : Type 0} (f : A → B) (p : Prog A) (k k' : D) (h h' : Harbor) (b : B) → Along disk_moves harbor.Moves (answering f p) k h k' h' b → (a : A) × (b ≡ f a)
+  answered_by :
+      {A B : Type 0} (f : A → B) (p : Prog A) (k k' : D) (h h' : Harbor) (b : B) → Along disk_moves harbor.Moves (answering f p) k h k' h' b
+      → (a : A) × (b ≡ f a)
   answered_by f (Ret a) k k' h h' b along = (a, along.2)
   answered_by f (AskDisk c next) k k' h h' b along = answered_by f (next along.0) along.1 k' h h' b along.3
   answered_by f (AskFabric c next) k k' h h' b along = answered_by f (next along.0) k k' along.1 h' b along.3
 
-  answered_twice : {A B C : Type 0} (f : A → B) (g : B → C) (p : Prog A) (k k' : D) (h h' : Harbor) (x : C) → Along disk_moves harbor.Moves (answering g (answering f p)) k h k' h' x → (a : A) × (x ≡ g (f a))
+  answered_twice :
+      {A B C : Type 0} (f : A → B) (g : B → C) (p : Prog A) (k k' : D) (h h' : Harbor) (x : C)
+      → Along disk_moves harbor.Moves (answering g (answering f p)) k h k' h' x → (a : A) × (x ≡ g (f a))
   answered_twice f g (Ret a) k k' h h' x along = (a, along.2)
   answered_twice f g (AskDisk c next) k k' h h' x along = answered_twice f g (next along.0) along.1 k' h h' x along.3
   answered_twice f g (AskFabric c next) k k' h h' x along = answered_twice f g (next along.0) k k' along.1 h' x along.3
 
-  honest_by : {R : Type 0} (see : R → Seen) (p : Prog (Device × R)) (d' : Device) (k k' : D) (h h' : Harbor) (s : Seen) → ((r : R) → is_unfair (see r) ≡ false) → Along disk_moves harbor.Moves {A = Device × Seen} (answering (λ (r : Device × R). (r.0, see r.1)) p) k h k' h' (d', s) → is_unfair s ≡ false
-  honest_by see p d' k k' h h' s each along = let was = answered_by (λ r. (r.0, see r.1)) p k k' h h' (d', s) along in ap (λ (x : Device × Seen). is_unfair x.1) was.1 ∙ each was.0.1
+  honest_by :
+      {R : Type 0} (see : R → Seen) (p : Prog (Device × R)) (d' : Device) (k k' : D) (h h' : Harbor) (s : Seen) → ((r : R) → is_unfair (see r) ≡ false)
+      → Along disk_moves harbor.Moves {A = Device × Seen} (answering (λ (r : Device × R). (r.0, see r.1)) p) k h k' h' (d', s) → is_unfair s ≡ false
+  honest_by see p d' k k' h h' s each along =
+      let was = answered_by (λ r. (r.0, see r.1)) p k k' h h' (d', s) along in ap (λ (x : Device × Seen). is_unfair x.1) was.1 ∙ each was.0.1
 
-  took_honest : (d d' : Device) (k k' : D) (h mid h' : Harbor) (l : Lender) (r : Handed) (s : Seen) → ((q : Parcel) → r ≡ Brought q → IsHeard (heard d l q (oldest (ring_of d.remote.links l)))) → Along disk_moves harbor.Moves {A = Device × Seen} (answering (λ (r : Device × LinkStep). (r.0, see_take r.1)) (device.took_from d l r)) k mid k' h' (d', s) → is_unfair s ≡ false
+  took_honest :
+      (d d' : Device) (k k' : D) (h mid h' : Harbor) (l : Lender) (r : Handed) (s : Seen)
+      → ((q : Parcel) → r ≡ Brought q → IsHeard (heard d l q (oldest (ring_of d.remote.links l))))
+      → Along disk_moves harbor.Moves {A = Device × Seen} (answering (λ (r : Device × LinkStep). (r.0, see_take r.1)) (device.took_from d l r)) k mid k' h'
+      (d', s)
+      → is_unfair s ≡ false
   took_honest d d' k k' h mid h' l NothingCame s each along = ap (λ (x : Device × Seen). is_unfair x.1) along.2
   took_honest d d' k k' h mid h' l LinkLost s each along =
-      let twice = answered_twice (device.with_step link.Lost) (λ (r : Device × LinkStep). (r.0, see_take r.1)) (device.lose d l) k k' mid h' (d', s) along in ap (λ (x : Device × Seen). is_unfair x.1) twice.1
+      let twice = answered_twice (device.with_step link.Lost) (λ (r : Device × LinkStep). (r.0, see_take r.1)) (device.lose d l) k k' mid h' (d', s) along in
+      ap (λ (x : Device × Seen). is_unfair x.1) twice.1
   took_honest d d' k k' h mid h' l (Brought q) s each along =
       let x = each q refl in
-      let P : Option Heard → Type 0 = λ o. Along disk_moves harbor.Moves {A = Device × Seen} (answering (λ (r : Device × LinkStep). (r.0, see_take r.1)) (device.understood d l q.msg o)) k mid k' h' (d', s) in
-      let twice = answered_twice (device.with_step (link.Got q.msg)) (λ (r : Device × LinkStep). (r.0, see_take r.1)) (device.follow x.0 l) k k' mid h' (d', s) (subst P x.1 along) in
+      let P : Option Heard
+      → Type 0 =
+      λ o.
+      Along disk_moves harbor.Moves {A = Device × Seen}
+      (answering (λ (r : Device × LinkStep). (r.0, see_take r.1)) (device.understood d l q.msg o)) k mid k' h' (d', s) in
+      let twice =
+      answered_twice (device.with_step (link.Got q.msg)) (λ (r : Device × LinkStep). (r.0, see_take r.1)) (device.follow x.0 l) k k' mid h' (d', s)
+      (subst P x.1 along) in
       ap (λ (x : Device × Seen). is_unfair x.1) twice.1
 
-  link_honest : (d d' : Device) (k k' : D) (h h' : Harbor) (l : Lender) (s : Seen) → ((q : Parcel) (g : Harbor) → is_up d.remote.links l ≡ true → harbor.Moves h (Take l) (Brought q) g → IsHeard (heard d l q (oldest (ring_of d.remote.links l))))
-      → Along disk_moves harbor.Moves {A = Device × Seen} (answering (λ (r : Device × LinkStep). (r.0, see_take r.1)) (device.link_take d l)) k h k' h' (d', s) → is_unfair s ≡ false
+  link_honest :
+      (d d' : Device) (k k' : D) (h h' : Harbor) (l : Lender) (s : Seen)
+      → ((q : Parcel) (g : Harbor) → is_up d.remote.links l ≡ true → harbor.Moves h (Take l) (Brought q) g
+      → IsHeard (heard d l q (oldest (ring_of d.remote.links l))))
+      → Along disk_moves harbor.Moves {A = Device × Seen} (answering (λ (r : Device × LinkStep). (r.0, see_take r.1)) (device.link_take d l)) k h k' h' (d', s)
+      → is_unfair s ≡ false
   link_honest d d' k k' h h' l s each = go (is_up d.remote.links l) refl
     where
-      go : (b : Bool) → is_up d.remote.links l ≡ b → Along disk_moves harbor.Moves {A = Device × Seen} (answering (λ (r : Device × LinkStep). (r.0, see_take r.1)) (cond b (AskFabric (Take l) (device.took_from d l)) (Ret (d, link.Nothing)))) k h k' h' (d', s) → is_unfair s ≡ false
+      go :
+          (b : Bool) → is_up d.remote.links l ≡ b
+          → Along disk_moves harbor.Moves {A = Device × Seen}
+          (answering (λ (r : Device × LinkStep). (r.0, see_take r.1)) (cond b (AskFabric (Take l) (device.took_from d l)) (Ret (d, link.Nothing)))) k h k' h'
+          (d', s)
+          → is_unfair s ≡ false
       go false down along = ap (λ (x : Device × Seen). is_unfair x.1) along.2
-      go true up along = took_honest d d' k k' h along.1 h' l along.0 s (λ q is. each q along.1 up (subst (λ (r : Handed). harbor.Moves h (Take l) r along.1) is along.2)) along.3
+      go true up along =
+          took_honest d d' k k' h along.1 h' l along.0 s
+          (λ q is. each q along.1 up (subst (λ (r : Handed). harbor.Moves h (Take l) r along.1) is along.2)) along.3
 
   -- of each kind of event
   see_out_honest : (r : OutStep) → is_unfair (see_out r) ≡ false
@@ -253,16 +310,27 @@ module _ {D : Type 0} (disk_moves : D → (c : DiskCall) → DiskAnswer c → D 
   taken_honest d true k h s (d', k', h', along) = honest_by see_disk (device.disk_take d) d' k k' h h' s see_disk_honest along
   taken_honest d false k h s (d', k', h', along) = ap (λ (x : Device × Seen). is_unfair x.1) along.2
 
-  either : (b : Bool) (p q : Prog (Device × Seen)) (k : D) (h : Harbor) (s : Seen) → (Gives p k h s → is_unfair s ≡ false) → (Gives q k h s → is_unfair s ≡ false) → Gives (cond b p q) k h s → is_unfair s ≡ false
+  either :
+      (b : Bool) (p q : Prog (Device × Seen)) (k : D) (h : Harbor) (s : Seen) → (Gives p k h s → is_unfair s ≡ false) → (Gives q k h s → is_unfair s ≡ false)
+      → Gives (cond b p q) k h s → is_unfair s ≡ false
   either true p q k h s one two = one
   either false p q k h s one two = two
 
   -- no event of a device sees a lie where each message that comes is understood
-  pub event_honest : (d : Device) (page : List ℕ) (e : Event) (k : D) (h : Harbor) (s : Seen) → ((l : Lender) (q : Parcel) (g : Harbor) → is_up d.remote.links l ≡ true → harbor.Moves h (Take l) (Brought q) g → IsHeard (heard d l q (oldest (ring_of d.remote.links l)))) → ((l : Lender) (r : Gave) (g : Harbor) → harbor.Moves h (Give l) r g → ends_it r ≡ false) → Gives (happens d page e) k h s → is_unfair s ≡ false
+  pub event_honest :
+      (d : Device) (page : List ℕ) (e : Event) (k : D) (h : Harbor) (s : Seen)
+      → ((l : Lender) (q : Parcel) (g : Harbor) → is_up d.remote.links l ≡ true → harbor.Moves h (Take l) (Brought q) g
+      → IsHeard (heard d l q (oldest (ring_of d.remote.links l))))
+      → ((l : Lender) (r : Gave) (g : Harbor) → harbor.Moves h (Give l) r g → ends_it r ≡ false) → Gives (happens d page e) k h s → is_unfair s ≡ false
   event_honest d page (event.PageOut c p) k h s each fair given =
-      either (is_idle (state_of d.calls c)) _ _ k h s (λ g. honest_by see_out (device.out d c p page) g.0 k g.1 h g.2 s see_out_honest g.3) (λ g. ap (λ (x : Device × Seen). is_unfair x.1) g.3.2) given
-  event_honest d page (event.PageIn c p) k h s each fair given = either (is_idle (state_of d.calls c)) _ _ k h s (λ g. honest_by see_in (device.read d c p) g.0 k g.1 h g.2 s see_in_honest g.3) (λ g. ap (λ (x : Device × Seen). is_unfair x.1) g.3.2) given
-  event_honest d page (event.Finish c) k h s each fair given = either (is_idle (state_of d.calls c)) _ _ k h s (λ g. ap (λ (x : Device × Seen). is_unfair x.1) g.3.2) (λ g. honest_by see_step (device.finish d c) g.0 k g.1 h g.2 s see_step_honest g.3) given
+      either (is_idle (state_of d.calls c)) _ _ k h s (λ g. honest_by see_out (device.out d c p page) g.0 k g.1 h g.2 s see_out_honest g.3)
+      (λ g. ap (λ (x : Device × Seen). is_unfair x.1) g.3.2) given
+  event_honest d page (event.PageIn c p) k h s each fair given =
+      either (is_idle (state_of d.calls c)) _ _ k h s (λ g. honest_by see_in (device.read d c p) g.0 k g.1 h g.2 s see_in_honest g.3)
+      (λ g. ap (λ (x : Device × Seen). is_unfair x.1) g.3.2) given
+  event_honest d page (event.Finish c) k h s each fair given =
+      either (is_idle (state_of d.calls c)) _ _ k h s (λ g. ap (λ (x : Device × Seen). is_unfair x.1) g.3.2)
+      (λ g. honest_by see_step (device.finish d c) g.0 k g.1 h g.2 s see_step_honest g.3) given
   event_honest d page event.Start k h s each fair g = honest_by see_start (device.disk_start d) g.0 k g.1 h g.2 s see_start_honest g.3
   event_honest d page (event.Disk which ok) k h s each fair g = taken_honest d g.3.0 g.3.1 h s (g.0, g.1, g.2, g.3.3)
   event_honest d page (event.Tick word) k h s each fair g = honest_by see_tick (device.tick d word) g.0 k g.1 h g.2 s see_tick_honest g.3
@@ -276,7 +344,9 @@ module _ {D : Type 0} (disk_moves : D → (c : DiskCall) → DiskAnswer c → D 
   event_honest d page _ k h s each fair g = ap (λ (x : Device × Seen). is_unfair x.1) g.3.2
 
 -- so of a device that is joined with its lenders, and whose messages may be taken in turn
-pub understood : (n : ℕ) (d : Device) (h : Harbor) → ServesAt n d h → AllJoined n d h → AllTurned n d h → (l : Lender) (q : Parcel) (g : Harbor) → is_up d.remote.links l ≡ true → harbor.Moves h (Take l) (Brought q) g → IsHeard (heard d l q (oldest (ring_of d.remote.links l)))
+pub understood :
+    (n : ℕ) (d : Device) (h : Harbor) → ServesAt n d h → AllJoined n d h → AllTurned n d h → (l : Lender) (q : Parcel) (g : Harbor)
+    → is_up d.remote.links l ≡ true → harbor.Moves h (Take l) (Brought q) g → IsHeard (heard d l q (oldest (ring_of d.remote.links l)))
 understood n d h serves joined turned l q g up moved =
     let within : l.0 < n = (serves.link l).lender up in
     let here : Joined d l (channel_of h l) = joined l within up in

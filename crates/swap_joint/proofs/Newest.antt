@@ -56,11 +56,15 @@ front_none p (x ∷ xs) ys e =
     ap (λ o. first_of o (entry_to p x)) (front_none p xs ys parts.0) ∙ parts.1
 
 -- a request that doesn't write the page replaces nothing of it
-carried_apart : (s : Sizes) (H : History) (states : List SlabState) (l : Lender) (p : Page) (k : Lease) (q : Parcel) (x : Request) → AreSingle states → has_lease l k (state_for s states p) ≡ true → Carries s H states l q x → entry_to p x ≡ None → replaces k (place_of s p.0) q.msg ≡ false
+carried_apart :
+    (s : Sizes) (H : History) (states : List SlabState) (l : Lender) (p : Page) (k : Lease) (q : Parcel) (x : Request) → AreSingle states
+    → has_lease l k (state_for s states p) ≡ true → Carries s H states l q x → entry_to p x ≡ None → replaces k (place_of s p.0) q.msg ≡ false
 carried_apart s H states l p k q (Query t) single at h none = ap (λ (r : Parcel). replaces k (place_of s p.0) r.msg) h
 carried_apart s H states l p k q (Borrow t) single at h none = ap (λ (r : Parcel). replaces k (place_of s p.0) r.msg) h
 carried_apart s H states l p k q (Read c o) single at h none = ap (λ (r : Parcel). replaces k (place_of s p.0) r.msg) h.1
-carried_apart s H states l p k q (Write o e) single at h none = ap (λ (r : Parcel). replaces k (place_of s p.0) r.msg) h.1 ∙ elsewhere s states l p o k h.0 single at h.2 (λ same. some_none (sym (ap (λ b. cond b (Some e) None) (eq-eqb o.0 p.0 same)) ∙ none))
+carried_apart s H states l p k q (Write o e) single at h none =
+    ap (λ (r : Parcel). replaces k (place_of s p.0) r.msg) h.1
+    ∙ elsewhere s states l p o k h.0 single at h.2 (λ same. some_none (sym (ap (λ b. cond b (Some e) None) (eq-eqb o.0 p.0 same)) ∙ none))
   where
     some_none : Some e ≡ None → ⊥
     some_none e = cc
@@ -83,28 +87,40 @@ or_none true b x y = cc
 or_none false b x y = y
 
 -- no message under way to the lender replaces what it holds of a page without a write under way
-nothing_replaces : (s : Sizes) (H : History) (states : List SlabState) (l : Lender) (p : Page) (k : Lease) (ps : List Parcel) (us : List Request) → AreSingle states → has_lease l k (state_for s states p) ≡ true → Pairwise (Carries s H states l) (filter asks_by ps) us → (gives_back k ps ≡ true → ⊥) → latest p us ≡ None
+nothing_replaces :
+    (s : Sizes) (H : History) (states : List SlabState) (l : Lender) (p : Page) (k : Lease) (ps : List Parcel) (us : List Request) → AreSingle states
+    → has_lease l k (state_for s states p) ≡ true → Pairwise (Carries s H states l) (filter asks_by ps) us → (gives_back k ps ≡ true → ⊥) → latest p us ≡ None
     → list_any (λ (q : Parcel). replaces k (place_of s p.0) q.msg) ps ≡ false
 nothing_replaces s H states l p k [] us single at pairs kept none = refl
-nothing_replaces s H states l p k (q ∷ ps) us single at pairs kept none = go (is_request q.msg) refl (λ rest h clear. nothing_replaces s H states l p k ps rest single at h (λ e. kept (or_second (is_done k q.msg) (gives_back k ps) e)) clear)
+nothing_replaces s H states l p k (q ∷ ps) us single at pairs kept none =
+    go (is_request q.msg) refl
+    (λ rest h clear. nothing_replaces s H states l p k ps rest single at h (λ e. kept (or_second (is_done k q.msg) (gives_back k ps) e)) clear)
   where
-    go : (b : Bool) → is_request q.msg ≡ b → ((rest : List Request) → Pairwise (Carries s H states l) (filter asks_by ps) rest → latest p rest ≡ None → list_any (λ (q : Parcel). replaces k (place_of s p.0) q.msg) ps ≡ false)
+    go :
+        (b : Bool) → is_request q.msg ≡ b
+        → ((rest : List Request) → Pairwise (Carries s H states l) (filter asks_by ps) rest → latest p rest ≡ None
+        → list_any (λ (q : Parcel). replaces k (place_of s p.0) q.msg) ps ≡ false)
         → (replaces k (place_of s p.0) q.msg || list_any (λ (q : Parcel). replaces k (place_of s p.0) q.msg) ps) ≡ false
     go false plain later =
         or_none (replaces k (place_of s p.0) q.msg) _ (plain_apart k (place_of s p.0) q.msg plain (λ e. kept (or_true (is_done k q.msg) (gives_back k ps) e)))
         (later us (subst (λ zs. Pairwise (Carries s H states l) zs us) (filter-drops asks_by q ps plain) pairs) none)
     go true asks later =
-        let f : First (Carries s H states l) q (filter asks_by ps) us = pairs-first (Carries s H states l) q (filter asks_by ps) us (subst (λ zs. Pairwise (Carries s H states l) zs us) (filter-first asks_by q ps asks) pairs) in
+        let f : First (Carries s H states l) q (filter asks_by ps) us =
+        pairs-first (Carries s H states l) q (filter asks_by ps) us
+        (subst (λ zs. Pairwise (Carries s H states l) zs us) (filter-first asks_by q ps asks) pairs) in
         let parts = both_none (latest p f.rest) (entry_to p f.one) (ap (latest p) (sym f.is) ∙ none) in
         or_none (replaces k (place_of s p.0) q.msg) _ (carried_apart s H states l p k q f.one single at f.here parts.1) (later f.rest f.there parts.0)
 
 pub joined_is_newest : (n : ℕ) (d : Device) (h : Harbor) → AllJoined n d h → ServesAt n d h → IsNewest d h
-joined_is_newest n d h all serves p set = go (state_for d.sizes d.remote.slabs p) refl (serves.page p within) (serves.slab (slab_for d.sizes p) (slab_within d.sizes p.0 within))
+joined_is_newest n d h all serves p set =
+    go (state_for d.sizes d.remote.slabs p) refl (serves.page p within) (serves.slab (slab_for d.sizes p) (slab_within d.sizes p.0 within))
   where
     within : p.0 < pages_of d.sizes
     within = subst (λ m. p.0 < m) serves.bits_len (bit_within d.remote.bits p.0 set)
 
-    go : (x : SlabState) → state_for d.sizes d.remote.slabs p ≡ x → PageFits (KeepsAt h) d.sizes d.history d.remote.links p (has_page d.remote p) x → SlabFits d.sizes d.remote.links (slab_for d.sizes p) x → IsNewestAt d h p x
+    go :
+        (x : SlabState) → state_for d.sizes d.remote.slabs p ≡ x → PageFits (KeepsAt h) d.sizes d.history d.remote.links p (has_page d.remote p) x
+        → SlabFits d.sizes d.remote.links (slab_for d.sizes p) x → IsNewestAt d h p x
     go Local is fits slab = both_ways (has_page d.remote p) fits set
     go (Asking pair) is fits slab = both_ways (has_page d.remote p) fits set
     go (Borrowing l) is fits slab = both_ways (has_page d.remote p) fits set
@@ -118,9 +134,12 @@ joined_is_newest n d h all serves p set = go (state_for d.sizes d.remote.slabs p
           unless-map (channel_of h l).lender_gone _ _ (λ (k' : Stored d.sizes d.history d.remote.slabs d.remote.bits l (channel_of h l) (served_of j.order)). (
             k'.readable p k at set,
             none,
-            nothing_replaces d.sizes d.history d.remote.slabs l p k (channel_of h l).to_lender.parcels j.order.under_way serves.single at (pairs-implies (Asked d.sizes d.history d.calls d.remote.slabs l (channel_of h l)) (Carries d.sizes d.history d.remote.slabs l) (filter asks_by (channel_of h l).to_lender.parcels) j.order.under_way (λ q x k. k.0) j.order.requests)
+            nothing_replaces d.sizes d.history d.remote.slabs l p k (channel_of h l).to_lender.parcels j.order.under_way serves.single at
+                (pairs-implies (Asked d.sizes d.history d.calls d.remote.slabs l (channel_of h l)) (Carries d.sizes d.history d.remote.slabs l)
+                (filter asks_by (channel_of h l).to_lender.parcels) j.order.under_way (λ q x k. k.0) j.order.requests)
                 (λ e. both_ways (has_lease l k (state_for d.sizes d.remote.slabs p)) ((k'.given k e).unleased (slab_for d.sizes p)) at)
-                (front_none p j.order.under_way j.order.dropped (back_none p (served_of j.order) (j.order.under_way ++ j.order.dropped) (ap (latest p) (sym j.order.in_four) ∙ none))),
+                (front_none p j.order.under_way j.order.dropped
+                (back_none p (served_of j.order) (j.order.under_way ++ j.order.dropped) (ap (latest p) (sym j.order.in_four) ∙ none))),
           )) j.stored,
         )
 
@@ -128,9 +147,13 @@ joined_is_newest n d h all serves p set = go (state_for d.sizes d.remote.slabs p
 pub joined_have_slots : (n : ℕ) (d : Device) (h : Harbor) → AllJoined n d h → ServesAt n d h → HaveTheirSlots d h
 joined_have_slots n d h all serves t within = go (slabs.state_of d.remote.slabs t) refl (serves.slab t within)
   where
-    seat : (l : Lender) (k : Lease) → has_lease l k (slabs.state_of d.remote.slabs t) ≡ true → is_up d.remote.links l ≡ true → Unless (channel_of h l).lender_gone (HasSeat (channel_of h l).lender (channel_of h l).number k t)
+    seat :
+        (l : Lender) (k : Lease) → has_lease l k (slabs.state_of d.remote.slabs t) ≡ true → is_up d.remote.links l ≡ true
+        → Unless (channel_of h l).lender_gone (HasSeat (channel_of h l).lender (channel_of h l).number k t)
     seat l k at up =
-        let j : Joined d l (channel_of h l) = all l ((serves.link l).lender up) up in unless-map (channel_of h l).lender_gone _ _ (λ (k' : Stored d.sizes d.history d.remote.slabs d.remote.bits l (channel_of h l) (served_of j.order)). k'.leased t k at) j.stored
+        let j : Joined d l (channel_of h l) = all l ((serves.link l).lender up) up in
+        unless-map (channel_of h l).lender_gone _ _
+        (λ (k' : Stored d.sizes d.history d.remote.slabs d.remote.bits l (channel_of h l) (served_of j.order)). k'.leased t k at) j.stored
 
     go : (x : SlabState) → slabs.state_of d.remote.slabs t ≡ x → SlabFits d.sizes d.remote.links t x → HasItsSlot d h t x
     go Local is fits = tt

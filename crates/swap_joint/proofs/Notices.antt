@@ -54,7 +54,10 @@ pub given_asked : (r : Round) (set i : ℕ) → ready r ≡ Some set → has set
 given_asked r set i is e = go (waiting r == 0) is
   where
     standing_asked : has (standing r) i ≡ true → has r.asked i ≡ true
-    standing_asked h = both_first (has r.asked i) (has r.answered i) (sym (has-and r.asked r.answered i) ∙ both_first (has (bit_and r.asked r.answered) i) _ (sym (has-and (bit_and r.asked r.answered) (bit_not w64 r.gone) i) ∙ h))
+    standing_asked h =
+        both_first (has r.asked i) (has r.answered i)
+        (sym (has-and r.asked r.answered i)
+        ∙ both_first (has (bit_and r.asked r.answered) i) _ (sym (has-and (bit_and r.asked r.answered) (bit_not w64 r.gone) i) ∙ h))
 
     go : (b : Bool) → cond b (Some (least_of r.values (standing r) (min r.count (size (standing r))))) None ≡ Some set → has r.asked i ≡ true
     go true same =
@@ -62,7 +65,8 @@ given_asked r set i is e = go (waiting r == 0) is
         standing_asked (least_among r.values (standing r) (min r.count (size (standing r))) i (subst (λ s. has s i ≡ true) (sym one) e))
     go false same = cc
 
-pub due_asked : (o : Option Round) (slots : List SlotState) (set i : ℕ) → AsksUntold o slots → due o ≡ Some set → has set i ≡ true → is_evicting (slot_in slots i) ≡ false
+pub due_asked :
+    (o : Option Round) (slots : List SlotState) (set i : ℕ) → AsksUntold o slots → due o ≡ Some set → has set i ≡ true → is_evicting (slot_in slots i) ≡ false
 due_asked None slots set i h is e = cc
 due_asked (Some r) slots set i h is e = h i (given_asked r set i is e)
 
@@ -74,7 +78,9 @@ differ_of l sound i j n m t u k o e f a b same = sound.differ i j k.0 (leased i 
     leased i n t k e is = ap lease_of is
 
 -- a slot that stays once some were marked was there before, and isn't of the set
-unmarked : (set from : ℕ) (slots : List SlotState) (i : ℕ) (n : Link) (t : Slab) (k : Lease) → slot_in (marked set from slots) i ≡ Held n t k false → (slot_in slots i ≡ Held n t k false) × (has set (from + i) ≡ false)
+unmarked :
+    (set from : ℕ) (slots : List SlotState) (i : ℕ) (n : Link) (t : Slab) (k : Lease) → slot_in (marked set from slots) i ≡ Held n t k false
+    → (slot_in slots i ≡ Held n t k false) × (has set (from + i) ≡ false)
 unmarked set from [] i n t k e = cc
 unmarked set from (s ∷ ss) zero n t k e = go (has set from) refl s e
   where
@@ -92,7 +98,9 @@ unmarked set from (s ∷ ss) zero n t k e = go (has set from) refl s e
 unmarked set from (s ∷ ss) (suc i) n t k e = let rest = unmarked set (from + 1) ss i n t k e in (rest.0, subst (λ m. has set m ≡ false) (omega arith) rest.1)
 
 -- a round is closed, or stays
-pub settle_turns : (M : Lease → Type 0) (n : Link) (l : Lender) (o : Option ℕ) (b : Lane) → Differ l.slots → ((set i : ℕ) → o ≡ Some set → has set i ≡ true → is_evicting (slot_in l.slots i) ≡ false) → InTurn M b.parcels → Stays M l.slots b
+pub settle_turns :
+    (M : Lease → Type 0) (n : Link) (l : Lender) (o : Option ℕ) (b : Lane) → Differ l.slots
+    → ((set i : ℕ) → o ≡ Some set → has set i ≡ true → is_evicting (slot_in l.slots i) ≡ false) → InTurn M b.parcels → Stays M l.slots b
     → InTurn M (forwarded n b (settle_with l o).parcels).parcels × Stays M (settle_with l o).lender.slots (forwarded n b (settle_with l o).parcels)
 settle_turns M n l None b differ untold h stays = (h, stays)
 settle_turns M n l (Some set) b differ untold h stays = (
@@ -101,24 +109,30 @@ settle_turns M n l (Some set) b differ untold h stays = (
       let was = unmarked set 0 l.slots i m t k held in
       evicts_after M n set 0 l.slots b k (λ j m' t' k' e inside at same.
       let one : j ≡ i = differ j i m' m t' t k' k e false at was.0 same in
-      both_ways (has set i) (subst (λ x. has set x ≡ false) (omega arith) was.1) (subst (λ x. has set x ≡ true) one (subst (λ x. has set x ≡ true) (omega arith) inside))) (λ e. stays e i m t k was.0) open_,
+      both_ways (has set i) (subst (λ x. has set x ≡ false) (omega arith) was.1)
+      (subst (λ x. has set x ≡ true) one (subst (λ x. has set x ≡ true) (omega arith) inside)))
+      (λ e. stays e i m t k was.0) open_,
 )
   where
     evicting_is : (x : SlotState) (m : Link) (t : Slab) (k : Lease) (e : Bool) → x ≡ Held m t k e → is_evicting x ≡ false → x ≡ Held m t k false
     evicting_is x m t k e is off = is ∙ ap (λ b. Held m t k b) (sym (ap is_evicting is) ∙ off)
 
     ready_ : Ready M set 0 l.slots b
-    ready_ open_ i m t k e inside held = stays open_ i m t k (evicting_is (slot_in l.slots i) m t k e held (untold set i refl (subst (λ x. has set x ≡ true) (omega arith) inside)))
+    ready_ open_ i m t k e inside held =
+        stays open_ i m t k (evicting_is (slot_in l.slots i) m t k e held (untold set i refl (subst (λ x. has set x ≡ true) (omega arith) inside)))
 
 -- a message is served that is no request
-pub serve_turns : (M : Lease → Type 0) (n : Link) (l : Lender) (m : Msg) (page : List ℕ) (b : Lane) → is_request m ≡ false → IsSound l → AsksUntold l.round l.slots → InTurn M b.parcels → Stays M l.slots b
+pub serve_turns :
+    (M : Lease → Type 0) (n : Link) (l : Lender) (m : Msg) (page : List ℕ) (b : Lane) → is_request m ≡ false → IsSound l → AsksUntold l.round l.slots
+    → InTurn M b.parcels → Stays M l.slots b
     → InTurn M (forwarded n b (serve l n m page).parcels).parcels × Stays M (serve l n m page).lender.slots (forwarded n b (serve l n m page).parcels)
 serve_turns M n l (msg.Query slab) page b plain sound untold h stays = cc
 serve_turns M n l (msg.Borrow slab) page b plain sound untold h stays = cc
 serve_turns M n l (msg.Write lease place) page b plain sound untold h stays = cc
 serve_turns M n l (msg.Read lease place) page b plain sound untold h stays = cc
 serve_turns M n l (msg.Rates lease value) page b plain sound untold h stays =
-    settle_turns M n (record l { round = option_map (answer (slot_of l n lease) value) l.round }) (due (option_map (answer (slot_of l n lease) value) l.round)) b (differ_of l sound)
+    settle_turns M n (record l { round = option_map (answer (slot_of l n lease) value) l.round })
+    (due (option_map (answer (slot_of l n lease) value) l.round)) b (differ_of l sound)
     (λ set i is inside. due_asked (option_map (answer (slot_of l n lease) value) l.round) l.slots set i (answered l.round untold) is inside) h stays
   where
     answered : (o : Option Round) → AsksUntold o l.slots → AsksUntold (option_map (answer (slot_of l n lease) value) o) l.slots
@@ -129,19 +143,28 @@ serve_turns M n l (msg.Hello version page_bytes pages_per_slab) page b plain sou
 serve_turns M n l _ page b plain sound untold h stays = (h, stays)
 
 -- the slots that a new round asks stay
-pub asks_stay : (l : Lender) (used word : ℕ) → IsReached l → ((m : Lender) → IsReached m → AsksStaying m.round m.slots) → host l used word ≡ open_round (measured l used) (asked (measured l used) word) → (i : ℕ) → has (asked (measured l used) word) i ≡ true → is_staying (slot_in l.slots i) ≡ true
+pub asks_stay :
+    (l : Lender) (used word : ℕ) → IsReached l → ((m : Lender) → IsReached m → AsksStaying m.round m.slots)
+    → host l used word ≡ open_round (measured l used) (asked (measured l used) word) → (i : ℕ) → has (asked (measured l used) word) i ≡ true
+    → is_staying (slot_in l.slots i) ≡ true
 asks_stay l used word reached live is i inside =
     let P : Turn → Type 0 = λ t. AsksStaying t.lender.round t.lender.slots in
-    let alive : IsLive (opened (asked (measured l used) word) (to_evict (measured l used))) l.slots = subst P is (live (host l used word).lender (reached_more l (Hosts used word) reached)) in
+    let alive : IsLive (opened (asked (measured l used) word) (to_evict (measured l used))) l.slots =
+    subst P is (live (host l used word).lender (reached_more l (Hosts used word) reached)) in
     alive.waits i (all_three (has (asked (measured l used) word) i) (has 0 i) (has 0 i) inside (has-zero i) (has-zero i))
   where
     all_three : (a b c : Bool) → a ≡ true → b ≡ false → c ≡ false → (a && not b && not c) ≡ true
     all_three a b c e f g = cc
 
 -- a host is measured
-pub host_turns : (M : Lease → Type 0) (n : Link) (l : Lender) (used word : ℕ) (b : Lane) → IsReached l → ((m : Lender) → IsReached m → AsksStaying m.round m.slots) → InTurn M b.parcels → Stays M l.slots b
+pub host_turns :
+    (M : Lease → Type 0) (n : Link) (l : Lender) (used word : ℕ) (b : Lane) → IsReached l → ((m : Lender) → IsReached m → AsksStaying m.round m.slots)
+    → InTurn M b.parcels → Stays M l.slots b
     → InTurn M (forwarded n b (host l used word).parcels).parcels × Stays M (host l used word).lender.slots (forwarded n b (host l used word).parcels)
-host_turns M n l used word b reached live h stays = cond_both (opens (measured l used)) _ _ (λ (t : Turn). (host l used word ≡ t) → InTurn M (forwarded n b t.parcels).parcels × Stays M t.lender.slots (forwarded n b t.parcels)) (λ _ is. opens_round is) (λ _ is. (h, stays)) refl
+host_turns M n l used word b reached live h stays =
+    cond_both (opens (measured l used)) _ _
+    (λ (t : Turn). (host l used word ≡ t) → InTurn M (forwarded n b t.parcels).parcels × Stays M t.lender.slots (forwarded n b t.parcels))
+    (λ _ is. opens_round is) (λ _ is. (h, stays)) refl
   where
     now : Lender
     now = measured l used
@@ -149,9 +172,15 @@ host_turns M n l used word b reached live h stays = cond_both (opens (measured l
     set : ℕ
     set = asked (measured l used) word
 
-    opens_round : host l used word ≡ open_round (measured l used) (asked (measured l used) word) → InTurn M (forwarded n b (told notice.AskRates (asked (measured l used) word) 0 l.slots)).parcels × Stays M l.slots (forwarded n b (told notice.AskRates (asked (measured l used) word) 0 l.slots))
+    opens_round :
+        host l used word ≡ open_round (measured l used) (asked (measured l used) word)
+        → InTurn M (forwarded n b (told notice.AskRates (asked (measured l used) word) 0 l.slots)).parcels
+        × Stays M l.slots (forwarded n b (told notice.AskRates (asked (measured l used) word) 0 l.slots))
     opens_round is = (
-      asks_turn M n (asked (measured l used) word) 0 l.slots b h (λ open_ i m t k e inside held. stays open_ i m t k (staying_is (slot_in l.slots i) m t k e held (all_stay is i (subst (λ x. has (asked (measured l used) word) x ≡ true) (omega arith) inside)))),
+      asks_turn M n (asked (measured l used) word) 0 l.slots b h
+          (λ open_ i m t k e inside held.
+          stays open_ i m t k
+          (staying_is (slot_in l.slots i) m t k e held (all_stay is i (subst (λ x. has (asked (measured l used) word) x ≡ true) (omega arith) inside)))),
       λ open_ i m t k held. asks_after M n (asked (measured l used) word) 0 l.slots b k (λ e. stays e i m t k held) open_,
     )
       where
@@ -159,7 +188,9 @@ host_turns M n l used word b reached live h stays = cond_both (opens (measured l
         staying_is x m t k true is at = absurd (both_ways (is_staying x) (ap is_staying is) at)
         staying_is x m t k false is at = is
 
-        all_stay : host l used word ≡ open_round (measured l used) (asked (measured l used) word) → (i : ℕ) → has (asked (measured l used) word) i ≡ true → is_staying (slot_in l.slots i) ≡ true
+        all_stay :
+            host l used word ≡ open_round (measured l used) (asked (measured l used) word) → (i : ℕ) → has (asked (measured l used) word) i ≡ true
+            → is_staying (slot_in l.slots i) ≡ true
         all_stay is i inside = asks_stay l used word reached live is i inside
 
 -- a request is served: its reply comes, and where it lends a slot, the reply names the lease
@@ -169,23 +200,32 @@ posted_own n b q = cond-true (n.0 == n.0) (appended b q) b (eq-eqb n.0 n.0 refl)
 request_turns : (M : Lease → Type 0) (n : Link) (l : Lender) (m : Msg) (page : List ℕ) (b : Lane) → is_request m ≡ true → InTurn M b.parcels → Stays M l.slots b
     → InTurn M (forwarded n b (serve l n m page).parcels).parcels × Stays M (serve l n m page).lender.slots (forwarded n b (serve l n m page).parcels)
 request_turns M n l (msg.Query slab) page b asks h stays =
-    let q : Parcel = parcel_of (msg.Room slab (free l)) [] in subst (λ (z : Lane). InTurn M z.parcels × Stays M l.slots z) (sym (posted_own n b q)) (turn_reply M b q refl h, stays_reply M l.slots b q refl stays)
+    let q : Parcel = parcel_of (msg.Room slab (free l)) [] in
+    subst (λ (z : Lane). InTurn M z.parcels × Stays M l.slots z) (sym (posted_own n b q)) (turn_reply M b q refl h, stays_reply M l.slots b q refl stays)
 request_turns M n l (msg.Borrow slab) page b asks h stays =
     cond_both (lends l) _ _ (λ (t : Turn). InTurn M (forwarded n b t.parcels).parcels × Stays M t.lender.slots (forwarded n b t.parcels))
     (λ _. let q : Parcel = parcel_of (msg.Lent slab (record { 0 = l.next_lease })) [] in
     let slots : List SlotState = set l.slots (first_where is_free l.slots) (Held n slab (record { 0 = l.next_lease }) false) in
-    subst (λ (z : Lane). InTurn M z.parcels × Stays M slots z) (sym (posted_own n b q)) (turn_reply M b q refl h, stays_lent M l.slots b q (first_where is_free l.slots) n slab (record { 0 = l.next_lease }) refl stays))
-    (λ _. let q : Parcel = parcel_of (msg.Refused slab) [] in subst (λ (z : Lane). InTurn M z.parcels × Stays M l.slots z) (sym (posted_own n b q)) (turn_reply M b q refl h, stays_reply M l.slots b q refl stays))
+    subst (λ (z : Lane). InTurn M z.parcels × Stays M slots z) (sym (posted_own n b q))
+    (turn_reply M b q refl h, stays_lent M l.slots b q (first_where is_free l.slots) n slab (record { 0 = l.next_lease }) refl stays))
+    (λ _. let q : Parcel = parcel_of (msg.Refused slab) [] in
+    subst (λ (z : Lane). InTurn M z.parcels × Stays M l.slots z) (sym (posted_own n b q)) (turn_reply M b q refl h, stays_reply M l.slots b q refl stays))
 request_turns M n l (msg.Write lease place) page b asks h stays =
-    let q : Parcel = parcel_of (msg.Wrote lease place) [] in subst (λ (z : Lane). InTurn M z.parcels × Stays M l.slots z) (sym (posted_own n b q)) (turn_reply M b q refl h, stays_reply M l.slots b q refl stays)
+    let q : Parcel = parcel_of (msg.Wrote lease place) [] in
+    subst (λ (z : Lane). InTurn M z.parcels × Stays M l.slots z) (sym (posted_own n b q)) (turn_reply M b q refl h, stays_reply M l.slots b q refl stays)
 request_turns M n l (msg.Read lease place) page b asks h stays =
-    let q : Parcel = parcel_of (msg.PageIs lease place) (page_in l.contents (slot_of l n lease) place) in subst (λ (z : Lane). InTurn M z.parcels × Stays M l.slots z) (sym (posted_own n b q)) (turn_reply M b q refl h, stays_reply M l.slots b q refl stays)
+    let q : Parcel = parcel_of (msg.PageIs lease place) (page_in l.contents (slot_of l n lease) place) in
+    subst (λ (z : Lane). InTurn M z.parcels × Stays M l.slots z) (sym (posted_own n b q)) (turn_reply M b q refl h, stays_reply M l.slots b q refl stays)
 request_turns M n l _ page b asks h stays = cc
 
-pub served_turns : (M : Lease → Type 0) (n : Link) (l : Lender) (m : Msg) (page : List ℕ) (b : Lane) → IsSound l → AsksUntold l.round l.slots → InTurn M b.parcels → Stays M l.slots b
+pub served_turns :
+    (M : Lease → Type 0) (n : Link) (l : Lender) (m : Msg) (page : List ℕ) (b : Lane) → IsSound l → AsksUntold l.round l.slots → InTurn M b.parcels
+    → Stays M l.slots b
     → InTurn M (forwarded n b (serve l n m page).parcels).parcels × Stays M (serve l n m page).lender.slots (forwarded n b (serve l n m page).parcels)
 served_turns M n l m page b sound untold h stays = go (is_request m) refl
   where
-    go : (asks : Bool) → is_request m ≡ asks → InTurn M (forwarded n b (serve l n m page).parcels).parcels × Stays M (serve l n m page).lender.slots (forwarded n b (serve l n m page).parcels)
+    go :
+        (asks : Bool) → is_request m ≡ asks
+        → InTurn M (forwarded n b (serve l n m page).parcels).parcels × Stays M (serve l n m page).lender.slots (forwarded n b (serve l n m page).parcels)
     go true asks = request_turns M n l m page b asks h stays
     go false plain = serve_turns M n l m page b plain sound untold h stays

@@ -25,9 +25,14 @@ abbrev pub Named : (Msg → Bool) → List Parcel → Bool
 Named test ps = list_any (λ (q : Parcel). test q.msg) ps
 
 -- one notice more, or none
-posted_named : (test : Msg → Bool) (n link : Link) (b : Lane) (q : Parcel) → Named test (posted n b link q).parcels ≡ true → (Named test b.parcels ≡ true) ⊎ (test q.msg ≡ true)
+posted_named :
+    (test : Msg → Bool) (n link : Link) (b : Lane) (q : Parcel) → Named test (posted n b link q).parcels ≡ true
+    → (Named test b.parcels ≡ true) ⊎ (test q.msg ≡ true)
 posted_named test n link b q =
-    cond_both (link.0 == n.0) _ _ (λ (z : Lane). Named test z.parcels ≡ true → (Named test b.parcels ≡ true) ⊎ (test q.msg ≡ true)) (λ _. by_append (λ z. Named test z.parcels ≡ true → (Named test b.parcels ≡ true) ⊎ (test q.msg ≡ true)) b q (λ _ e. inl e) (λ _. any_last (λ (q : Parcel). test q.msg) b.parcels q) (λ _ e. inl e))
+    cond_both (link.0 == n.0) _ _ (λ (z : Lane). Named test z.parcels ≡ true → (Named test b.parcels ≡ true) ⊎ (test q.msg ≡ true))
+    (λ _.
+    by_append (λ z. Named test z.parcels ≡ true → (Named test b.parcels ≡ true) ⊎ (test q.msg ≡ true)) b q (λ _ e. inl e)
+    (λ _. any_last (λ (q : Parcel). test q.msg) b.parcels q) (λ _ e. inl e))
     (λ _ e. inl e)
 
 -- a notice about a held slot of the set
@@ -41,15 +46,36 @@ pub record IsNotified (kind : Notice) (test : Msg → Bool) (set from : ℕ) (sl
   pub held : slot_in slots at ≡ Held link slab lease told_before
   pub passes : test (message_of kind lease) ≡ true
 
-later : (kind : Notice) (test : Msg → Bool) (set from : ℕ) (s : SlotState) (ss : List SlotState) → IsNotified kind test set (from + 1) ss → IsNotified kind test set from (s ∷ ss)
-later kind test set from s ss h = record { at = suc h.at; link = h.link; slab = h.slab; lease = h.lease; told_before = h.told_before; inside = subst (λ m. has set m ≡ true) (omega arith) h.inside; held = h.held; passes = h.passes }
+later :
+    (kind : Notice) (test : Msg → Bool) (set from : ℕ) (s : SlotState) (ss : List SlotState) → IsNotified kind test set (from + 1) ss
+    → IsNotified kind test set from (s ∷ ss)
+later kind test set from s ss h =
+    record {
+      at = suc h.at;
+      link = h.link;
+      slab = h.slab;
+      lease = h.lease;
+      told_before = h.told_before;
+      inside = subst (λ m. has set m ≡ true) (omega arith) h.inside;
+      held = h.held;
+      passes = h.passes;
+    }
 
-pub told_named : (kind : Notice) (test : Msg → Bool) (n : Link) (set from : ℕ) (slots : List SlotState) (b : Lane) → Named test (forwarded n b (told kind set from slots)).parcels ≡ true → (Named test b.parcels ≡ true) ⊎ IsNotified kind test set from slots
+pub told_named :
+    (kind : Notice) (test : Msg → Bool) (n : Link) (set from : ℕ) (slots : List SlotState) (b : Lane)
+    → Named test (forwarded n b (told kind set from slots)).parcels ≡ true → (Named test b.parcels ≡ true) ⊎ IsNotified kind test set from slots
 told_named kind test n set from [] b e = inl e
-told_named kind test n set from (s ∷ ss) b e = go (has set from) refl s refl (subst (λ (z : Lane). Named test z.parcels ≡ true) (forwarded_both n b (tell_slot kind (has set from) s) (told kind set (from + 1) ss)) e) (told_named kind test n set (from + 1) ss)
+told_named kind test n set from (s ∷ ss) b e =
+    go (has set from) refl s refl
+    (subst (λ (z : Lane). Named test z.parcels ≡ true) (forwarded_both n b (tell_slot kind (has set from) s) (told kind set (from + 1) ss)) e)
+    (told_named kind test n set (from + 1) ss)
   where
-    go : (in_set : Bool) → has set from ≡ in_set → (x : SlotState) → s ≡ x → Named test (forwarded n (forwarded n b (tell_slot kind in_set x)) (told kind set (from + 1) ss)).parcels ≡ true
-        → ((c : Lane) → Named test (forwarded n c (told kind set (from + 1) ss)).parcels ≡ true → (Named test c.parcels ≡ true) ⊎ IsNotified kind test set (from + 1) ss) → (Named test b.parcels ≡ true) ⊎ IsNotified kind test set from (s ∷ ss)
+    go :
+        (in_set : Bool) → has set from ≡ in_set → (x : SlotState) → s ≡ x
+        → Named test (forwarded n (forwarded n b (tell_slot kind in_set x)) (told kind set (from + 1) ss)).parcels ≡ true
+        → ((c : Lane) → Named test (forwarded n c (told kind set (from + 1) ss)).parcels ≡ true
+        → (Named test c.parcels ≡ true) ⊎ IsNotified kind test set (from + 1) ss)
+        → (Named test b.parcels ≡ true) ⊎ IsNotified kind test set from (s ∷ ss)
     go false out x is e more = elim (more b e) [ inl was ↦ inl was | inr new ↦ inr (later kind test set from s ss new) ]
     go true inside Free is e more = elim (more b e) [ inl was ↦ inl was | inr new ↦ inr (later kind test set from s ss new) ]
     go true inside (Held m t k told_) is e more =
@@ -57,26 +83,49 @@ told_named kind test n set from (s ∷ ss) b e = go (has set from) refl s refl (
         elim (more (posted n b m q) e) [
           | inl here ↦ elim (posted_named test n m b q here) [
             | inl was ↦ inl was
-            | inr one ↦ inr (record { at = 0; link = m; slab = t; lease = k; told_before = told_; inside = subst (λ i. has set i ≡ true) (omega arith) inside; held = is; passes = one })
+            | inr one ↦
+                inr
+                (record {
+                  at = 0;
+                  link = m;
+                  slab = t;
+                  lease = k;
+                  told_before = told_;
+                  inside = subst (λ i. has set i ≡ true) (omega arith) inside;
+                  held = is;
+                  passes = one;
+                })
           ]
           | inr new ↦ inr (later kind test set from s ss new)
         ]
 
 -- each lease is named once, where the notices name none of those before
-pub told_once : (kind : Notice) (names : Lease → Msg → Bool) (n : Link) (set from : ℕ) (slots : List SlotState) (b : Lane) → ((k j : Lease) → names k (message_of kind j) ≡ true → j.0 ≡ k.0) → Differ slots → NamedOnce names b.parcels
-    → ((i : ℕ) (m : Link) (t : Slab) (j : Lease) (e : Bool) (k : Lease) → has set (from + i) ≡ true → slot_in slots i ≡ Held m t j e → j.0 ≡ k.0 → Named (λ m. names k m) b.parcels ≡ false) → NamedOnce names (forwarded n b (told kind set from slots)).parcels
+pub told_once :
+    (kind : Notice) (names : Lease → Msg → Bool) (n : Link) (set from : ℕ) (slots : List SlotState) (b : Lane)
+    → ((k j : Lease) → names k (message_of kind j) ≡ true → j.0 ≡ k.0) → Differ slots → NamedOnce names b.parcels
+    → ((i : ℕ) (m : Link) (t : Slab) (j : Lease) (e : Bool) (k : Lease) → has set (from + i) ≡ true → slot_in slots i ≡ Held m t j e → j.0 ≡ k.0
+    → Named (λ m. names k m) b.parcels ≡ false)
+    → NamedOnce names (forwarded n b (told kind set from slots)).parcels
 told_once kind names n set from [] b tells differ once other = once
 told_once kind names n set from (s ∷ ss) b tells differ once other =
-    subst (λ (z : Lane). NamedOnce names z.parcels) (sym (forwarded_both n b (tell_slot kind (has set from) s) (told kind set (from + 1) ss))) (go (has set from) refl s refl (λ c. told_once kind names n set (from + 1) ss c tells (differ_rest s ss differ)))
+    subst (λ (z : Lane). NamedOnce names z.parcels) (sym (forwarded_both n b (tell_slot kind (has set from) s) (told kind set (from + 1) ss)))
+    (go (has set from) refl s refl (λ c. told_once kind names n set (from + 1) ss c tells (differ_rest s ss differ)))
   where
     Other : Lane → Type 0
-    Other c = (i : ℕ) (m : Link) (t : Slab) (j : Lease) (e : Bool) (k : Lease) → has set (from + 1 + i) ≡ true → slot_in ss i ≡ Held m t j e → j.0 ≡ k.0 → Named (λ m. names k m) c.parcels ≡ false
+    Other c =
+        (i : ℕ) (m : Link) (t : Slab) (j : Lease) (e : Bool) (k : Lease) → has set (from + 1 + i) ≡ true → slot_in ss i ≡ Held m t j e → j.0 ≡ k.0
+        → Named (λ m. names k m) c.parcels ≡ false
 
-    rest : (i : ℕ) (m : Link) (t : Slab) (j : Lease) (e : Bool) (k : Lease) → has set (from + 1 + i) ≡ true → slot_in ss i ≡ Held m t j e → j.0 ≡ k.0 → Named (λ m. names k m) b.parcels ≡ false
+    rest :
+        (i : ℕ) (m : Link) (t : Slab) (j : Lease) (e : Bool) (k : Lease) → has set (from + 1 + i) ≡ true → slot_in ss i ≡ Held m t j e → j.0 ≡ k.0
+        → Named (λ m. names k m) b.parcels ≡ false
     rest i m t j e k inside held same = other (suc i) m t j e k (subst (λ x. has set x ≡ true) (omega arith) inside) held same
 
     go : (in_set : Bool) → has set from ≡ in_set → (x : SlotState) → s ≡ x
-        → ((c : Lane) → NamedOnce names c.parcels → ((i : ℕ) (m : Link) (t : Slab) (j : Lease) (e : Bool) (k : Lease) → has set (from + 1 + i) ≡ true → slot_in ss i ≡ Held m t j e → j.0 ≡ k.0 → Named (λ m. names k m) c.parcels ≡ false) → NamedOnce names (forwarded n c (told kind set (from + 1) ss)).parcels)
+        → ((c : Lane) → NamedOnce names c.parcels
+        → ((i : ℕ) (m : Link) (t : Slab) (j : Lease) (e : Bool) (k : Lease) → has set (from + 1 + i) ≡ true → slot_in ss i ≡ Held m t j e → j.0 ≡ k.0
+        → Named (λ m. names k m) c.parcels ≡ false)
+        → NamedOnce names (forwarded n c (told kind set (from + 1) ss)).parcels)
         → NamedOnce names (forwarded n (forwarded n b (tell_slot kind in_set x)) (told kind set (from + 1) ss)).parcels
     go false out x is more = more b once rest
     go true inside Free is more = more b once rest

@@ -38,12 +38,20 @@ no_truth e = cc
 -- the device is sent a reply, which tells nothing of slots but where it refuses a slab
 
 abbrev IsQuietReply : List SlotState → Msg → Type 0
-IsQuietReply slots m = ((k : Lease) → is_evict k m ≡ false) × ((k : Lease) → is_ask k m ≡ false) × ((t : Slab) (i : ℕ) (n : Link) (k : Lease) (e : Bool) → is_refusal t m ≡ true → slot_in slots i ≡ Held n t k e → ⊥)
+IsQuietReply slots m =
+    ((k : Lease) → is_evict k m ≡ false) × ((k : Lease) → is_ask k m ≡ false)
+    × ((t : Slab) (i : ℕ) (n : Link) (k : Lease) (e : Bool) → is_refusal t m ≡ true → slot_in slots i ≡ Held n t k e → ⊥)
 
-pub allows_reply : (s : Sizes) (states : List SlabState) (ring : List Request) (l : LenderNo) (table : Lender) (n : Link) (b : Lane) (q : Parcel) (ended : Bool) (out : List Parcel) → IsQuietReply table.slots q.msg → Allows s states ring l table n b.parcels ended out → Allows s states ring l table n (appended b q).parcels ended out
-allows_reply s states ring l table n b q ended out quiet h = by_append (λ z. Allows s states ring l table n z.parcels ended out) b q (λ _. h) (λ _. more) (λ _. h)
+pub allows_reply :
+    (s : Sizes) (states : List SlabState) (ring : List Request) (l : LenderNo) (table : Lender) (n : Link) (b : Lane) (q : Parcel) (ended : Bool)
+    (out : List Parcel)
+    → IsQuietReply table.slots q.msg → Allows s states ring l table n b.parcels ended out → Allows s states ring l table n (appended b q).parcels ended out
+allows_reply s states ring l table n b q ended out quiet h =
+    by_append (λ z. Allows s states ring l table n z.parcels ended out) b q (λ _. h) (λ _. more) (λ _. h)
   where
-    was : (test : Msg → Bool) → test q.msg ≡ false → list_any (λ (p : Parcel). test p.msg) (b.parcels ++ q ∷ []) ≡ true → list_any (λ (p : Parcel). test p.msg) b.parcels ≡ true
+    was :
+        (test : Msg → Bool) → test q.msg ≡ false → list_any (λ (p : Parcel). test p.msg) (b.parcels ++ q ∷ []) ≡ true
+        → list_any (λ (p : Parcel). test p.msg) b.parcels ≡ true
     was test off e = elim (any_last (λ (p : Parcel). test p.msg) b.parcels q e) [ inl h ↦ h | inr h ↦ absurd (both_ways (test q.msg) off h) ]
 
     more : Allows s states ring l table n (b.parcels ++ q ∷ []) ended out
@@ -61,7 +69,10 @@ allows_reply s states ring l table n b q ended out quiet h = by_append (λ z. Al
       rate_once = h.rate_once;
       one = λ k e. h.one k (was (is_ask k) (quiet.1 k) e);
       home = h.home;
-      refused = λ i m t k e come held. elim (any_last (λ (p : Parcel). is_refusal t p.msg) b.parcels q come) [ inl old ↦ h.refused i m t k e old held | inr new ↦ quiet.2 t i m k e new held ];
+      refused =
+          λ i m t k e come held.
+          elim (any_last (λ (p : Parcel). is_refusal t p.msg) b.parcels q come)
+          [ inl old ↦ h.refused i m t k e old held | inr new ↦ quiet.2 t i m k e new held ];
       free = h.free;
       greets = h.greets;
       kinds = h.kinds;
@@ -69,7 +80,11 @@ allows_reply s states ring l table n b q ended out quiet h = by_append (λ z. Al
 
 -- the first message to the lender is gone: one that gives no lease back, tells no rate and doesn't greet
 
-pub allows_popped : (s : Sizes) (states : List SlabState) (ring : List Request) (l : LenderNo) (table : Lender) (n : Link) (come : List Parcel) (ended : Bool) (q : Parcel) (ps : List Parcel) → ((k : Lease) → is_done k q.msg ≡ false) → is_hello q.msg ≡ false → Allows s states ring l table n come ended (q ∷ ps) → Allows s states ring l table n come ended ps
+pub allows_popped :
+    (s : Sizes) (states : List SlabState) (ring : List Request) (l : LenderNo) (table : Lender) (n : Link) (come : List Parcel) (ended : Bool) (q : Parcel)
+    (ps : List Parcel)
+    → ((k : Lease) → is_done k q.msg ≡ false) → is_hello q.msg ≡ false → Allows s states ring l table n come ended (q ∷ ps)
+    → Allows s states ring l table n come ended ps
 allows_popped s states ring l table n come ended q ps undone plain h = record {
   told = h.told;
   drains = h.drains;
@@ -91,7 +106,9 @@ allows_popped s states ring l table n come ended q ps undone plain h = record {
     ]
   ];
   refused = h.refused;
-  free = free_map table.slots table.slots (λ k. ⊥ ⊎ (is_done k q.msg ≡ true)) (λ k. ⊥) ps (λ t i m k e _ held. ((e, held), λ given. elim given [ inl none ↦ none | inr d ↦ both_ways (is_done k q.msg) (undone k) d ])) h.free.1;
+  free =
+      free_map table.slots table.slots (λ k. ⊥ ⊎ (is_done k q.msg ≡ true)) (λ k. ⊥) ps
+      (λ t i m k e _ held. ((e, held), λ given. elim given [ inl none ↦ none | inr d ↦ both_ways (is_done k q.msg) (undone k) d ])) h.free.1;
   greets = greeted (has_greeted table n) h.greets;
   kinds = h.kinds.1;
 }
@@ -108,7 +125,11 @@ allows_popped s states ring l table n come ended q ps undone plain h = record {
     greeted false e = absurd (both_ways (is_hello q.msg) plain (ap (λ (p : Parcel). is_hello p.msg) e.0))
 
 -- the lender changes, but for its slots, its round and whom it knows
-pub allows_table : (s : Sizes) (states : List SlabState) (ring : List Request) (l : LenderNo) (table table' : Lender) (n : Link) (come : List Parcel) (ended : Bool) (out : List Parcel) → table'.slots ≡ table.slots → table'.round ≡ table.round → has_greeted table' n ≡ has_greeted table n → Allows s states ring l table n come ended out → Allows s states ring l table' n come ended out
+pub allows_table :
+    (s : Sizes) (states : List SlabState) (ring : List Request) (l : LenderNo) (table table' : Lender) (n : Link) (come : List Parcel) (ended : Bool)
+    (out : List Parcel)
+    → table'.slots ≡ table.slots → table'.round ≡ table.round → has_greeted table' n ≡ has_greeted table n → Allows s states ring l table n come ended out
+    → Allows s states ring l table' n come ended out
 allows_table s states ring l table table' n come ended out slots round greeted h = record {
   told = λ k e. subst (λ xs. HasSlot xs k true) (sym slots) (h.told k e);
   drains = λ t k f e. subst (λ xs. HasSlot xs k true) (sym slots) (h.drains t k f e);
@@ -130,10 +151,25 @@ allows_table s states ring l table table' n come ended out slots round greeted h
 }
   where
     waits : (k : Lease) → Waits table k → Waits table' k
-    waits k w = record { round = w.round; open_ = round ∙ w.open_; at = w.at; link = w.link; slab = w.slab; held = ap (λ xs. slot_in xs w.at) slots ∙ w.held; waits = w.waits; low = w.low; answered = w.answered; gone = w.gone }
+    waits k w =
+        record {
+          round = w.round;
+          open_ = round ∙ w.open_;
+          at = w.at;
+          link = w.link;
+          slab = w.slab;
+          held = ap (λ xs. slot_in xs w.at) slots ∙ w.held;
+          waits = w.waits;
+          low = w.low;
+          answered = w.answered;
+          gone = w.gone;
+        }
 
 -- a greeting is served
-pub allows_greeted : (s : Sizes) (states : List SlabState) (ring : List Request) (l : LenderNo) (table : Lender) (n : Link) (come : List Parcel) (ended : Bool) (q : Parcel) (ps : List Parcel) → is_hello q.msg ≡ true → ((k : Lease) → is_done k q.msg ≡ false) → has_greeted (greet table n).lender n ≡ true
+pub allows_greeted :
+    (s : Sizes) (states : List SlabState) (ring : List Request) (l : LenderNo) (table : Lender) (n : Link) (come : List Parcel) (ended : Bool) (q : Parcel)
+    (ps : List Parcel)
+    → is_hello q.msg ≡ true → ((k : Lease) → is_done k q.msg ≡ false) → has_greeted (greet table n).lender n ≡ true
     → Allows s states ring l table n come ended (q ∷ ps) → Allows s states ring l (greet table n).lender n come ended ps
 allows_greeted s states ring l table n come ended q ps is undone greeted h =
     record {
@@ -157,13 +193,27 @@ allows_greeted s states ring l table n come ended q ps is undone greeted h =
         ]
       ];
       refused = h.refused;
-      free = free_map table.slots table.slots (λ k. ⊥ ⊎ (is_done k q.msg ≡ true)) (λ k. ⊥) ps (λ t i m k e _ held. ((e, held), λ given. elim given [ inl none ↦ none | inr d ↦ both_ways (is_done k q.msg) (undone k) d ])) h.free.1;
+      free =
+          free_map table.slots table.slots (λ k. ⊥ ⊎ (is_done k q.msg ≡ true)) (λ k. ⊥) ps
+          (λ t i m k e _ held. ((e, held), λ given. elim given [ inl none ↦ none | inr d ↦ both_ways (is_done k q.msg) (undone k) d ])) h.free.1;
       greets = subst (λ g. Greets s g ended ps) (sym greeted) (no_more (has_greeted table n) h.greets);
       kinds = h.kinds.1;
     }
   where
     same : (k : Lease) → Waits table k → Waits (greet table n).lender k
-    same k w = record { round = w.round; open_ = w.open_; at = w.at; link = w.link; slab = w.slab; held = w.held; waits = w.waits; low = w.low; answered = w.answered; gone = w.gone }
+    same k w =
+        record {
+          round = w.round;
+          open_ = w.open_;
+          at = w.at;
+          link = w.link;
+          slab = w.slab;
+          held = w.held;
+          waits = w.waits;
+          low = w.low;
+          answered = w.answered;
+          gone = w.gone;
+        }
 
     behind : (k : Lease) (b : Bool) → b ≡ false → (b || gives_back k ps) ≡ true → gives_back k ps ≡ true
     behind k true off e = cc

@@ -50,20 +50,30 @@ use Rattle.swap_joint.proofs.Facts.{OrderedAt}
 use Rattle.swap_joint.proofs.Turns.{Noticed, any_last, once-append, lends-append, loan-append, forwarded_noticed, serves_quietly, hosts_quietly, Reply, replies, forwarded_one}
 
 -- a link's parts put together
-pub joined : (s : Sizes) (H : History) (cs : Calls) (states : List SlabState) (bits : List Bool) (ring : List Request) (l : LenderNo) (c : Channel) (S U : List Request) → c.device_gone ≡ false → OrderedAt s H cs states ring l c c.to_lender c.to_device S U → Unless c.lender_gone (Stored s H states bits l c S) → AreNew states l c.to_device.parcels → JoinedOf s H cs states bits ring l c
-joined s H cs states bits ring l c S U present h k new = record { present = present; order = h.order; stored = subst (λ z. Unless c.lender_gone (Stored s H states bits l c z)) (sym h.served) k; loans = new }
+pub joined :
+    (s : Sizes) (H : History) (cs : Calls) (states : List SlabState) (bits : List Bool) (ring : List Request) (l : LenderNo) (c : Channel) (S U : List Request)
+    → c.device_gone ≡ false → OrderedAt s H cs states ring l c c.to_lender c.to_device S U → Unless c.lender_gone (Stored s H states bits l c S)
+    → AreNew states l c.to_device.parcels → JoinedOf s H cs states bits ring l c
+joined s H cs states bits ring l c S U present h k new =
+    record { present = present; order = h.order; stored = subst (λ z. Unless c.lender_gone (Stored s H states bits l c z)) (sym h.served) k; loans = new }
 
 -- an order of a link whose lender changes, where what is held for reads stays held
-pub order_moved : (s : Sizes) (H : History) (cs : Calls) (states : List SlabState) (ring : List Request) (l : LenderNo) (c d : Channel) (a b : Lane) (S U : List Request) (Q : Request → Type 0) → ((x : Request) → Q x → Unless c.lender_gone (HoldsFor s H cs states l c x) → Unless d.lender_gone (HoldsFor s H cs states l d x))
+pub order_moved :
+    (s : Sizes) (H : History) (cs : Calls) (states : List SlabState) (ring : List Request) (l : LenderNo) (c d : Channel) (a b : Lane) (S U : List Request)
+    (Q : Request → Type 0)
+    → ((x : Request) → Q x → Unless c.lender_gone (HoldsFor s H cs states l c x) → Unless d.lender_gone (HoldsFor s H cs states l d x))
     → (h : OrderedAt s H cs states ring l c a b S U) → AllByRecursion Q h.order.under_way → OrderedAt s H cs states ring l d a b S U
 order_moved s H cs states ring l c d a b S U Q each h all =
-    order_map (Replied s H cs states l) (Asked s H cs states l c) (Replied s H cs states l) (Asked s H cs states l d) (λ x. Unit {0}) Q ring a b S U (λ q x one k. k) (λ q x one k. (k.0, each x one k.1)) h (all_true S) all
+    order_map (Replied s H cs states l) (Asked s H cs states l c) (Replied s H cs states l) (Asked s H cs states l d) (λ x. Unit {0}) Q ring a b S U
+    (λ q x one k. k) (λ q x one k. (k.0, each x one k.1)) h (all_true S) all
 
 -- what is found of a place after a message was served
 some-later : (k next : ℕ) (z : List ℕ) (was now : Option (List ℕ)) (b : List ℕ) → IsLater k next z was now → was ≡ Some b → now ≡ Some b
 some-later k next z was now b h e = let P : Option (List ℕ) → Type 0 = λ o. IsLater k next z o now in subst P e h
 
-found-served : (l : Lender) (n : Link) (m : Msg) (page : List ℕ) (k : Lease) (i : ℕ) (b : List ℕ) → IsSound l → may_send l n m ≡ true → left_by k i m page (slot_page l n k i) ≡ Some b → slot_page (serve l n m page).lender n k i ≡ Some b
+found-served :
+    (l : Lender) (n : Link) (m : Msg) (page : List ℕ) (k : Lease) (i : ℕ) (b : List ℕ) → IsSound l → may_send l n m ≡ true
+    → left_by k i m page (slot_page l n k i) ≡ Some b → slot_page (serve l n m page).lender n k i ≡ Some b
 found-served l n m page k i b sound may e = some-later k.0 l.next_lease _ _ _ b (later-serve l n m page k i sound may) e
 
 -- a state has one lease
@@ -71,14 +81,21 @@ lease_one : (l : LenderNo) (j k : Lease) (x : SlabState) → has_lease l j x ≡
 lease_one l j k Local a b = cc
 lease_one l j k (Asking pair) a b = cc
 lease_one l j k (Borrowing m) a b = cc
-lease_one l j k (Mapped m o f) a b = ap (λ (n : ℕ). record { 0 = n }) (sym (eqb-true o.0 j.0 (and_parts (m.0 == l.0) (o.0 == j.0) a).1) ∙ eqb-true o.0 k.0 (and_parts (m.0 == l.0) (o.0 == k.0) b).1)
-lease_one l j k (Draining m o f) a b = ap (λ (n : ℕ). record { 0 = n }) (sym (eqb-true o.0 j.0 (and_parts (m.0 == l.0) (o.0 == j.0) a).1) ∙ eqb-true o.0 k.0 (and_parts (m.0 == l.0) (o.0 == k.0) b).1)
+lease_one l j k (Mapped m o f) a b =
+    ap (λ (n : ℕ). record { 0 = n })
+    (sym (eqb-true o.0 j.0 (and_parts (m.0 == l.0) (o.0 == j.0) a).1) ∙ eqb-true o.0 k.0 (and_parts (m.0 == l.0) (o.0 == k.0) b).1)
+lease_one l j k (Draining m o f) a b =
+    ap (λ (n : ℕ). record { 0 = n })
+    (sym (eqb-true o.0 j.0 (and_parts (m.0 == l.0) (o.0 == j.0) a).1) ∙ eqb-true o.0 k.0 (and_parts (m.0 == l.0) (o.0 == k.0) b).1)
 
 -- a write of another page is to another place
-pub elsewhere : (s : Sizes) (states : List SlabState) (l : LenderNo) (p q : Page) (k j : Lease) → AreSingle states → has_lease l k (state_for s states p) ≡ true → has_lease l j (state_for s states q) ≡ true → (q.0 ≡ p.0 → ⊥) → ((j.0 == k.0) && (place_of s q.0 == place_of s p.0)) ≡ false
+pub elsewhere :
+    (s : Sizes) (states : List SlabState) (l : LenderNo) (p q : Page) (k j : Lease) → AreSingle states → has_lease l k (state_for s states p) ≡ true
+    → has_lease l j (state_for s states q) ≡ true → (q.0 ≡ p.0 → ⊥) → ((j.0 == k.0) && (place_of s q.0 == place_of s p.0)) ≡ false
 elsewhere s states l p q k j single here there other = false_from_ne_true _ (λ e.
     let parts = and_parts (j.0 == k.0) (place_of s q.0 == place_of s p.0) e in
-    let same : has_lease l k (state_for s states q) ≡ true = subst (λ n. has_lease l (record { 0 = n }) (state_for s states q) ≡ true) (eqb-true j.0 k.0 parts.0) there in
+    let same : has_lease l k (state_for s states q) ≡ true =
+    subst (λ n. has_lease l (record { 0 = n }) (state_for s states q) ≡ true) (eqb-true j.0 k.0 parts.0) there in
     other (same_page s p.0 q.0 (only_slab states l k (slab_for s p) (slab_for s q) single here same) (eqb-true (place_of s q.0) (place_of s p.0) parts.1)))
 
 -- the last write of a page, of two lists
@@ -101,7 +118,10 @@ pub record Clear (s : Sizes) (states : List SlabState) (bits : List Bool) (ring 
   pub none : (p : Page) (k : Lease) → has_lease l k (state_for s states p) ≡ true → has bits p.0 ≡ true → latest p ring ≡ None
 
 -- a message to the lender fewer, and messages to the device that don't lend what is given back
-given_later : (states : List SlabState) (l : LenderNo) (c d : Channel) (k : Lease) → c.lender.next_lease ≤ d.lender.next_lease → (k.0 < c.lender.next_lease → lends_in k c.to_device.parcels ≡ false → lends_in k d.to_device.parcels ≡ false) → IsGivenBack states l c k → IsGivenBack states l d k
+given_later :
+    (states : List SlabState) (l : LenderNo) (c d : Channel) (k : Lease) → c.lender.next_lease ≤ d.lender.next_lease
+    → (k.0 < c.lender.next_lease → lends_in k c.to_device.parcels ≡ false → lends_in k d.to_device.parcels ≡ false) → IsGivenBack states l c k
+    → IsGivenBack states l d k
 given_later states l c d k more unlent h = record { known = let a = h.known in omega (arith, a, more); unleased = h.unleased; unlent = unlent h.known h.unlent }
 
 pub any-rest : {X : Type 0} (test : X → Bool) (x : X) (xs : List X) → list_any test xs ≡ true → list_any test (x ∷ xs) ≡ true
@@ -130,28 +150,41 @@ left-kept k i (msg.Done lease) page was e = cond-false (lease.0 == k.0) None was
 left-kept k i _ page was e = refl
 
 -- what is left at a place of a page that is kept, by a message that doesn't write the page
-kept_by : (s : Sizes) (states : List SlabState) (l : LenderNo) (c : Channel) (q : Parcel) (ps : List Parcel) (p : Page) (k : Lease) (was : Option (List ℕ)) → is_request q.msg ≡ false → c.to_lender.parcels ≡ q ∷ ps → has_lease l k (state_for s states p) ≡ true
+kept_by :
+    (s : Sizes) (states : List SlabState) (l : LenderNo) (c : Channel) (q : Parcel) (ps : List Parcel) (p : Page) (k : Lease) (was : Option (List ℕ))
+    → is_request q.msg ≡ false → c.to_lender.parcels ≡ q ∷ ps → has_lease l k (state_for s states p) ≡ true
     → ((j : Lease) → gives_back j c.to_lender.parcels ≡ true → IsGivenBack states l c j) → left_by k (place_of s p.0) q.msg q.page was ≡ was
-kept_by s states l c q ps p k was plain front at given = left-kept k (place_of s p.0) q.msg q.page was (go q.msg plain (λ j e. given j (ap (gives_back j) front ∙ ap (λ b. b || gives_back j ps) e)))
+kept_by s states l c q ps p k was plain front at given =
+    left-kept k (place_of s p.0) q.msg q.page was (go q.msg plain (λ j e. given j (ap (gives_back j) front ∙ ap (λ b. b || gives_back j ps) e)))
   where
     go : (m : Msg) → is_request m ≡ false → ((j : Lease) → is_done j m ≡ true → IsGivenBack states l c j) → replaces k (place_of s p.0) m ≡ false
     go (msg.Write j i) plain back = cc
-    go (msg.Done j) plain back = not_eqb j.0 k.0 (λ same. both_ways (has_lease l k (state_for s states p)) ((back k (eq-eqb j.0 k.0 same)).unleased (slab_for s p)) at)
+    go (msg.Done j) plain back =
+        not_eqb j.0 k.0 (λ same. both_ways (has_lease l k (state_for s states p)) ((back k (eq-eqb j.0 k.0 same)).unleased (slab_for s p)) at)
     go _ plain back = refl
 
 -- a message that is no request was served: what is found of a page with a lease stays
-plain_found : (s : Sizes) (H : History) (states : List SlabState) (bits : List Bool) (l : LenderNo) (c d : Channel) (S : List Request) (q : Parcel) (ps : List Parcel) → is_request q.msg ≡ false → c.to_lender.parcels ≡ q ∷ ps → IsSound c.lender → may_send c.lender c.number q.msg ≡ true
-    → d.lender ≡ (serve c.lender c.number q.msg q.page).lender → d.number ≡ c.number → Stored s H states bits l c S → (p : Page) (j : Lease) (b : List ℕ) → has_lease l j (state_for s states p) ≡ true → found s c j p ≡ Some b → found s d j p ≡ Some b
+plain_found :
+    (s : Sizes) (H : History) (states : List SlabState) (bits : List Bool) (l : LenderNo) (c d : Channel) (S : List Request) (q : Parcel) (ps : List Parcel)
+    → is_request q.msg ≡ false → c.to_lender.parcels ≡ q ∷ ps → IsSound c.lender → may_send c.lender c.number q.msg ≡ true
+    → d.lender ≡ (serve c.lender c.number q.msg q.page).lender → d.number ≡ c.number → Stored s H states bits l c S → (p : Page) (j : Lease) (b : List ℕ)
+    → has_lease l j (state_for s states p) ≡ true → found s c j p ≡ Some b → found s d j p ≡ Some b
 plain_found s H states bits l c d S q ps plain front sound may lender number k p j b at e =
-    ap (λ (m : Lender). slot_page m d.number j (place_of s p.0)) lender ∙ ap (λ n. slot_page (serve c.lender c.number q.msg q.page).lender n j (place_of s p.0)) number
+    ap (λ (m : Lender). slot_page m d.number j (place_of s p.0)) lender
+    ∙ ap (λ n. slot_page (serve c.lender c.number q.msg q.page).lender n j (place_of s p.0)) number
     ∙ found-served c.lender c.number q.msg q.page j (place_of s p.0) b sound may (kept_by s states l c q ps p j _ plain front at k.given ∙ e)
 
 -- a lease that isn't given back isn't by the first message
-kept_done : (c d : Channel) (q : Parcel) (ps : List Parcel) (j : Lease) → c.to_lender.parcels ≡ q ∷ ps → (gives_back j c.to_lender.parcels ≡ true → ⊥) → is_done j q.msg ≡ false
+kept_done :
+    (c d : Channel) (q : Parcel) (ps : List Parcel) (j : Lease) → c.to_lender.parcels ≡ q ∷ ps → (gives_back j c.to_lender.parcels ≡ true → ⊥)
+    → is_done j q.msg ≡ false
 kept_done c d q ps j front kept = false_from_ne_true _ (λ e. kept (ap (gives_back j) front ∙ ap (λ b. b || gives_back j ps) e))
 
-seated : (c d : Channel) (q : Parcel) (t : Slab) (j : Lease) → d.lender ≡ (serve c.lender c.number q.msg q.page).lender → d.number ≡ c.number → HasSeat (serve c.lender c.number q.msg q.page).lender c.number j t → HasSeat d.lender d.number j t
-seated c d q t j lender number h = subst (λ (m : Lender). HasSeat m d.number j t) (sym lender) (subst (λ n. HasSeat (serve c.lender c.number q.msg q.page).lender n j t) (sym number) h)
+seated :
+    (c d : Channel) (q : Parcel) (t : Slab) (j : Lease) → d.lender ≡ (serve c.lender c.number q.msg q.page).lender → d.number ≡ c.number
+    → HasSeat (serve c.lender c.number q.msg q.page).lender c.number j t → HasSeat d.lender d.number j t
+seated c d q t j lender number h =
+    subst (λ (m : Lender). HasSeat m d.number j t) (sym lender) (subst (λ n. HasSeat (serve c.lender c.number q.msg q.page).lender n j t) (sym number) h)
 
 -- a slab that is being lent is lent by its lease
 lends_any : (t : Slab) (j : Lease) (ps : List Parcel) → lends_to t j ps ≡ true → lends_in j ps ≡ true
@@ -170,32 +203,54 @@ lends_any t j (p ∷ ps) e = go (lends_slab t j p.msg) refl e (lends_any t j ps)
     first true b e = refl
     first false b e = cc
 
-    go : (b : Bool) → lends_slab t j p.msg ≡ b → (b || lends_to t j ps) ≡ true → (lends_to t j ps ≡ true → lends_in j ps ≡ true) → (lends j p.msg || lends_in j ps) ≡ true
+    go :
+        (b : Bool) → lends_slab t j p.msg ≡ b → (b || lends_to t j ps) ≡ true → (lends_to t j ps ≡ true → lends_in j ps ≡ true)
+        → (lends j p.msg || lends_in j ps) ≡ true
     go true is e rest = first (lends j p.msg) (lends_in j ps) (lease_is p.msg is)
     go false is e rest = either (lends j p.msg) (lends_in j ps) (rest e)
 
-serves_plain : (s : Sizes) (H : History) (states : List SlabState) (bits : List Bool) (l : LenderNo) (c d : Channel) (S : List Request) (q : Parcel) (ps : List Parcel) → is_request q.msg ≡ false → c.to_lender.parcels ≡ q ∷ ps → IsSound c.lender → may_send c.lender c.number q.msg ≡ true
-    → d.lender ≡ (serve c.lender c.number q.msg q.page).lender → d.number ≡ c.number → d.to_lender.parcels ≡ ps → ((k : Lease) → lends_in k d.to_device.parcels ≡ lends_in k c.to_device.parcels) → ((t : Slab) (k : Lease) → lends_to t k d.to_device.parcels ≡ lends_to t k c.to_device.parcels) → Stored s H states bits l c S → Stored s H states bits l d S
+serves_plain :
+    (s : Sizes) (H : History) (states : List SlabState) (bits : List Bool) (l : LenderNo) (c d : Channel) (S : List Request) (q : Parcel) (ps : List Parcel)
+    → is_request q.msg ≡ false → c.to_lender.parcels ≡ q ∷ ps → IsSound c.lender → may_send c.lender c.number q.msg ≡ true
+    → d.lender ≡ (serve c.lender c.number q.msg q.page).lender → d.number ≡ c.number → d.to_lender.parcels ≡ ps
+    → ((k : Lease) → lends_in k d.to_device.parcels ≡ lends_in k c.to_device.parcels)
+    → ((t : Slab) (k : Lease) → lends_to t k d.to_device.parcels ≡ lends_to t k c.to_device.parcels) → Stored s H states bits l c S
+    → Stored s H states bits l d S
 serves_plain s H states bits l c d S q ps plain front sound may lender number left unlent loans k = record {
-  leased = λ t j at. seated c d q t j lender number (seat_served c.lender c.number q.msg q.page j t sound may (kept_done c d q ps j front (λ back. both_ways (has_lease l j (state_of states t)) ((k.given j back).unleased t) at)) (k.leased t j at));
+  leased =
+      λ t j at.
+      seated c d q t j lender number
+      (seat_served c.lender c.number q.msg q.page j t sound may
+      (kept_done c d q ps j front (λ back. both_ways (has_lease l j (state_of states t)) ((k.given j back).unleased t) at)) (k.leased t j at));
   lent = λ t j at.
       let was : lends_to t j c.to_device.parcels ≡ true = sym (loans t j) ∙ at in
-      seated c d q t j lender number (seat_served c.lender c.number q.msg q.page j t sound may (kept_done c d q ps j front (λ back. both_ways (lends_in j c.to_device.parcels) (k.given j back).unlent (lends_any t j c.to_device.parcels was))) (k.lent t j was));
-  written = λ p j e at is. let h = k.written p j e at is in (h.0, plain_found s H states bits l c d S q ps plain front sound may lender number k p j (bytes_of H e) at h.1);
+      seated c d q t j lender number
+      (seat_served c.lender c.number q.msg q.page j t sound may
+      (kept_done c d q ps j front (λ back. both_ways (lends_in j c.to_device.parcels) (k.given j back).unlent (lends_any t j c.to_device.parcels was)))
+      (k.lent t j was));
+  written =
+      λ p j e at is. let h = k.written p j e at is in
+      (h.0, plain_found s H states bits l c d S q ps plain front sound may lender number k p j (bytes_of H e) at h.1);
   readable = λ p j at set. plain_found s H states bits l c d S q ps plain front sound may lender number k p j (array (zeros s) H p) at (k.readable p j at set);
   given =
-      λ j e. given_later states l c d j (subst (λ (m : Lender). c.lender.next_lease ≤ m.next_lease) (sym lender) (next-serve c.lender c.number q.msg q.page)) (λ less no. unlent j ∙ no)
+      λ j e.
+      given_later states l c d j (subst (λ (m : Lender). c.lender.next_lease ≤ m.next_lease) (sym lender) (next-serve c.lender c.number q.msg q.page))
+      (λ less no. unlent j ∙ no)
       (k.given j (ap (gives_back j) front ∙ any-rest (λ (q : Parcel). is_done j q.msg) q ps (ap (gives_back j) (sym left) ∙ e)));
 }
 
 -- a request was served: what is found of another page than one that it writes stays
-request_found : (s : Sizes) (H : History) (states : List SlabState) (l : LenderNo) (c d : Channel) (q : Parcel) (x : Request) → AreSingle states → IsSound c.lender → may_send c.lender c.number q.msg ≡ true → Carries s H states l q x → d.lender ≡ (serve c.lender c.number q.msg q.page).lender → d.number ≡ c.number
-    → (p : Page) (j : Lease) (b : List ℕ) → has_lease l j (state_for s states p) ≡ true → ((o : Page) (e : EntryNo) → x ≡ Write o e → o.0 ≡ p.0 → ⊥) → found s c j p ≡ Some b → found s d j p ≡ Some b
+request_found :
+    (s : Sizes) (H : History) (states : List SlabState) (l : LenderNo) (c d : Channel) (q : Parcel) (x : Request) → AreSingle states → IsSound c.lender
+    → may_send c.lender c.number q.msg ≡ true → Carries s H states l q x → d.lender ≡ (serve c.lender c.number q.msg q.page).lender → d.number ≡ c.number
+    → (p : Page) (j : Lease) (b : List ℕ) → has_lease l j (state_for s states p) ≡ true → ((o : Page) (e : EntryNo) → x ≡ Write o e → o.0 ≡ p.0 → ⊥)
+    → found s c j p ≡ Some b → found s d j p ≡ Some b
 request_found s H states l c d q x single sound may carries lender number p j b at other e = go x carries other
   where
     now : left_by j (place_of s p.0) q.msg q.page (found s c j p) ≡ Some b → found s d j p ≡ Some b
     now e =
-        ap (λ (m : Lender). slot_page m d.number j (place_of s p.0)) lender ∙ ap (λ n. slot_page (serve c.lender c.number q.msg q.page).lender n j (place_of s p.0)) number
+        ap (λ (m : Lender). slot_page m d.number j (place_of s p.0)) lender
+        ∙ ap (λ n. slot_page (serve c.lender c.number q.msg q.page).lender n j (place_of s p.0)) number
         ∙ found-served c.lender c.number q.msg q.page j (place_of s p.0) b sound may e
 
     go : (x : Request) → Carries s H states l q x → ((o : Page) (e : EntryNo) → x ≡ Write o e → o.0 ≡ p.0 → ⊥) → found s d j p ≡ Some b
@@ -203,17 +258,24 @@ request_found s H states l c d q x single sound may carries lender number p j b 
     go (Borrow t) h other = now (let P : Parcel → Type 0 = λ r. left_by j (place_of s p.0) r.msg r.page (found s c j p) ≡ Some b in subst P (sym h) e)
     go (Read a o) h other = now (let P : Parcel → Type 0 = λ r. left_by j (place_of s p.0) r.msg r.page (found s c j p) ≡ Some b in subst P (sym h.1) e)
     go (Write o g) h other = now (let P : Parcel → Type 0 = λ r. left_by j (place_of s p.0) r.msg r.page (found s c j p) ≡ Some b in
-        subst P (sym h.1) (cond-false ((h.0.0 == j.0) && (place_of s o.0 == place_of s p.0)) _ _ (elsewhere s states l p o j h.0 single at h.2 (other o g refl)) ∙ e))
+        subst P (sym h.1)
+        (cond-false ((h.0.0 == j.0) && (place_of s o.0 == place_of s p.0)) _ _ (elsewhere s states l p o j h.0 single at h.2 (other o g refl)) ∙ e))
 
 pub no_done : (m : Msg) → is_request m ≡ true → (k : Lease) → is_done k m ≡ false
 no_done (msg.Done j) e k = cc
 no_done _ e k = refl
 
 -- a request was served
-serves_request : (s : Sizes) (H : History) (states : List SlabState) (bits : List Bool) (ring : List Request) (l : LenderNo) (c d : Channel) (S before after : List Request) (q : Parcel) (ps : List Parcel) (x : Request) → c.to_lender.parcels ≡ q ∷ ps → IsSound c.lender → may_send c.lender c.number q.msg ≡ true
+serves_request :
+    (s : Sizes) (H : History) (states : List SlabState) (bits : List Bool) (ring : List Request) (l : LenderNo) (c d : Channel) (S before after : List Request)
+    (q : Parcel) (ps : List Parcel) (x : Request)
+    → c.to_lender.parcels ≡ q ∷ ps → IsSound c.lender → may_send c.lender c.number q.msg ≡ true
     → Carries s H states l q x → ring ≡ before ++ x ∷ after → Clear s states bits ring l
-    → d.lender ≡ (serve c.lender c.number q.msg q.page).lender → d.number ≡ c.number → d.to_lender.parcels ≡ ps → ((k : Lease) → k.0 < c.lender.next_lease → lends_in k c.to_device.parcels ≡ false → lends_in k d.to_device.parcels ≡ false)
-    → is_request q.msg ≡ true → ((t : Slab) (k : Lease) → lends_to t k d.to_device.parcels ≡ true → (lends_to t k c.to_device.parcels ≡ true) ⊎ HasSeat (serve c.lender c.number q.msg q.page).lender c.number k t)
+    → d.lender ≡ (serve c.lender c.number q.msg q.page).lender → d.number ≡ c.number → d.to_lender.parcels ≡ ps
+    → ((k : Lease) → k.0 < c.lender.next_lease → lends_in k c.to_device.parcels ≡ false → lends_in k d.to_device.parcels ≡ false)
+    → is_request q.msg ≡ true
+    → ((t : Slab) (k : Lease) → lends_to t k d.to_device.parcels ≡ true
+    → (lends_to t k c.to_device.parcels ≡ true) ⊎ HasSeat (serve c.lender c.number q.msg q.page).lender c.number k t)
     → Stored s H states bits l c S → Stored s H states bits l d (S ++ x ∷ [])
 serves_request s H states bits ring l c d S before after q ps x front sound may carries in_ring clear lender number left unlent asks loans k = record {
   leased = λ t j at. seated c d q t j lender number (seat_served c.lender c.number q.msg q.page j t sound may (no_done q.msg asks j) (k.leased t j at));
@@ -224,25 +286,38 @@ serves_request s H states bits ring l c d S before after q ps x front sound may 
   written = λ p j e at is. written x carries in_ring p j e at (sym (latest-append p S x) ∙ is);
   readable = λ p j at set. readable x carries in_ring p j at set;
   given =
-      λ j e. given_later states l c d j (subst (λ (m : Lender). c.lender.next_lease ≤ m.next_lease) (sym lender) (next-serve c.lender c.number q.msg q.page)) (unlent j)
+      λ j e.
+      given_later states l c d j (subst (λ (m : Lender). c.lender.next_lease ≤ m.next_lease) (sym lender) (next-serve c.lender c.number q.msg q.page))
+      (unlent j)
       (k.given j (ap (gives_back j) front ∙ any-rest (λ (q : Parcel). is_done j q.msg) q ps (ap (gives_back j) (sym left) ∙ e)));
 }
   where
     now : (p : Page) (j : Lease) (b : List ℕ) → left_by j (place_of s p.0) q.msg q.page (found s c j p) ≡ Some b → found s d j p ≡ Some b
     now p j b e =
-        ap (λ (m : Lender). slot_page m d.number j (place_of s p.0)) lender ∙ ap (λ n. slot_page (serve c.lender c.number q.msg q.page).lender n j (place_of s p.0)) number
+        ap (λ (m : Lender). slot_page m d.number j (place_of s p.0)) lender
+        ∙ ap (λ n. slot_page (serve c.lender c.number q.msg q.page).lender n j (place_of s p.0)) number
         ∙ found-served c.lender c.number q.msg q.page j (place_of s p.0) b sound may e
 
     -- of another page than the one that is written
-    stays : (x : Request) → Carries s H states l q x → (p : Page) (j : Lease) (b : List ℕ) → has_lease l j (state_for s states p) ≡ true → ((o : Page) (e : EntryNo) → x ≡ Write o e → o.0 ≡ p.0 → ⊥) → found s c j p ≡ Some b → found s d j p ≡ Some b
+    stays :
+        (x : Request) → Carries s H states l q x → (p : Page) (j : Lease) (b : List ℕ) → has_lease l j (state_for s states p) ≡ true
+        → ((o : Page) (e : EntryNo) → x ≡ Write o e → o.0 ≡ p.0 → ⊥) → found s c j p ≡ Some b → found s d j p ≡ Some b
     stays x h p j b at other e = request_found s H states l c d q x clear.single sound may h lender number p j b at other e
 
-    readable : (x : Request) → Carries s H states l q x → ring ≡ before ++ x ∷ after → (p : Page) (j : Lease) → has_lease l j (state_for s states p) ≡ true → has bits p.0 ≡ true → found s d j p ≡ Some (array (zeros s) H p)
+    readable :
+        (x : Request) → Carries s H states l q x → ring ≡ before ++ x ∷ after → (p : Page) (j : Lease) → has_lease l j (state_for s states p) ≡ true
+        → has bits p.0 ≡ true → found s d j p ≡ Some (array (zeros s) H p)
     readable x h in_ring p j at set = stays x h p j (array (zeros s) H p) at
-        (λ o e is same. latest_some p e before after (subst (λ (r : List Request). latest p r ≡ None) (in_ring ∙ ap (λ y. before ++ y ∷ after) (is ∙ ap (λ n. Write (record { 0 = n }) e) same)) (clear.none p j at set)))
+        (λ o e is same.
+        latest_some p e before after
+        (subst (λ (r : List Request). latest p r ≡ None) (in_ring ∙ ap (λ y. before ++ y ∷ after) (is ∙ ap (λ n. Write (record { 0 = n }) e) same))
+        (clear.none p j at set)))
         (k.readable p j at set)
 
-    written : (x : Request) → Carries s H states l q x → ring ≡ before ++ x ∷ after → (p : Page) (j : Lease) (e : EntryNo) → has_lease l j (state_for s states p) ≡ true → first_of (entry_to p x) (latest p S) ≡ Some e → IsOut H p e × (found s d j p ≡ Some (bytes_of H e))
+    written :
+        (x : Request) → Carries s H states l q x → ring ≡ before ++ x ∷ after → (p : Page) (j : Lease) (e : EntryNo)
+        → has_lease l j (state_for s states p) ≡ true
+        → first_of (entry_to p x) (latest p S) ≡ Some e → IsOut H p e × (found s d j p ≡ Some (bytes_of H e))
     written (Query t) h in_ring p j e at is = let was = k.written p j e at is in (was.0, stays (Query t) h p j (bytes_of H e) at (λ o g y same. cc) was.1)
     written (Borrow t) h in_ring p j e at is = let was = k.written p j e at is in (was.0, stays (Borrow t) h p j (bytes_of H e) at (λ o g y same. cc) was.1)
     written (Read a o) h in_ring p j e at is = let was = k.written p j e at is in (was.0, stays (Read a o) h p j (bytes_of H e) at (λ o g y same. cc) was.1)
@@ -261,10 +336,15 @@ serves_request s H states bits ring l c d S before after q ps x front sound may 
             let there : has_lease l h.0 (state_for s states p) ≡ true = subst (λ (o : Page). has_lease l h.0 (state_for s states o) ≡ true) page h.2 in
             let lease : h.0 ≡ j = lease_one l h.0 j (state_for s states p) there at in
             let out : IsOut H p e = subst (λ (g : EntryNo). IsOut H p g) entry (subst (λ (o : Page). IsOut H o g) page h.3) in
-            let is_parcel : q ≡ write_parcel j (place_of s p.0) (bytes_of H e) = h.1 ∙ ap (λ (k : Lease). write_parcel k (place_of s o.0) (bytes_of H g)) lease ∙ ap (λ (o : Page). write_parcel j (place_of s o.0) (bytes_of H g)) page ∙ ap (λ (g : EntryNo). write_parcel j (place_of s p.0) (bytes_of H g)) entry in (
+            let is_parcel : q ≡ write_parcel j (place_of s p.0) (bytes_of H e) =
+            h.1 ∙ ap (λ (k : Lease). write_parcel k (place_of s o.0) (bytes_of H g)) lease
+            ∙ ap (λ (o : Page). write_parcel j (place_of s o.0) (bytes_of H g)) page
+            ∙ ap (λ (g : EntryNo). write_parcel j (place_of s p.0) (bytes_of H g)) entry in (
               out,
               now p j (bytes_of H e) (let P : Parcel → Type 0 = λ r. left_by j (place_of s p.0) r.msg r.page (found s c j p) ≡ Some (bytes_of H e) in
-                  subst P (sym is_parcel) (cond-true ((j.0 == j.0) && (place_of s p.0 == place_of s p.0)) _ _ (and_from (j.0 == j.0) (place_of s p.0 == place_of s p.0) (eq-eqb j.0 j.0 refl) (eq-eqb (place_of s p.0) (place_of s p.0) refl)))),
+                  subst P (sym is_parcel)
+                  (cond-true ((j.0 == j.0) && (place_of s p.0 == place_of s p.0)) _ _
+                  (and_from (j.0 == j.0) (place_of s p.0 == place_of s p.0) (eq-eqb j.0 j.0 refl) (eq-eqb (place_of s p.0) (place_of s p.0) refl)))),
             )
 
 -- notices lend nothing
@@ -288,29 +368,42 @@ lent_for k (p ∷ ps) e = go (lends k p.msg) refl e (lent_for k ps)
     slab_of_loan (msg.Lent slab lease) e = (slab, and_from (slab.0 == slab.0) (lease.0 == k.0) (eq-eqb slab.0 slab.0 refl) e)
     slab_of_loan _ e = cc
 
-    go : (b : Bool) → lends k p.msg ≡ b → (b || lends_in k ps) ≡ true → (lends_in k ps ≡ true → (t : Slab) × (lends_to t k ps ≡ true)) → (t : Slab) × (lends_to t k (p ∷ ps) ≡ true)
+    go :
+        (b : Bool) → lends k p.msg ≡ b → (b || lends_in k ps) ≡ true → (lends_in k ps ≡ true → (t : Slab) × (lends_to t k ps ≡ true))
+        → (t : Slab) × (lends_to t k (p ∷ ps) ≡ true)
     go true is e more = let one = slab_of_loan p.msg is in (one.0, first (lends_slab one.0 k p.msg) (lends_to one.0 k ps) one.1)
     go false is e more = let one = more e in (one.0, either (lends_slab one.0 k p.msg) (lends_to one.0 k ps) one.1)
 
 -- the reply to a request lends a new lease, if any
-lent_new : (s : Sizes) (H : History) (states : List SlabState) (bits : List Bool) (l : LenderNo) (c : Channel) (S : List Request) (q : Parcel) → IsSound c.lender → ((k : Lease) → k.0 < c.lender.next_lease → lends k q.msg ≡ false) → Stored s H states bits l c S → AreNew states l c.to_device.parcels → AreNew states l (appended c.to_device q).parcels
+lent_new :
+    (s : Sizes) (H : History) (states : List SlabState) (bits : List Bool) (l : LenderNo) (c : Channel) (S : List Request) (q : Parcel) → IsSound c.lender
+    → ((k : Lease) → k.0 < c.lender.next_lease → lends k q.msg ≡ false) → Stored s H states bits l c S → AreNew states l c.to_device.parcels
+    → AreNew states l (appended c.to_device q).parcels
 lent_new s H states bits l c S q sound new k loans = record {
   fresh = λ j t e. elim (lends-append-or j c.to_device q e) [
     | inl was ↦ loans.fresh j t was
     | inr now ↦ false_from_ne_true _ (λ at. both_ways (lends j q.msg) (new j (seat_given c.lender c.number j t sound (k.leased t j at))) now)
   ];
-  once = once-append c.to_device q loans.once (λ j e. let one = lent_for j c.to_device.parcels e in new j (seat_given c.lender c.number j one.0 sound (k.lent one.0 j one.1)));
+  once =
+      once-append c.to_device q loans.once
+      (λ j e. let one = lent_for j c.to_device.parcels e in new j (seat_given c.lender c.number j one.0 sound (k.lent one.0 j one.1)));
 }
   where
     lends-append-or : (j : Lease) (b : Lane) (q : Parcel) → lends_in j (appended b q).parcels ≡ true → (lends_in j b.parcels ≡ true) ⊎ (lends j q.msg ≡ true)
-    lends-append-or j b q = by_append (λ z. lends_in j z.parcels ≡ true → (lends_in j b.parcels ≡ true) ⊎ (lends j q.msg ≡ true)) b q (λ _ e. inl e) (λ _. any_last (λ (q : Parcel). lends j q.msg) b.parcels q) (λ _ e. inl e)
+    lends-append-or j b q =
+        by_append (λ z. lends_in j z.parcels ≡ true → (lends_in j b.parcels ≡ true) ⊎ (lends j q.msg ≡ true)) b q (λ _ e. inl e)
+        (λ _. any_last (λ (q : Parcel). lends j q.msg) b.parcels q) (λ _ e. inl e)
 
 -- the lender takes its first message
 abbrev pub without_first : Channel → List Parcel → Channel
 without_first c ps = record c { to_lender = record c.to_lender { parcels = ps } }
 
 -- what is held for a read stays held, where what is found of its page does
-holds_on : (s : Sizes) (H : History) (cs : Calls) (states : List SlabState) (l : LenderNo) (c d : Channel) (x : Request) → ((a : Caller) (p : Page) → x ≡ Read a p → (j : Lease) (b : List ℕ) → has_lease l j (state_for s states p) ≡ true → found s c j p ≡ Some b → found s d j p ≡ Some b) → HoldsFor s H cs states l c x → HoldsFor s H cs states l d x
+holds_on :
+    (s : Sizes) (H : History) (cs : Calls) (states : List SlabState) (l : LenderNo) (c d : Channel) (x : Request)
+    → ((a : Caller) (p : Page) → x ≡ Read a p → (j : Lease) (b : List ℕ) → has_lease l j (state_for s states p) ≡ true → found s c j p ≡ Some b
+    → found s d j p ≡ Some b)
+    → HoldsFor s H cs states l c x → HoldsFor s H cs states l d x
 holds_on s H cs states l c d (Query t) stays h = tt
 holds_on s H cs states l c d (Borrow t) stays h = tt
 holds_on s H cs states l c d (Write p e) stays h = tt
@@ -331,7 +424,11 @@ ordered_back : (xs ys : List Request) → AreInOrder (xs ++ ys) → AreInOrder y
 ordered_back [] ys h = h
 ordered_back (x ∷ xs) ys h = ordered_back xs ys h.1
 
-joined_fine : (s : Sizes) (H : History) (cs : Calls) (states : List SlabState) (bits : List Bool) (ring : List Request) (l : LenderNo) (c : Channel) (q : Parcel) (ps : List Parcel) → JoinedOf s H cs states bits ring l c → c.lender_gone ≡ false → IsSound c.lender → AreSlots c.lender → Clear s states bits ring l → c.to_lender.parcels ≡ q ∷ ps → may_send c.lender c.number q.msg ≡ true
+joined_fine :
+    (s : Sizes) (H : History) (cs : Calls) (states : List SlabState) (bits : List Bool) (ring : List Request) (l : LenderNo) (c : Channel) (q : Parcel)
+    (ps : List Parcel)
+    → JoinedOf s H cs states bits ring l c → c.lender_gone ≡ false → IsSound c.lender → AreSlots c.lender → Clear s states bits ring l
+    → c.to_lender.parcels ≡ q ∷ ps → may_send c.lender c.number q.msg ≡ true
     → JoinedOf s H cs states bits ring l (delivered (without_first c ps) (serve c.lender c.number q.msg q.page))
 joined_fine s H cs states bits ring l c q ps h stands sound slots clear front may = go (is_request q.msg) refl
   where
@@ -346,84 +443,151 @@ joined_fine s H cs states bits ring l c q ps h stands sound slots clear front ma
 
     go : (b : Bool) → is_request q.msg ≡ b → JoinedOf s H cs states bits ring l (delivered (without_first c ps) (serve c.lender c.number q.msg q.page))
     go false plain =
-        let noticed : Noticed c.to_lender c.to_device (forwarded c.number c.to_device (serve c.lender c.number q.msg q.page).parcels) = forwarded_noticed c.to_lender c.to_device c.number (serve c.lender c.number q.msg q.page).parcels (serves_quietly c.lender c.number q.msg q.page plain) in
-        let quiet_now : Quiet c.to_lender c.to_device (record c.to_lender { parcels = ps }) (forwarded c.number c.to_device (serve c.lender c.number q.msg q.page).parcels) =
-        record { asks = sym (ap (λ (zs : List Parcel). filter asks_by zs) front ∙ filter-drops asks_by q ps plain); replies = noticed.quiet.replies; to_lender = λ f. f; to_device = noticed.quiet.to_device }
+        let noticed : Noticed c.to_lender c.to_device (forwarded c.number c.to_device (serve c.lender c.number q.msg q.page).parcels) =
+        forwarded_noticed c.to_lender c.to_device c.number (serve c.lender c.number q.msg q.page).parcels
+        (serves_quietly c.lender c.number q.msg q.page plain) in
+        let quiet_now : Quiet c.to_lender c.to_device (record c.to_lender { parcels = ps })
+        (forwarded c.number c.to_device (serve c.lender c.number q.msg q.page).parcels) =
+        record {
+          asks = sym (ap (λ (zs : List Parcel). filter asks_by zs) front ∙ filter-drops asks_by q ps plain);
+          replies = noticed.quiet.replies;
+          to_lender = λ f. f;
+          to_device = noticed.quiet.to_device;
+        }
         in
-        let o : OrderedAt s H cs states ring l c (record c.to_lender { parcels = ps }) (forwarded c.number c.to_device (serve c.lender c.number q.msg q.page).parcels) (served_of h.order) h.order.under_way =
-        order_quiet R C ring c.to_lender c.to_device (record c.to_lender { parcels = ps }) (forwarded c.number c.to_device (serve c.lender c.number q.msg q.page).parcels) (served_of h.order) h.order.under_way quiet_now (itself R C ring c.to_lender c.to_device h.order)
+        let o : OrderedAt s H cs states ring l c (record c.to_lender { parcels = ps })
+        (forwarded c.number c.to_device (serve c.lender c.number q.msg q.page).parcels) (served_of h.order) h.order.under_way =
+        order_quiet R C ring c.to_lender c.to_device (record c.to_lender { parcels = ps })
+        (forwarded c.number c.to_device (serve c.lender c.number q.msg q.page).parcels) (served_of h.order) h.order.under_way quiet_now
+        (itself R C ring c.to_lender c.to_device h.order)
         in
         joined s H cs states bits ring l d (served_of h.order) h.order.under_way h.present
-        (order_moved s H cs states ring l c d (record c.to_lender { parcels = ps }) (forwarded c.number c.to_device (serve c.lender c.number q.msg q.page).parcels) (served_of h.order) h.order.under_way (λ x. Unit {0})
-        (λ x _ held. unless-both c.lender_gone _ _ _ (λ (k : Stored s H states bits l c (served_of h.order)) hold. holds_on s H cs states l c d x (λ a p is j b at e. plain_found s H states bits l c d (served_of h.order) q ps plain front sound may refl refl k p j b at e) hold) h.stored held)
+        (order_moved s H cs states ring l c d (record c.to_lender { parcels = ps })
+        (forwarded c.number c.to_device (serve c.lender c.number q.msg q.page).parcels) (served_of h.order) h.order.under_way (λ x. Unit {0})
+        (λ x _ held.
+        unless-both c.lender_gone _ _ _
+        (λ (k : Stored s H states bits l c (served_of h.order)) hold.
+        holds_on s H cs states l c d x
+        (λ a p is j b at e. plain_found s H states bits l c d (served_of h.order) q ps plain front sound may refl refl k p j b at e) hold)
+        h.stored held)
         o (all_true o.order.under_way))
-        (unless-map c.lender_gone _ _ (serves_plain s H states bits l c d (served_of h.order) q ps plain front sound may refl refl refl noticed.lends noticed.loans) h.stored)
+        (unless-map c.lender_gone _ _
+        (serves_plain s H states bits l c d (served_of h.order) q ps plain front sound may refl refl refl noticed.lends noticed.loans) h.stored)
         (noticed_new states l c.to_lender c.to_device (forwarded c.number c.to_device (serve c.lender c.number q.msg q.page).parcels) noticed h.loans)
     go true asks =
         let f : Carried C q ps h.order.under_way = order_front R C ring c.to_lender c.to_device q ps h.order front asks in
         let r : Reply s H cs states l c (serve c.lender c.number q.msg q.page) f.one = replies s H cs states l c q f.one f.carries.0 may in
-        let lane : forwarded c.number c.to_device (serve c.lender c.number q.msg q.page).parcels ≡ appended c.to_device r.reply = forwarded_one c.number c.to_device (serve c.lender c.number q.msg q.page).parcels r.reply r.parcels r.whole in
+        let lane : forwarded c.number c.to_device (serve c.lender c.number q.msg q.page).parcels ≡ appended c.to_device r.reply =
+        forwarded_one c.number c.to_device (serve c.lender c.number q.msg q.page).parcels r.reply r.parcels r.whole in
         let o : OrderedAt s H cs states ring l c (record c.to_lender { parcels = ps }) (appended c.to_device r.reply) (served_of h.order ++ f.one ∷ []) f.rest =
         order_served R C ring c.to_lender c.to_device q r.reply ps h.order f r.is (r.answers, r.brings (unless-at c.lender_gone _ stands f.carries.1))
         in
-        let in_ring : ring ≡ served_of h.order ++ f.one ∷ (f.rest ++ h.order.dropped) = h.order.in_four ∙ ap (λ z. served_of h.order ++ (z ++ h.order.dropped)) f.is in
-        let behind : AllByRecursion (MayPrecede f.one) f.rest = all-front (MayPrecede f.one) f.rest h.order.dropped (ordered_back (served_of h.order) (f.one ∷ (f.rest ++ h.order.dropped)) (subst AreInOrder in_ring clear.ordered)).0 in
-        let moved : OrderedAt s H cs states ring l d (record c.to_lender { parcels = ps }) (appended c.to_device r.reply) (served_of h.order ++ f.one ∷ []) f.rest =
-        order_moved s H cs states ring l c d (record c.to_lender { parcels = ps }) (appended c.to_device r.reply) (served_of h.order ++ f.one ∷ []) f.rest (MayPrecede f.one)
-        (λ y before. unless-map c.lender_gone _ _ (holds_on s H cs states l c d y (λ a p is j b at e. request_found s H states l c d q f.one clear.single sound may f.carries.0 refl refl p j b at (λ w g is_write. apart_from f.one y before a p w g is is_write) e)))
-        o (all_at_most R C (MayPrecede f.one) ring (record c.to_lender { parcels = ps }) (appended c.to_device r.reply) (served_of h.order ++ f.one ∷ []) f.rest o behind)
+        let in_ring : ring ≡ served_of h.order ++ f.one ∷ (f.rest ++ h.order.dropped) =
+        h.order.in_four ∙ ap (λ z. served_of h.order ++ (z ++ h.order.dropped)) f.is in
+        let behind : AllByRecursion (MayPrecede f.one) f.rest =
+        all-front (MayPrecede f.one) f.rest h.order.dropped
+        (ordered_back (served_of h.order) (f.one ∷ (f.rest ++ h.order.dropped)) (subst AreInOrder in_ring clear.ordered)).0 in
+        let moved : OrderedAt s H cs states ring l d (record c.to_lender { parcels = ps }) (appended c.to_device r.reply)
+        (served_of h.order ++ f.one ∷ []) f.rest =
+        order_moved s H cs states ring l c d (record c.to_lender { parcels = ps }) (appended c.to_device r.reply) (served_of h.order ++ f.one ∷ []) f.rest
+        (MayPrecede f.one)
+        (λ y before.
+        unless-map c.lender_gone _ _
+        (holds_on s H cs states l c d y
+        (λ a p is j b at e.
+        request_found s H states l c d q f.one clear.single sound may f.carries.0 refl refl p j b at
+        (λ w g is_write. apart_from f.one y before a p w g is is_write) e)))
+        o
+        (all_at_most R C (MayPrecede f.one) ring (record c.to_lender { parcels = ps }) (appended c.to_device r.reply)
+        (served_of h.order ++ f.one ∷ []) f.rest o behind)
         in
         let P : Lane → Type 0 = λ z. OrderedAt s H cs states ring l d (record c.to_lender { parcels = ps }) z (served_of h.order ++ f.one ∷ []) f.rest in
         joined s H cs states bits ring l d (served_of h.order ++ f.one ∷ []) f.rest h.present (subst P (sym lane) moved)
-        (unless-map c.lender_gone _ _ (serves_request s H states bits ring l c d (served_of h.order) (served_of h.order) (f.rest ++ h.order.dropped) q ps f.one front sound may f.carries.0
+        (unless-map c.lender_gone _ _
+        (serves_request s H states bits ring l c d (served_of h.order) (served_of h.order) (f.rest ++ h.order.dropped) q ps f.one front sound may f.carries.0
         in_ring clear refl refl refl
         (λ k less off. ap (λ (z : Lane). lends_in k z.parcels) lane ∙ lends-append k c.to_device r.reply (r.new k less) ∙ off) asks
-        (λ t k e. elim (loan-append t k c.to_device r.reply (sym (ap (λ (z : Lane). lends_to t k z.parcels) lane) ∙ e)) [ inl was ↦ inl was | inr new ↦ inr (r.seat sound slots t k new) ])) h.stored)
-        (subst (λ (z : Lane). AreNew states l z.parcels) (sym lane) (lent_new s H states bits l c (served_of h.order) r.reply sound r.new (unless-at c.lender_gone _ stands h.stored) h.loans))
+        (λ t k e.
+        elim (loan-append t k c.to_device r.reply (sym (ap (λ (z : Lane). lends_to t k z.parcels) lane) ∙ e))
+        [ inl was ↦ inl was | inr new ↦ inr (r.seat sound slots t k new) ]))
+        h.stored)
+        (subst (λ (z : Lane). AreNew states l z.parcels) (sym lane)
+        (lent_new s H states bits l c (served_of h.order) r.reply sound r.new (unless-at c.lender_gone _ stands h.stored) h.loans))
 
 -- the lender's end leaves
-pub joined_abandoned : (s : Sizes) (H : History) (cs : Calls) (states : List SlabState) (bits : List Bool) (ring : List Request) (l : LenderNo) (c : Channel) (a : Lane) (m : Lender) (S U : List Request) → c.device_gone ≡ false → AreNew states l c.to_device.parcels → OrderedAt s H cs states ring l c a c.to_device S U
+pub joined_abandoned :
+    (s : Sizes) (H : History) (cs : Calls) (states : List SlabState) (bits : List Bool) (ring : List Request) (l : LenderNo) (c : Channel) (a : Lane)
+    (m : Lender)
+    (S U : List Request)
+    → c.device_gone ≡ false → AreNew states l c.to_device.parcels → OrderedAt s H cs states ring l c a c.to_device S U
     → JoinedOf s H cs states bits ring l (record c { lender = m; to_lender = cut a 0; to_device = ended c.to_device; lender_gone = true })
 joined_abandoned s H cs states bits ring l c a m S U present new h =
     let o : OrderedAt s H cs states ring l c (cut a 0) (ended c.to_device) S U =
-    order_quiet (Replied s H cs states l) (Asked s H cs states l c) ring (cut a 0) c.to_device (cut a 0) (ended c.to_device) S U (record { asks = refl; replies = refl; to_lender = λ f. f; to_device = λ f. absurd (both_ways true f refl) })
+    order_quiet (Replied s H cs states l) (Asked s H cs states l c) ring (cut a 0) c.to_device (cut a 0) (ended c.to_device) S U
+    (record { asks = refl; replies = refl; to_lender = λ f. f; to_device = λ f. absurd (both_ways true f refl) })
     (order_cut_to (Replied s H cs states l) (Asked s H cs states l c) ring a c.to_device 0 S U h)
     in
     joined s H cs states bits ring l (record c { lender = m; to_lender = cut a 0; to_device = ended c.to_device; lender_gone = true }) S U present
-    (order_moved s H cs states ring l c (record c { lender = m; to_lender = cut a 0; to_device = ended c.to_device; lender_gone = true }) (cut a 0) (ended c.to_device) S U (λ x. Unit {0}) (λ x _ held. tt) o (all_true o.order.under_way)) tt new
+    (order_moved s H cs states ring l c (record c { lender = m; to_lender = cut a 0; to_device = ended c.to_device; lender_gone = true }) (cut a 0)
+    (ended c.to_device) S U (λ x. Unit {0}) (λ x _ held. tt) o (all_true o.order.under_way))
+    tt new
 
-pub joined_given : (s : Sizes) (H : History) (cs : Calls) (states : List SlabState) (bits : List Bool) (ring : List Request) (l : LenderNo) (c : Channel) → JoinedOf s H cs states bits ring l c → IsSound c.lender → AreSlots c.lender → Clear s states bits ring l → JoinedOf s H cs states bits ring l (given c).1
+pub joined_given :
+    (s : Sizes) (H : History) (cs : Calls) (states : List SlabState) (bits : List Bool) (ring : List Request) (l : LenderNo) (c : Channel)
+    → JoinedOf s H cs states bits ring l c → IsSound c.lender → AreSlots c.lender → Clear s states bits ring l → JoinedOf s H cs states bits ring l (given c).1
 joined_given s H cs states bits ring l c h sound slots clear = cond_both c.lender_gone _ _ P (λ _. h) (λ stands. from stands c.to_lender.parcels refl)
   where
     P : Gave × Channel → Type 0
     P x = JoinedOf s H cs states bits ring l x.1
 
     leaves : JoinedOf s H cs states bits ring l (abandoned c)
-    leaves = joined_abandoned s H cs states bits ring l c c.to_lender (gone c.lender c.number).lender (served_of h.order) h.order.under_way h.present h.loans (itself (Replied s H cs states l) (Asked s H cs states l c) ring c.to_lender c.to_device h.order)
+    leaves =
+        joined_abandoned s H cs states bits ring l c c.to_lender (gone c.lender c.number).lender (served_of h.order) h.order.under_way h.present h.loans
+        (itself (Replied s H cs states l) (Asked s H cs states l c) ring c.to_lender c.to_device h.order)
 
     from : c.lender_gone ≡ false → (ps : List Parcel) → c.to_lender.parcels ≡ ps → P (given_from c ps)
     from stands [] e = cond_both c.to_lender.ended _ _ P (λ _. leaves) (λ _. h)
     from stands (q ∷ ps) e =
         cond_both (may_send c.lender c.number q.msg) _ _ P
-        (λ may. subst (λ (t : Turn). JoinedOf s H cs states bits ring l (delivered (without_first c ps) t)) (sym (took-served c.lender c.number q.msg q.page may)) (joined_fine s H cs states bits ring l c q ps h stands sound slots clear e may))
+        (λ may.
+        subst (λ (t : Turn). JoinedOf s H cs states bits ring l (delivered (without_first c ps) t)) (sym (took-served c.lender c.number q.msg q.page may))
+        (joined_fine s H cs states bits ring l c q ps h stands sound slots clear e may))
         (λ _. leaves)
 
 -- the host's use is measured
-pub joined_hosted : (s : Sizes) (H : History) (cs : Calls) (states : List SlabState) (bits : List Bool) (ring : List Request) (l : LenderNo) (c : Channel) (used word : ℕ) → JoinedOf s H cs states bits ring l c → JoinedOf s H cs states bits ring l (delivered c (host c.lender used word))
+pub joined_hosted :
+    (s : Sizes) (H : History) (cs : Calls) (states : List SlabState) (bits : List Bool) (ring : List Request) (l : LenderNo) (c : Channel) (used word : ℕ)
+    → JoinedOf s H cs states bits ring l c → JoinedOf s H cs states bits ring l (delivered c (host c.lender used word))
 joined_hosted s H cs states bits ring l c used word h =
-    let noticed : Noticed c.to_lender c.to_device (forwarded c.number c.to_device (host c.lender used word).parcels) = forwarded_noticed c.to_lender c.to_device c.number (host c.lender used word).parcels (hosts_quietly c.lender used word) in
-    let o : OrderedAt s H cs states ring l c c.to_lender (forwarded c.number c.to_device (host c.lender used word).parcels) (served_of h.order) h.order.under_way =
-    order_quiet (Replied s H cs states l) (Asked s H cs states l c) ring c.to_lender c.to_device c.to_lender (forwarded c.number c.to_device (host c.lender used word).parcels) (served_of h.order) h.order.under_way noticed.quiet (itself (Replied s H cs states l) (Asked s H cs states l c) ring c.to_lender c.to_device h.order)
+    let noticed : Noticed c.to_lender c.to_device (forwarded c.number c.to_device (host c.lender used word).parcels) =
+    forwarded_noticed c.to_lender c.to_device c.number (host c.lender used word).parcels (hosts_quietly c.lender used word) in
+    let o : OrderedAt s H cs states ring l c c.to_lender (forwarded c.number c.to_device (host c.lender used word).parcels)
+    (served_of h.order) h.order.under_way =
+    order_quiet (Replied s H cs states l) (Asked s H cs states l c) ring c.to_lender c.to_device c.to_lender
+    (forwarded c.number c.to_device (host c.lender used word).parcels) (served_of h.order) h.order.under_way noticed.quiet
+    (itself (Replied s H cs states l) (Asked s H cs states l c) ring c.to_lender c.to_device h.order)
     in
     joined s H cs states bits ring l (delivered c (host c.lender used word)) (served_of h.order) h.order.under_way h.present
-    (order_moved s H cs states ring l c (delivered c (host c.lender used word)) c.to_lender (forwarded c.number c.to_device (host c.lender used word).parcels) (served_of h.order) h.order.under_way (λ x. Unit {0})
-    (λ x _. unless-map c.lender_gone _ _ (holds_on s H cs states l c (delivered c (host c.lender used word)) x (λ a p is j b at e. slot_page-host c.lender used word c.number j (place_of s p.0) ∙ e))) o (all_true o.order.under_way))
+    (order_moved s H cs states ring l c (delivered c (host c.lender used word)) c.to_lender (forwarded c.number c.to_device (host c.lender used word).parcels)
+    (served_of h.order) h.order.under_way (λ x. Unit {0})
+    (λ x _.
+    unless-map c.lender_gone _ _
+    (holds_on s H cs states l c (delivered c (host c.lender used word)) x
+    (λ a p is j b at e. slot_page-host c.lender used word c.number j (place_of s p.0) ∙ e)))
+    o
+    (all_true o.order.under_way))
     (unless-map c.lender_gone _ _ (λ (k : Stored s H states bits l c (served_of h.order)). record {
       leased = λ t j at. seat_host c.lender used word c.number j t (k.leased t j at);
       lent = λ t j at. seat_host c.lender used word c.number j t (k.lent t j (sym (noticed.loans t j) ∙ at));
       written = λ p j e at is. let was = k.written p j e at is in (was.0, slot_page-host c.lender used word c.number j (place_of s p.0) ∙ was.1);
       readable = λ p j at set. slot_page-host c.lender used word c.number j (place_of s p.0) ∙ k.readable p j at set;
-      given = λ j e. let was = k.given j e in record { known = subst (λ n. j.0 < n) (sym (next-host c.lender used word)) was.known; unleased = was.unleased; unlent = noticed.lends j ∙ was.unlent };
+      given =
+          λ j e. let was = k.given j e in
+          record {
+            known = subst (λ n. j.0 < n) (sym (next-host c.lender used word)) was.known;
+            unleased = was.unleased;
+            unlent = noticed.lends j ∙ was.unlent;
+          };
     }) h.stored)
     (noticed_new states l c.to_lender c.to_device (forwarded c.number c.to_device (host c.lender used word).parcels) noticed h.loans)
 
@@ -434,34 +598,52 @@ once_take (suc n) [] once = tt
 once_take (suc n) (p ∷ ps) once = ((λ k e. none-take (λ (q : Parcel). lends k q.msg) n ps (once.0 k e)), once_take n ps once.1)
 
 -- the link is cut
-pub joined_cut : (s : Sizes) (H : History) (cs : Calls) (states : List SlabState) (bits : List Bool) (ring : List Request) (l : LenderNo) (c : Channel) (m n : ℕ) → JoinedOf s H cs states bits ring l c → JoinedOf s H cs states bits ring l (severed c m n).1
+pub joined_cut :
+    (s : Sizes) (H : History) (cs : Calls) (states : List SlabState) (bits : List Bool) (ring : List Request) (l : LenderNo) (c : Channel) (m n : ℕ)
+    → JoinedOf s H cs states bits ring l c → JoinedOf s H cs states bits ring l (severed c m n).1
 joined_cut s H cs states bits ring l c m n h =
     joined s H cs states bits ring l (severed c m n).1 (served_of h.order) h.order.under_way h.present
-    (order_cut_from (Replied s H cs states l) (Asked s H cs states l c) ring (cut c.to_lender m) c.to_device n (served_of h.order) h.order.under_way (order_cut_to (Replied s H cs states l) (Asked s H cs states l c) ring c.to_lender c.to_device m (served_of h.order) h.order.under_way (itself (Replied s H cs states l) (Asked s H cs states l c) ring c.to_lender c.to_device h.order)))
+    (order_cut_from (Replied s H cs states l) (Asked s H cs states l c) ring (cut c.to_lender m) c.to_device n (served_of h.order) h.order.under_way
+    (order_cut_to (Replied s H cs states l) (Asked s H cs states l c) ring c.to_lender c.to_device m (served_of h.order) h.order.under_way
+    (itself (Replied s H cs states l) (Asked s H cs states l c) ring c.to_lender c.to_device h.order)))
     (unless-map c.lender_gone _ _ (λ (k : Stored s H states bits l c (served_of h.order)). record {
       leased = k.leased;
       lent = λ t j at. k.lent t j (any-take (λ (q : Parcel). lends_slab t j q.msg) n c.to_device.parcels at);
       written = k.written;
       readable = k.readable;
-      given = λ j e. let was = k.given j (any-take (λ (q : Parcel). is_done j q.msg) m c.to_lender.parcels e) in record { known = was.known; unleased = was.unleased; unlent = none-take (λ (q : Parcel). lends j q.msg) n c.to_device.parcels was.unlent };
+      given =
+          λ j e. let was = k.given j (any-take (λ (q : Parcel). is_done j q.msg) m c.to_lender.parcels e) in
+          record { known = was.known; unleased = was.unleased; unlent = none-take (λ (q : Parcel). lends j q.msg) n c.to_device.parcels was.unlent };
     }) h.stored)
-    (record { fresh = λ k t e. h.loans.fresh k t (any-take (λ (q : Parcel). lends k q.msg) n c.to_device.parcels e); once = once_take n c.to_device.parcels h.loans.once })
+    (record {
+      fresh = λ k t e. h.loans.fresh k t (any-take (λ (q : Parcel). lends k q.msg) n c.to_device.parcels e);
+      once = once_take n c.to_device.parcels h.loans.once;
+    })
 
 -- the lender crashes
-pub joined_crashed : (s : Sizes) (H : History) (cs : Calls) (states : List SlabState) (bits : List Bool) (ring : List Request) (l : LenderNo) (c : Channel) → JoinedOf s H cs states bits ring l c → JoinedOf s H cs states bits ring l (crashed c)
+pub joined_crashed :
+    (s : Sizes) (H : History) (cs : Calls) (states : List SlabState) (bits : List Bool) (ring : List Request) (l : LenderNo) (c : Channel)
+    → JoinedOf s H cs states bits ring l c → JoinedOf s H cs states bits ring l (crashed c)
 joined_crashed s H cs states bits ring l c h =
     cond_both c.lender_gone _ _ (λ (x : Channel). JoinedOf s H cs states bits ring l x)
     (λ left.
-    let o : OrderedAt s H cs states ring l c c.to_lender c.to_device (served_of h.order) h.order.under_way = itself (Replied s H cs states l) (Asked s H cs states l c) ring c.to_lender c.to_device h.order in
+    let o : OrderedAt s H cs states ring l c c.to_lender c.to_device (served_of h.order) h.order.under_way =
+    itself (Replied s H cs states l) (Asked s H cs states l c) ring c.to_lender c.to_device h.order in
     joined s H cs states bits ring l (record c { lender = restart c.lender }) (served_of h.order) h.order.under_way h.present
-    (order_moved s H cs states ring l c (record c { lender = restart c.lender }) c.to_lender c.to_device (served_of h.order) h.order.under_way (λ x. Unit {0}) (λ x _ held. unless c.lender_gone _ (λ f. absurd (both_ways c.lender_gone f left))) o (all_true o.order.under_way))
+    (order_moved s H cs states ring l c (record c { lender = restart c.lender }) c.to_lender c.to_device (served_of h.order) h.order.under_way (λ x. Unit {0})
+    (λ x _ held. unless c.lender_gone _ (λ f. absurd (both_ways c.lender_gone f left))) o (all_true o.order.under_way))
     (unless c.lender_gone _ (λ f. absurd (both_ways c.lender_gone f left))) h.loans)
-    (λ _. joined_abandoned s H cs states bits ring l c c.to_lender (restart c.lender) (served_of h.order) h.order.under_way h.present h.loans (itself (Replied s H cs states l) (Asked s H cs states l c) ring c.to_lender c.to_device h.order))
+    (λ _.
+    joined_abandoned s H cs states bits ring l c c.to_lender (restart c.lender) (served_of h.order) h.order.under_way h.present h.loans
+    (itself (Replied s H cs states l) (Asked s H cs states l c) ring c.to_lender c.to_device h.order))
 
 -- a link is made
-pub joined_new : (s : Sizes) (H : History) (cs : Calls) (states : List SlabState) (bits : List Bool) (l : LenderNo) (c : Channel) (n : Link) → ((t : Slab) (k : Lease) → has_lease l k (state_of states t) ≡ true → ⊥) → JoinedOf s H cs states bits [] l (connected c n)
+pub joined_new :
+    (s : Sizes) (H : History) (cs : Calls) (states : List SlabState) (bits : List Bool) (l : LenderNo) (c : Channel) (n : Link)
+    → ((t : Slab) (k : Lease) → has_lease l k (state_of states t) ≡ true → ⊥) → JoinedOf s H cs states bits [] l (connected c n)
 joined_new s H cs states bits l c n none =
-    joined s H cs states bits [] l (connected c n) [] [] refl (order_new (Replied s H cs states l) (Asked s H cs states l (connected c n)) (connected c n).to_lender (connected c n).to_device refl refl) (record {
+    joined s H cs states bits [] l (connected c n) [] [] refl
+    (order_new (Replied s H cs states l) (Asked s H cs states l (connected c n)) (connected c n).to_lender (connected c n).to_device refl refl) (record {
       leased = λ t j at. absurd (none t j at);
       lent = λ t j at. cc;
       written = λ p j e at is. absurd (none (slab_for s p) j at);

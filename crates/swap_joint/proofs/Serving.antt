@@ -27,7 +27,9 @@ leased_at : (l : Lender) (i : ℕ) (m : Link) (t : Slab) (k : Lease) (e : Bool) 
 leased_at l i m t k e is = ap lease_of is
 
 -- slots that differ by their leases
-pub same_slot : (l : Lender) → IsSound l → (i j : ℕ) (m n : Link) (t u : Slab) (k o : Lease) (e f : Bool) → slot_in l.slots i ≡ Held m t k e → slot_in l.slots j ≡ Held n u o f → k.0 ≡ o.0 → i ≡ j
+pub same_slot :
+    (l : Lender) → IsSound l → (i j : ℕ) (m n : Link) (t u : Slab) (k o : Lease) (e f : Bool) → slot_in l.slots i ≡ Held m t k e
+    → slot_in l.slots j ≡ Held n u o f → k.0 ≡ o.0 → i ≡ j
 same_slot l sound i j m n t u k o e f a b same = sound.differ i j k.0 (leased_at l i m t k e a) (leased_at l j n u o f b ∙ ap (λ x. Some x) (sym same))
 
 -- a slot is found by its lease
@@ -36,19 +38,26 @@ pub record IsAt (l : Lender) (n : Link) (k : Lease) (i : ℕ) : Type 0 where
   pub is : slot_of l n k ≡ i
 
 within_slots : (slots : List SlotState) (i : ℕ) (m : Link) (t : Slab) (k : Lease) (e : Bool) → get_or slots i Free ≡ Held m t k e → i < length slots
-within_slots slots i m t k e is = elim (cases_lt i (length slots)) [ inl within ↦ within | inr past ↦ absurd (free_held (sym (get_or_past slots i Free past) ∙ is)) ]
+within_slots slots i m t k e is =
+    elim (cases_lt i (length slots)) [ inl within ↦ within | inr past ↦ absurd (free_held (sym (get_or_past slots i Free past) ∙ is)) ]
   where
     free_held : Free ≡ Held m t k e → ⊥
     free_held e = cc
 
-pub slot_found : (l : Lender) (n : Link) (k : Lease) (i : ℕ) (m : Link) (t : Slab) (e : Bool) → IsSound l → slot_in l.slots i ≡ Held m t k e → m.0 ≡ n.0 → IsAt l n k i
+pub slot_found :
+    (l : Lender) (n : Link) (k : Lease) (i : ℕ) (m : Link) (t : Slab) (e : Bool) → IsSound l → slot_in l.slots i ≡ Held m t k e → m.0 ≡ n.0 → IsAt l n k i
 slot_found l n k i m t e sound is same =
     let within : i < length l.slots = within_slots l.slots i m t k e is in
-    let own : has_lease n k (slot_in l.slots i) ≡ true = ap (has_lease n k) is ∙ and_from (m.0 == n.0) (k.0 == k.0) (eq-eqb m.0 n.0 same) (eq-eqb k.0 k.0 refl) in
+    let own : has_lease n k (slot_in l.slots i) ≡ true =
+    ap (has_lease n k) is ∙ and_from (m.0 == n.0) (k.0 == k.0) (eq-eqb m.0 n.0 same) (eq-eqb k.0 k.0 refl) in
     record {
       within = within;
       is = position_or_len_is (has_lease n k) l.slots i Free (omega (arith, within))
-          (λ j less. false_from_ne_true _ (λ at. let one : j ≡ i = sound.differ j i k.0 (lease-has n k (slot_in l.slots j) at) (leased_at l i m t k e is) in absurd (omega (arith, less, one)))) (λ _. own);
+          (λ j less.
+          false_from_ne_true _
+          (λ at. let one : j ≡ i = sound.differ j i k.0 (lease-has n k (slot_in l.slots j) at) (leased_at l i m t k e is) in
+          absurd (omega (arith, less, one))))
+          (λ _. own);
     }
 
 holds_at : (l : Lender) (n : Link) (k : Lease) (i : ℕ) → IsAt l n k i → holds l n k ≡ true
@@ -69,7 +78,9 @@ rates_allowed l n k sound of w =
     and_from (holds l n k) _ (holds_at l n k w.at at) (ap (λ o. awaits o (slot_of l n k)) w.open_ ∙ ap (waits_for w.round) at.is ∙ w.waits)
 
 -- no slot is held for this slab
-pub none_for : (n : Link) (t : Slab) (slots : List SlotState) → ((i : ℕ) (m : Link) (k : Lease) (e : Bool) → slot_in slots i ≡ Held m t k e → ⊥) → list_any (is_for n t) slots ≡ false
+pub none_for :
+    (n : Link) (t : Slab) (slots : List SlotState) → ((i : ℕ) (m : Link) (k : Lease) (e : Bool) → slot_in slots i ≡ Held m t k e → ⊥)
+    → list_any (is_for n t) slots ≡ false
 none_for n t [] none = refl
 none_for n t (s ∷ ss) none = or_false (is_for n t s) _ (false_from_ne_true _ (λ e. here s refl e)) (none_for n t ss (λ i m k e is. none (suc i) m k e is))
   where
@@ -84,7 +95,9 @@ none_for n t (s ∷ ss) none = or_false (is_for n t s) _ (false_from_ne_true _ (
 -- slots by their leases, as the slots change
 
 -- a slot that was told to go is still held, and stays told
-pub kept_marked : (set_ from : ℕ) (slots : List SlotState) (i : ℕ) (m : Link) (t : Slab) (k : Lease) → slot_in slots i ≡ Held m t k true → slot_in (marked set_ from slots) i ≡ Held m t k true
+pub kept_marked :
+    (set_ from : ℕ) (slots : List SlotState) (i : ℕ) (m : Link) (t : Slab) (k : Lease) → slot_in slots i ≡ Held m t k true
+    → slot_in (marked set_ from slots) i ≡ Held m t k true
 kept_marked set_ from [] i m t k e = e
 kept_marked set_ from (s ∷ ss) zero m t k e = ap (mark_slot (has set_ from)) e ∙ still (has set_ from)
   where
@@ -94,7 +107,9 @@ kept_marked set_ from (s ∷ ss) zero m t k e = ap (mark_slot (has set_ from)) e
 kept_marked set_ from (s ∷ ss) (suc i) m t k e = kept_marked set_ (from + 1) ss i m t k e
 
 -- a slot that is held once some were marked was held before
-pub was_marked : (set_ from : ℕ) (slots : List SlotState) (i : ℕ) (m : Link) (t : Slab) (k : Lease) (e : Bool) → slot_in (marked set_ from slots) i ≡ Held m t k e → (f : Bool) × (slot_in slots i ≡ Held m t k f)
+pub was_marked :
+    (set_ from : ℕ) (slots : List SlotState) (i : ℕ) (m : Link) (t : Slab) (k : Lease) (e : Bool) → slot_in (marked set_ from slots) i ≡ Held m t k e
+    → (f : Bool) × (slot_in slots i ≡ Held m t k f)
 was_marked set_ from [] i m t k e is = (e, is)
 was_marked set_ from (s ∷ ss) zero m t k e is = go (has set_ from) s is
   where
@@ -117,7 +132,9 @@ unmarked_stays set_ from (s ∷ ss) zero out = ap (λ b. mark_slot b s) (subst (
 unmarked_stays set_ from (s ∷ ss) (suc i) out = unmarked_stays set_ (from + 1) ss i (subst (λ m. has set_ m ≡ false) (omega arith) out)
 
 -- a slot of the set is told
-pub marked_told : (set_ from : ℕ) (slots : List SlotState) (i : ℕ) (m : Link) (t : Slab) (k : Lease) (e : Bool) → has set_ (from + i) ≡ true → slot_in slots i ≡ Held m t k e → slot_in (marked set_ from slots) i ≡ Held m t k true
+pub marked_told :
+    (set_ from : ℕ) (slots : List SlotState) (i : ℕ) (m : Link) (t : Slab) (k : Lease) (e : Bool) → has set_ (from + i) ≡ true → slot_in slots i ≡ Held m t k e
+    → slot_in (marked set_ from slots) i ≡ Held m t k true
 marked_told set_ from [] i m t k e inside is = cc
 marked_told set_ from (s ∷ ss) zero m t k e inside is = ap (λ b. mark_slot b s) (subst (λ n. has set_ n ≡ true) (omega arith) inside) ∙ ap (mark_slot true) is
 marked_told set_ from (s ∷ ss) (suc i) m t k e inside is = marked_told set_ (from + 1) ss i m t k e (subst (λ n. has set_ n ≡ true) (omega arith) inside) is
@@ -132,4 +149,9 @@ still_waits r slot value i other e = ap (λ b. (has r.asked i && not b) && not (
 
 -- as long as it waits for a slot it isn't ready
 pub not_ready : (r : Round) (i : ℕ) → i < 64 → r.answered < 2 ^ 64 → r.gone < 2 ^ 64 → waits_for r i ≡ true → ready r ≡ None
-not_ready r i low answered gone waits = cond-false (waiting r == 0) _ None (false_from_ne_true _ (λ none. both_ways (has (waiting r) i) (no_slot (waiting r) i (eqb-true (waiting r) 0 none)) (has-waiting r.asked r.answered r.gone i answered gone low ∙ waits)))
+not_ready r i low answered gone waits =
+    cond-false (waiting r == 0) _ None
+    (false_from_ne_true _
+    (λ none.
+    both_ways (has (waiting r) i) (no_slot (waiting r) i (eqb-true (waiting r) 0 none))
+    (has-waiting r.asked r.answered r.gone i answered gone low ∙ waits)))

@@ -79,7 +79,9 @@ mapped_stay l states k h = h
 local_mapped : (l : Lender) (k : Lease) (f : ℕ) → Local ≡ Mapped l k f → ⊥
 local_mapped l k f e = cc
 
-mapped_set : (l : Lender) (states : List SlabState) (t : Slab) (x : SlabState) → ((k : Lease) (f : ℕ) → state_of states t ≡ Mapped l k f → (g : ℕ) × (x ≡ Mapped l k g)) → KeepsMapped l states (with_state states t x)
+mapped_set :
+    (l : Lender) (states : List SlabState) (t : Slab) (x : SlabState) → ((k : Lease) (f : ℕ) → state_of states t ≡ Mapped l k f → (g : ℕ) × (x ≡ Mapped l k g))
+    → KeepsMapped l states (with_state states t x)
 mapped_set l states t x each k (u, f, is) =
     by_slab (λ u. state_of states u ≡ Mapped l k f → IsMappedAt (with_state states t x) l k) t u
     (λ is. elim (cases_lt t.0 (length states)) [
@@ -98,11 +100,14 @@ mapped_answered : (l m : Lender) (states : List SlabState) (t : Slab) (r : Reply
 mapped_answered l m states t r = mapped_set l states t (slabs.after_answer (state_of states t) m r) (λ k f is. (f, ap (λ x. slabs.after_answer x m r) is))
 
 -- a slab that isn't mapped may change
-mapped_apart : (l : Lender) (states : List SlabState) (t : Slab) (x : SlabState) → ((k : Lease) (f : ℕ) → state_of states t ≡ Mapped l k f → ⊥) → KeepsMapped l states (with_state states t x)
+mapped_apart :
+    (l : Lender) (states : List SlabState) (t : Slab) (x : SlabState) → ((k : Lease) (f : ℕ) → state_of states t ≡ Mapped l k f → ⊥)
+    → KeepsMapped l states (with_state states t x)
 mapped_apart l states t x off = mapped_set l states t x (λ k f is. absurd (off k f is))
 
 mapped_lost : (l m : Lender) (states : List SlabState) → (l.0 ≡ m.0 → ⊥) → KeepsMapped l states (slabs.lost states m)
-mapped_lost l m states other k (u, f, is) = (u, f, state-lost states m u.0 ∙ ap (slabs.after_lost m) is ∙ cond-false (l.0 == m.0) Local (Mapped l k f) (not_eqb l.0 m.0 other))
+mapped_lost l m states other k (u, f, is) =
+    (u, f, state-lost states m u.0 ∙ ap (slabs.after_lost m) is ∙ cond-false (l.0 == m.0) Local (Mapped l k f) (not_eqb l.0 m.0 other))
 
 not_local : (x : SlabState) (l : Lender) (k : Lease) (f : ℕ) → slabs.is_local x ≡ true → x ≡ Mapped l k f → ⊥
 not_local x l k f local is = both_ways (slabs.is_local x) (ap slabs.is_local is) local
@@ -114,7 +119,11 @@ borrowing_mapped x m l k f borrows is = both_ways (slabs.is_borrowing x) (ap sla
 turned_on : (states states' : List SlabState) (l : Lender) (c : Channel) → KeepsMapped l states states' → Turned states l c → Turned states' l c
 turned_on states states' l c keeps h = record {
   turn = turn_map (λ k. IsMappedAt states l k) (λ k. IsMappedAt states' l k) c.to_device.parcels keeps h.turn;
-  stays = unless-map c.lender_gone _ _ (λ (s : Stays (λ k. IsMappedAt states l k) c.lender.slots c.to_device). λ e i n t k held. after_map (λ k. IsMappedAt states l k) (λ k. IsMappedAt states' l k) c.to_device.parcels keeps k (s e i n t k held)) h.stays;
+  stays =
+      unless-map c.lender_gone _ _
+      (λ (s : Stays (λ k. IsMappedAt states l k) c.lender.slots c.to_device). λ e i n t k held.
+      after_map (λ k. IsMappedAt states l k) (λ k. IsMappedAt states' l k) c.to_device.parcels keeps k (s e i n t k held))
+      h.stays;
 }
 
 -- a link as another sees the device
@@ -131,20 +140,26 @@ turned_alone n d d' h sees all l within up = turned_on d.remote.slabs d'.remote.
 but : (m : Lender) (n : ℕ) (d : Device) (h : Harbor) → AllTurned n d h → AllTurnedBut m n d h
 but m n d h all l within other up = all l within up
 
-others : (n : ℕ) (d d' : Device) (f g : Harbor) (c : FabricCall) (r : FabricAnswer c) → harbor.Moves f c r g → ((l : Lender) → (l.0 ≡ (lender_of c).0 → ⊥) → Sees l d d') → AllTurnedBut (lender_of c) n d f → AllTurnedBut (lender_of c) n d' g
+others :
+    (n : ℕ) (d d' : Device) (f g : Harbor) (c : FabricCall) (r : FabricAnswer c) → harbor.Moves f c r g
+    → ((l : Lender) → (l.0 ≡ (lender_of c).0 → ⊥) → Sees l d d') → AllTurnedBut (lender_of c) n d f → AllTurnedBut (lender_of c) n d' g
 others n d d' f g c r moved sees all l within other up =
     let P : FabricAnswer c × Harbor → Type 0 = λ x. Turned d'.remote.slabs l (channel_of x.1 l) in
     subst P moved.1 (subst (λ ch. Turned d'.remote.slabs l ch) (sym (other_channel f l (lender_of c) (on_channel (channel_of f (lender_of c)) c).1 other))
     (turned_on d.remote.slabs d'.remote.slabs l (channel_of f l) (sees l other).mapped (all l within other (sym (sees l other).up ∙ up))))
 
-through_call : (n : ℕ) (d d' : Device) (f g : Harbor) (c : FabricCall) (r : FabricAnswer c) → harbor.Moves f c r g → ((l : Lender) → (l.0 ≡ (lender_of c).0 → ⊥) → Sees l d d') → AllTurnedBut (lender_of c) n d f
-    → ((lender_of c).0 < n → is_up d'.remote.links (lender_of c) ≡ true → Turned d'.remote.slabs (lender_of c) (on_channel (channel_of f (lender_of c)) c).1) → AllTurned n d' g
+through_call :
+    (n : ℕ) (d d' : Device) (f g : Harbor) (c : FabricCall) (r : FabricAnswer c) → harbor.Moves f c r g
+    → ((l : Lender) → (l.0 ≡ (lender_of c).0 → ⊥) → Sees l d d') → AllTurnedBut (lender_of c) n d f
+    → ((lender_of c).0 < n → is_up d'.remote.links (lender_of c) ≡ true → Turned d'.remote.slabs (lender_of c) (on_channel (channel_of f (lender_of c)) c).1)
+    → AllTurned n d' g
 through_call n d d' f g c r moved sees all here l within up = elim (cases_eq l.0 (lender_of c).0) [
   | inl e ↦ (
       let same : lender_of c ≡ l = ap (λ (k : ℕ). record { 0 = k }) (sym e) in
       let P : FabricAnswer c × Harbor → Type 0 = λ x. Turned d'.remote.slabs (lender_of c) (channel_of x.1 (lender_of c)) in
       let at : Turned d'.remote.slabs (lender_of c) (channel_of g (lender_of c)) =
-      subst P moved.1 (subst (λ ch. Turned d'.remote.slabs (lender_of c) ch) (sym (called f (lender_of c) (on_channel (channel_of f (lender_of c)) c).1 moved.0.range))
+      subst P moved.1
+      (subst (λ ch. Turned d'.remote.slabs (lender_of c) ch) (sym (called f (lender_of c) (on_channel (channel_of f (lender_of c)) c).1 moved.0.range))
       (here (subst (λ (x : Lender). x.0 < n) (sym same) within) (subst (λ (x : Lender). is_up d'.remote.links x ≡ true) (sym same) up)))
       in
       subst (λ (x : Lender). Turned d'.remote.slabs x (channel_of g x)) same at
@@ -153,18 +168,24 @@ through_call n d d' f g c r moved sees all here l within up = elim (cases_eq l.0
 ]
 
 sees_lost : (l m : Lender) (d : Device) → (l.0 ≡ m.0 → ⊥) → Sees l d (lost d m)
-sees_lost l m d other = record { mapped = mapped_lost l m d.remote.slabs other; up = ap (λ (k : LinkState). k.up) (link-other d.remote.links m l rings.down other) }
+sees_lost l m d other =
+    record { mapped = mapped_lost l m d.remote.slabs other; up = ap (λ (k : LinkState). k.up) (link-other d.remote.links m l rings.down other) }
 
 after_loss : (n : ℕ) (d : Device) (h : Harbor) (m : Lender) → AllTurnedBut m n d h → AllTurned n (lost d m) h
 after_loss n d h m all l within up = elim (cases_eq l.0 m.0) [
-  | inl e ↦ absurd (both_ways (is_up (lost d m).remote.links l) (subst (λ k. is_up (lost d m).remote.links (record { 0 = k }) ≡ false) (sym e) (lost_down d m)) up)
-  | inr other ↦ turned_on d.remote.slabs (lost d m).remote.slabs l (channel_of h l) (mapped_lost l m d.remote.slabs other) (all l within other (sym (sees_lost l m d other).up ∙ up))
+  | inl e ↦
+      absurd (both_ways (is_up (lost d m).remote.links l) (subst (λ k. is_up (lost d m).remote.links (record { 0 = k }) ≡ false) (sym e) (lost_down d m)) up)
+  | inr other ↦
+      turned_on d.remote.slabs (lost d m).remote.slabs l (channel_of h l) (mapped_lost l m d.remote.slabs other)
+      (all l within other (sym (sees_lost l m d other).up ∙ up))
 ]
 
 itself : (l : Lender) (d : Device) → Sees l d d
 itself l d = sees_same l d d refl
 
-down : (n : ℕ) (d : Device) (f g : Harbor) (c : FabricCall) (r : FabricAnswer c) → harbor.Moves f c r g → AllTurnedBut (lender_of c) n d f → AllTurned n (lost d (lender_of c)) g
+down :
+    (n : ℕ) (d : Device) (f g : Harbor) (c : FabricCall) (r : FabricAnswer c) → harbor.Moves f c r g → AllTurnedBut (lender_of c) n d f
+    → AllTurned n (lost d (lender_of c)) g
 down n d f g c r moved all = after_loss n d g (lender_of c) (others n d d f g c r moved (λ l other. itself l d) all)
 
 -- the channel that was called
@@ -176,7 +197,9 @@ turned_sent states l c q h = cond_both c.device_gone _ _ (λ (x : Sent × Channe
 stays_here : (states : List SlabState) (l : Lender) (c : Channel) → Lodges c → Turned states l c → Stays (λ k. IsMappedAt states l k) c.lender.slots c.to_device
 stays_here states l c lodges h = go c.lender_gone refl h.stays
   where
-    go : (b : Bool) → c.lender_gone ≡ b → Unless b (Stays (λ k. IsMappedAt states l k) c.lender.slots c.to_device) → Stays (λ k. IsMappedAt states l k) c.lender.slots c.to_device
+    go :
+        (b : Bool) → c.lender_gone ≡ b → Unless b (Stays (λ k. IsMappedAt states l k) c.lender.slots c.to_device)
+        → Stays (λ k. IsMappedAt states l k) c.lender.slots c.to_device
     go false stands s = s
     go true left s = λ e i n t k held. absurd (both_ways c.lender_gone (lodges i (record { link = n; slab = t; lease = k }) (ap tenant held)).0 left)
 
@@ -184,44 +207,70 @@ stands_so : (b : Bool) (P : Type 0) → P → Unless b P
 stands_so true P p = tt
 stands_so false P p = p
 
-turned_given : (states : List SlabState) (l : Lender) (c : Channel) → IsSound c.lender → AsksUntold c.lender.round c.lender.slots → Lodges c → Turned states l c → Turned states l (given c).1
-turned_given states l c sound untold lodges h = cond_both c.lender_gone _ _ (λ (x : Gave × Channel). Turned states l x.1) (λ _. h) (λ stands. from c.to_lender.parcels)
+turned_given :
+    (states : List SlabState) (l : Lender) (c : Channel) → IsSound c.lender → AsksUntold c.lender.round c.lender.slots → Lodges c → Turned states l c
+    → Turned states l (given c).1
+turned_given states l c sound untold lodges h =
+    cond_both c.lender_gone _ _ (λ (x : Gave × Channel). Turned states l x.1) (λ _. h) (λ stands. from c.to_lender.parcels)
   where
-    fine : (q : Parcel) (ps : List Parcel) → Turned states l (delivered (record c { to_lender = record c.to_lender { parcels = ps } }) (serve c.lender c.number q.msg q.page))
+    fine :
+        (q : Parcel) (ps : List Parcel)
+        → Turned states l (delivered (record c { to_lender = record c.to_lender { parcels = ps } }) (serve c.lender c.number q.msg q.page))
     fine q ps =
-        let both = served_turns (λ k. IsMappedAt states l k) c.number c.lender q.msg q.page c.to_device sound untold h.turn (stays_here states l c lodges h) in record { turn = both.0; stays = stands_so c.lender_gone _ both.1 }
+        let both = served_turns (λ k. IsMappedAt states l k) c.number c.lender q.msg q.page c.to_device sound untold h.turn (stays_here states l c lodges h) in
+        record { turn = both.0; stays = stands_so c.lender_gone _ both.1 }
 
     from : (ps : List Parcel) → Turned states l (given_from c ps).1
     from [] = cond_both c.to_lender.ended _ _ (λ (x : Gave × Channel). Turned states l x.1) (λ _. record { turn = h.turn; stays = tt }) (λ _. h)
     from (q ∷ ps) =
         cond_both (may_send c.lender c.number q.msg) _ _ (λ (x : Gave × Channel). Turned states l x.1)
-        (λ may. subst (λ (t : Turn). Turned states l (delivered (record c { to_lender = record c.to_lender { parcels = ps } }) t)) (sym (took-served c.lender c.number q.msg q.page may)) (fine q ps))
+        (λ may.
+        subst (λ (t : Turn). Turned states l (delivered (record c { to_lender = record c.to_lender { parcels = ps } }) t))
+        (sym (took-served c.lender c.number q.msg q.page may)) (fine q ps))
         (λ _. record { turn = h.turn; stays = tt })
 
-turned_hosted : (states : List SlabState) (l : Lender) (c : Channel) (used word : ℕ) → IsReached c.lender → Lodges c → Turned states l c → Turned states l (delivered c (host c.lender used word))
+turned_hosted :
+    (states : List SlabState) (l : Lender) (c : Channel) (used word : ℕ) → IsReached c.lender → Lodges c → Turned states l c
+    → Turned states l (delivered c (host c.lender used word))
 turned_hosted states l c used word reached lodges h =
-    let both = host_turns (λ k. IsMappedAt states l k) c.number c.lender used word c.to_device reached (λ m r. (are_owned m r).round) h.turn (stays_here states l c lodges h) in record { turn = both.0; stays = stands_so c.lender_gone _ both.1 }
+    let both =
+    host_turns (λ k. IsMappedAt states l k) c.number c.lender used word c.to_device reached (λ m r. (are_owned m r).round) h.turn
+    (stays_here states l c lodges h) in
+    record { turn = both.0; stays = stands_so c.lender_gone _ both.1 }
 
 turned_cut : (states : List SlabState) (l : Lender) (c : Channel) (m n : ℕ) → Turned states l c → Turned states l (severed c m n).1
-turned_cut states l c m n h = record { turn = turn_take (λ k. IsMappedAt states l k) n c.to_device.parcels h.turn; stays = stands_so c.lender_gone _ (λ e i n t k held. absurd (both_ways true e refl)) }
+turned_cut states l c m n h =
+    record {
+      turn = turn_take (λ k. IsMappedAt states l k) n c.to_device.parcels h.turn;
+      stays = stands_so c.lender_gone _ (λ e i n t k held. absurd (both_ways true e refl));
+    }
 
 turned_crashed : (states : List SlabState) (l : Lender) (c : Channel) → Turned states l c → Turned states l (crashed c)
 turned_crashed states l c h =
-    cond_both c.lender_gone _ _ (λ (x : Channel). Turned states l x) (λ left. record { turn = h.turn; stays = unless c.lender_gone _ (λ f. absurd (both_ways c.lender_gone f left)) }) (λ _. record { turn = h.turn; stays = tt })
+    cond_both c.lender_gone _ _ (λ (x : Channel). Turned states l x)
+    (λ left. record { turn = h.turn; stays = unless c.lender_gone _ (λ f. absurd (both_ways c.lender_gone f left)) })
+    (λ _. record { turn = h.turn; stays = tt })
 
 turned_new : (states : List SlabState) (l : Lender) (c : Channel) (n : Link) → Lodges c → Turned states l (connected c n)
-turned_new states l c n lodges = record { turn = tt; stays = λ e i m t k held. absurd (connected_none c n lodges i (record { link = m; slab = t; lease = k }) (ap tenant held)) }
+turned_new states l c n lodges =
+    record { turn = tt; stays = λ e i m t k held. absurd (connected_none c n lodges i (record { link = m; slab = t; lease = k }) (ap tenant held)) }
 
 -- a message is taken: the slabs stay mapped, or it maps one, or takes one back
-turned_taken : (states states' : List SlabState) (l : Lender) (c : Channel) (q : Parcel) (qs : List Parcel) → c.to_device.parcels ≡ q ∷ qs → ((k : Lease) → Then (λ j. IsMappedAt states l j) q.msg k → IsMappedAt states' l k) → Turned states l c → Turned states' l (without_reply c qs)
+turned_taken :
+    (states states' : List SlabState) (l : Lender) (c : Channel) (q : Parcel) (qs : List Parcel) → c.to_device.parcels ≡ q ∷ qs
+    → ((k : Lease) → Then (λ j. IsMappedAt states l j) q.msg k → IsMappedAt states' l k) → Turned states l c → Turned states' l (without_reply c qs)
 turned_taken states states' l c q qs front each h =
     let M : Lease → Type 0 = λ k. IsMappedAt states l k in
     let N : Lease → Type 0 = λ k. IsMappedAt states' l k in
     record {
-      turn = turn_map (λ k. Then (λ j. IsMappedAt states l j) q.msg k) (λ k. IsMappedAt states' l k) qs each (subst (λ ps. InTurn (λ j. IsMappedAt states l j) ps) front h.turn).1;
+      turn =
+          turn_map (λ k. Then (λ j. IsMappedAt states l j) q.msg k) (λ k. IsMappedAt states' l k) qs each
+          (subst (λ ps. InTurn (λ j. IsMappedAt states l j) ps) front h.turn).1;
       stays = unless-map c.lender_gone _ _
           (λ (s : Stays (λ k. IsMappedAt states l k) c.lender.slots c.to_device). λ e i n t k held.
-          after_map (λ k. Then (λ j. IsMappedAt states l j) q.msg k) (λ k. IsMappedAt states' l k) qs each k (subst (λ ps. After (λ j. IsMappedAt states l j) ps k) front (s e i n t k held))) h.stays;
+          after_map (λ k. Then (λ j. IsMappedAt states l j) q.msg k) (λ k. IsMappedAt states' l k) qs each k
+          (subst (λ ps. After (λ j. IsMappedAt states l j) ps k) front (s e i n t k held)))
+          h.stays;
     }
 
 room_then : (M : Lease → Type 0) (m : Msg) (r : Slab × ℕ) (k : Lease) → query_reply m ≡ Some r → Then M m k → M k
@@ -288,62 +337,107 @@ written_links true r p = refl
 written_links false r p = refl
 
 -- a message that is heard
-module _ (n : ℕ) (d : Device) (h g : Harbor) (l : Lender) (q : Parcel) (all : AllTurned n d h) (serves : ServesAt n d h) (present : (channel_of h l).device_gone ≡ false) (up : is_up d.remote.links l ≡ true) (moved : harbor.Moves h (Take l) (Brought q) g) where
+module _ (n : ℕ) (d : Device) (h g : Harbor) (l : Lender) (q : Parcel) (all : AllTurned n d h) (serves : ServesAt n d h)
+    (present : (channel_of h l).device_gone ≡ false) (up : is_up d.remote.links l ≡ true) (moved : harbor.Moves h (Take l) (Brought q) g) where
   front : FrontIs (channel_of h l) q
   front = taken_brings (channel_of h l) q present (ap (λ (x : Handed × Harbor). x.0) moved.1)
 
-  heard_via : (d' : Device) → ((m : Lender) → (m.0 ≡ l.0 → ⊥) → Sees m d d') → ((k : Lease) → Then (λ j. IsMappedAt d.remote.slabs l j) q.msg k → IsMappedAt d'.remote.slabs l k) → AllTurned n d' g
+  heard_via :
+      (d' : Device) → ((m : Lender) → (m.0 ≡ l.0 → ⊥) → Sees m d d')
+      → ((k : Lease) → Then (λ j. IsMappedAt d.remote.slabs l j) q.msg k → IsMappedAt d'.remote.slabs l k) → AllTurned n d' g
   heard_via d' sees each =
       through_call n d d' h g (Take l) (Brought q) moved sees (but l n d h all)
-      (λ within _. subst (λ ch. Turned d'.remote.slabs l ch) (sym front.after) (turned_taken d.remote.slabs d'.remote.slabs l (channel_of h l) q front.rest front.is each (all l within up)))
+      (λ within _.
+      subst (λ ch. Turned d'.remote.slabs l ch) (sym front.after)
+      (turned_taken d.remote.slabs d'.remote.slabs l (channel_of h l) q front.rest front.is each (all l within up)))
 
-  answered_up : (m : Lender) (states : List SlabState) (bits : List Bool) → (m.0 ≡ l.0 → ⊥) → KeepsMapped m d.remote.slabs states → Sees m d (record d { remote = record { bits = bits; slabs = states; links = rings.answered d.remote.links l } })
+  answered_up :
+      (m : Lender) (states : List SlabState) (bits : List Bool) → (m.0 ≡ l.0 → ⊥) → KeepsMapped m d.remote.slabs states
+      → Sees m d (record d { remote = record { bits = bits; slabs = states; links = rings.answered d.remote.links l } })
   answered_up m states bits other mapped = record { mapped = mapped; up = ap (λ (k : LinkState). k.up) (answered-other d.remote.links l m other) }
 
-  borrows : (t : Slab) (rest : List Request) → ring_of d.remote.links l ≡ request.Borrow t ∷ rest → (t.0 < d.sizes.slabs) × (state_of d.remote.slabs t ≡ Borrowing l)
+  borrows :
+      (t : Slab) (rest : List Request) → ring_of d.remote.links l ≡ request.Borrow t ∷ rest → (t.0 < d.sizes.slabs) × (state_of d.remote.slabs t ≡ Borrowing l)
   borrows t rest is = (subst (λ ys. AllByRecursion (IsAwaited d.sizes d.history d.calls d.remote.slabs l) ys) is (serves.link l).awaited).0
 
-  written_sees : (m : Lender) (b : Bool) (p : Page) → (m.0 ≡ l.0 → ⊥) → Sees m d (record d { remote = remote.with_page_if b (remote.settled_for d.sizes d.remote l p) p })
+  written_sees :
+      (m : Lender) (b : Bool) (p : Page) → (m.0 ≡ l.0 → ⊥) → Sees m d (record d { remote = remote.with_page_if b (remote.settled_for d.sizes d.remote l p) p })
   written_sees m b p other = record {
-    mapped = λ k at. subst (λ states. IsMappedAt states m k) (sym (written_slabs b (remote.settled_for d.sizes d.remote l p) p)) (mapped_settled m d.remote.slabs (slab_for d.sizes p) k at);
-    up = ap (λ links. is_up links m) (written_links b (remote.settled_for d.sizes d.remote l p) p) ∙ ap (λ (k : LinkState). k.up) (answered-other d.remote.links l m other);
+    mapped =
+        λ k at.
+        subst (λ states. IsMappedAt states m k) (sym (written_slabs b (remote.settled_for d.sizes d.remote l p) p))
+        (mapped_settled m d.remote.slabs (slab_for d.sizes p) k at);
+    up =
+        ap (λ links. is_up links m) (written_links b (remote.settled_for d.sizes d.remote l p) p)
+        ∙ ap (λ (k : LinkState). k.up) (answered-other d.remote.links l m other);
   }
 
   pub heard_turned : (x : Heard) → Hears d l q x → AllTurned n x.device g
   heard_turned x (roomy {t = t} {u = u} {free = free} is says same) =
-      heard_via (record d { remote = remote.told d.remote l t free }) (λ m other. answered_up m (slabs.answered d.remote.slabs t l (reply.Free free)) d.remote.bits other (mapped_answered m l d.remote.slabs t (reply.Free free)))
+      heard_via (record d { remote = remote.told d.remote l t free })
+      (λ m other.
+      answered_up m (slabs.answered d.remote.slabs t l (reply.Free free)) d.remote.bits other (mapped_answered m l d.remote.slabs t (reply.Free free)))
       (λ k at. mapped_answered l l d.remote.slabs t (reply.Free free) k (room_then (λ j. IsMappedAt d.remote.slabs l j) q.msg (u, free) k says at))
   heard_turned x (lent {t = t} {u = u} {k = j} {rest = rest} is says same none) =
       let was = borrows t rest is in
       let within : t.0 < length d.remote.slabs = subst (λ m. t.0 < m) (sym serves.slabs_len) was.0 in
       let states : List SlabState = slabs.lent d.remote.slabs t j in
-      let apart : (m : Lender) → KeepsMapped m d.remote.slabs states = λ m. mapped_apart m d.remote.slabs t (slabs.after_lent (state_of d.remote.slabs t) j) (λ k f at. borrowing_mapped (state_of d.remote.slabs t) l m k f was.1 at) in
+      let apart : (m : Lender)
+      → KeepsMapped m d.remote.slabs states =
+      λ m.
+      mapped_apart m d.remote.slabs t (slabs.after_lent (state_of d.remote.slabs t) j)
+      (λ k f at. borrowing_mapped (state_of d.remote.slabs t) l m k f was.1 at) in
       heard_via (record d { remote = remote.lent d.remote l t j }) (λ m other. answered_up m states d.remote.bits other (apart m))
       (λ k at. elim (lent_then (λ j. IsMappedAt d.remote.slabs l j) q.msg u j k says at) [
         | inl old ↦ apart l k old
-        | inr new ↦ (t, 0, state-same d.remote.slabs t (slabs.after_lent (state_of d.remote.slabs t) j) within ∙ ap (λ y. slabs.after_lent y j) was.1 ∙ ap (λ i. Mapped l (record { 0 = i }) 0) new)
+        | inr new ↦ (
+          t,
+          0,
+          state-same d.remote.slabs t (slabs.after_lent (state_of d.remote.slabs t) j) within ∙ ap (λ y. slabs.after_lent y j) was.1
+              ∙ ap (λ i. Mapped l (record { 0 = i }) 0) new,
+        )
       ])
   heard_turned x (refused {t = t} {u = u} {rest = rest} is says same) =
       let was = borrows t rest is in
-      let apart : (m : Lender) → KeepsMapped m d.remote.slabs (slabs.refused d.remote.slabs t) = λ m. mapped_apart m d.remote.slabs t Local (λ k f at. borrowing_mapped (state_of d.remote.slabs t) l m k f was.1 at) in
-      heard_via (record d { remote = remote.refused d.remote l t }) (λ m other. answered_up m (slabs.refused d.remote.slabs t) d.remote.bits other (apart m)) (λ k at. apart l k (refused_then (λ j. IsMappedAt d.remote.slabs l j) q.msg u k says at))
+      let apart : (m : Lender)
+      → KeepsMapped m d.remote.slabs (slabs.refused d.remote.slabs t) =
+      λ m. mapped_apart m d.remote.slabs t Local (λ k f at. borrowing_mapped (state_of d.remote.slabs t) l m k f was.1 at) in
+      heard_via (record d { remote = remote.refused d.remote l t }) (λ m other. answered_up m (slabs.refused d.remote.slabs t) d.remote.bits other (apart m))
+      (λ k at. apart l k (refused_then (λ j. IsMappedAt d.remote.slabs l j) q.msg u k says at))
   heard_turned x (written {p = p} {e = e} {at = at} is says named) =
       let b : Bool = device.is_newest (last d.history p) e && slabs.is_mapped (remote.state_for d.sizes d.remote.slabs p) in
       heard_via (record d { remote = remote.written d.sizes d.remote l p (device.is_newest (last d.history p) e) })
       (λ m other. written_sees m (device.is_newest (last d.history p) e && slabs.is_mapped (remote.state_for d.sizes d.remote.slabs p)) p other)
-      (λ k held. subst (λ states. IsMappedAt states l k) (sym (written_slabs (device.is_newest (last d.history p) e && slabs.is_mapped (remote.state_for d.sizes d.remote.slabs p)) (remote.settled_for d.sizes d.remote l p) p))
+      (λ k held.
+      subst (λ states. IsMappedAt states l k)
+      (sym
+      (written_slabs (device.is_newest (last d.history p) e && slabs.is_mapped (remote.state_for d.sizes d.remote.slabs p))
+      (remote.settled_for d.sizes d.remote l p) p))
       (mapped_settled l d.remote.slabs (slab_for d.sizes p) k (wrote_then (λ j. IsMappedAt d.remote.slabs l j) q.msg at k says held)))
   heard_turned x (brought {c = a} {p = p} {at = at} is says named) =
       heard_via (record d { remote = remote.settled_for d.sizes d.remote l p; calls = calls.came d.calls a q.page })
-      (λ m other. record { mapped = mapped_settled m d.remote.slabs (slab_for d.sizes p); up = ap (λ (k : LinkState). k.up) (answered-other d.remote.links l m other) })
+      (λ m other.
+      record { mapped = mapped_settled m d.remote.slabs (slab_for d.sizes p); up = ap (λ (k : LinkState). k.up) (answered-other d.remote.links l m other) })
       (λ k held. mapped_settled l d.remote.slabs (slab_for d.sizes p) k (page_then (λ j. IsMappedAt d.remote.slabs l j) q.msg at k says held))
-  heard_turned x (asked_rate {t = t} {k = j} says at) = heard_via d (λ m other. itself m d) (λ k held. rate_then (λ j. IsMappedAt d.remote.slabs l j) q.msg j k says held)
+  heard_turned x (asked_rate {t = t} {k = j} says at) =
+      heard_via d (λ m other. itself m d) (λ k held. rate_then (λ j. IsMappedAt d.remote.slabs l j) q.msg j k says held)
   heard_turned x (told_to_go {t = t} {k = j} says at) =
       let m : MappedBy d.remote.slabs l j t = mapped_by_is d.remote.slabs l j t at in
       heard_via (record d { remote = remote.evicted d.sizes d.remote t })
-      (λ o other. record { mapped = mapped_apart o d.remote.slabs t (slabs.after_evict (state_of d.remote.slabs t)) (λ k f is. other (sym (lender_is l o j k m.flying f (sym m.is ∙ is)))); up = refl })
-      (λ k held. let was = back_then (λ j. IsMappedAt d.remote.slabs l j) q.msg j k says held in
-      (was.0.0, was.0.1, state-other d.remote.slabs t was.0.0 (slabs.after_evict (state_of d.remote.slabs t)) (λ same. was.1 (lease_is l j k m.flying was.0.1 (sym m.is ∙ ap (λ i. state_of d.remote.slabs (record { 0 = i })) (sym same) ∙ was.0.2))) ∙ was.0.2))
+      (λ o other.
+      record {
+        mapped =
+            mapped_apart o d.remote.slabs t (slabs.after_evict (state_of d.remote.slabs t))
+            (λ k f is. other (sym (lender_is l o j k m.flying f (sym m.is ∙ is))));
+        up = refl;
+      })
+      (λ k held. let was = back_then (λ j. IsMappedAt d.remote.slabs l j) q.msg j k says held in (
+        was.0.0,
+        was.0.1,
+        state-other d.remote.slabs t was.0.0 (slabs.after_evict (state_of d.remote.slabs t))
+            (λ same. was.1 (lease_is l j k m.flying was.0.1 (sym m.is ∙ ap (λ i. state_of d.remote.slabs (record { 0 = i })) (sym same) ∙ was.0.2)))
+            ∙ was.0.2,
+      ))
     where
       lender_is : (a b : Lender) (j k : Lease) (f g : ℕ) → Mapped a j f ≡ Mapped b k g → a.0 ≡ b.0
       lender_is a b j k f g e = cc
@@ -352,20 +446,29 @@ module _ (n : ℕ) (d : Device) (h g : Harbor) (l : Lender) (q : Parcel) (all : 
       lease_is a j k f g e = cc
 
 -- what is sent leaves the slabs mapped
-local_apart : (l m : Lender) (d : Device) (t : Slab) (x : SlabState) → slabs.is_local (state_of d.remote.slabs t) ≡ true → KeepsMapped m d.remote.slabs (with_state d.remote.slabs t x)
+local_apart :
+    (l m : Lender) (d : Device) (t : Slab) (x : SlabState) → slabs.is_local (state_of d.remote.slabs t) ≡ true
+    → KeepsMapped m d.remote.slabs (with_state d.remote.slabs t x)
 local_apart l m d t x local = mapped_apart m d.remote.slabs t x (λ k f is. not_local (state_of d.remote.slabs t) m k f local is)
 
-asking_apart : (m : Lender) (d : Device) (t : Slab) (x : SlabState) (pair : Pair) → state_of d.remote.slabs t ≡ Asking pair → KeepsMapped m d.remote.slabs (with_state d.remote.slabs t x)
-asking_apart m d t x pair asks = mapped_apart m d.remote.slabs t x (λ k f is. both_ways (slabs.is_mapped (state_of d.remote.slabs t)) (ap slabs.is_mapped asks) (ap slabs.is_mapped is))
+asking_apart :
+    (m : Lender) (d : Device) (t : Slab) (x : SlabState) (pair : Pair) → state_of d.remote.slabs t ≡ Asking pair
+    → KeepsMapped m d.remote.slabs (with_state d.remote.slabs t x)
+asking_apart m d t x pair asks =
+    mapped_apart m d.remote.slabs t x (λ k f is. both_ways (slabs.is_mapped (state_of d.remote.slabs t)) (ap slabs.is_mapped asks) (ap slabs.is_mapped is))
 
 sent_mapped : (W : Within) (d : Device) (l m : Lender) (q : Parcel) (e base : Device) → Sends W d l q e base → KeepsMapped m d.remote.slabs e.remote.slabs
 sent_mapped W d l m q e base (write {p = p} outs is) = mapped_begun m d.remote.slabs (slab_for d.sizes p)
 sent_mapped W d l m q e base (read {p = p} ins within is none at) = mapped_begun m d.remote.slabs (slab_for d.sizes p)
 sent_mapped W d l m q e base (borrow {t = t} within may) = local_apart l m d t (Borrowing l) (and_parts (slabs.is_local (state_of d.remote.slabs t)) _ may).0
-sent_mapped W d l m q e base (query {t = t} within may) = local_apart l m d t (Asking (slabs.pair_of l None)) (and_parts (slabs.is_local (state_of d.remote.slabs t)) _ may).0
-sent_mapped W d l m q e base (query_too {t = t} {m = o} within state other may) = asking_apart m d t (Asking (slabs.pair_of o (Some l))) (slabs.pair_of o None) state
+sent_mapped W d l m q e base (query {t = t} within may) =
+    local_apart l m d t (Asking (slabs.pair_of l None)) (and_parts (slabs.is_local (state_of d.remote.slabs t)) _ may).0
+sent_mapped W d l m q e base (query_too {t = t} {m = o} within state other may) =
+    asking_apart m d t (Asking (slabs.pair_of o (Some l))) (slabs.pair_of o None) state
 
-pub sent_up : (W : Within) (d : Device) (l m : Lender) (q : Parcel) (e base : Device) → Sends W d l q e base → (m.0 ≡ l.0 → ⊥) → is_up e.remote.links m ≡ is_up d.remote.links m
+pub sent_up :
+    (W : Within) (d : Device) (l m : Lender) (q : Parcel) (e base : Device) → Sends W d l q e base → (m.0 ≡ l.0 → ⊥)
+    → is_up e.remote.links m ≡ is_up d.remote.links m
 sent_up W d l m q e base (write {p = p} outs is) other = ap (λ (k : LinkState). k.up) (sent-other d.remote.links l m _ other)
 sent_up W d l m q e base (read {p = p} ins within is none at) other = ap (λ (k : LinkState). k.up) (sent-other d.remote.links l m _ other)
 sent_up W d l m q e base (borrow {t = t} within may) other = ap (λ (k : LinkState). k.up) (sent-other d.remote.links l m _ other)
@@ -393,7 +496,8 @@ pub back_remote : (d : Device) (taken : Option Taken) → (device.took_back d ta
 back_remote d None = refl
 back_remote d (Some t) = took_remote d t.done.which t.done.page t.done.ok t.bytes
 
-module _ {D : Type 0} (disk : DiskMeaning D) (follows : FollowsItsMoves disk) (laws : Promises harbor_meaning) (T : Bool) (o : FabricOf) (far_may : Lender → Type 0) (bytes_may : List ℕ → Type 0) where
+module _ {D : Type 0} (disk : DiskMeaning D) (follows : FollowsItsMoves disk) (laws : Promises harbor_meaning) (T : Bool) (o : FabricOf)
+    (far_may : Lender → Type 0) (bytes_may : List ℕ → Type 0) where
   abbrev There : Within
   There = of_sizes o.sizes o.lenders far_may bytes_may
 
@@ -413,50 +517,74 @@ module _ {D : Type 0} (disk : DiskMeaning D) (follows : FollowsItsMoves disk) (l
   words_turned d h l None all = all
   words_turned d h l (Some q) all = all
 
-  far_turned : (d : Device) (f g : Harbor) (c : FabricCall) (r : FabricAnswer c) → IsFar There c → AreSound f → AllTurned o.lenders d f → harbor.Moves f c r g → AllTurned o.lenders d g
+  far_turned :
+      (d : Device) (f g : Harbor) (c : FabricCall) (r : FabricAnswer c) → IsFar There c → AreSound f → AllTurned o.lenders d f → harbor.Moves f c r g
+      → AllTurned o.lenders d g
   far_turned d f g c r (far_give {l = l} may) sound all moved =
       through_call o.lenders d d f g (Give l) r moved (λ m other. itself m d) (but l o.lenders d f all)
-      (λ within up. turned_given d.remote.slabs l (channel_of f l) moved.0.channel.sound (sound.untold l moved.0.range) (sound.lodged l moved.0.range) (all l within up))
+      (λ within up.
+      turned_given d.remote.slabs l (channel_of f l) moved.0.channel.sound (sound.untold l moved.0.range) (sound.lodged l moved.0.range) (all l within up))
   far_turned d f g c r (far_cut {l = l} {a = a} {b = b} may) sound all moved =
-      through_call o.lenders d d f g (Cut l a b) r moved (λ m other. itself m d) (but l o.lenders d f all) (λ within up. turned_cut d.remote.slabs l (channel_of f l) a b (all l within up))
+      through_call o.lenders d d f g (Cut l a b) r moved (λ m other. itself m d) (but l o.lenders d f all)
+      (λ within up. turned_cut d.remote.slabs l (channel_of f l) a b (all l within up))
   far_turned d f g c r (far_crash {l = l} may) sound all moved =
-      through_call o.lenders d d f g (Crash l) r moved (λ m other. itself m d) (but l o.lenders d f all) (λ within up. turned_crashed d.remote.slabs l (channel_of f l) (all l within up))
+      through_call o.lenders d d f g (Crash l) r moved (λ m other. itself m d) (but l o.lenders d f all)
+      (λ within up. turned_crashed d.remote.slabs l (channel_of f l) (all l within up))
   far_turned d f g c r (far_host {l = l} {used = used} {word = word} may) sound all moved =
       through_call o.lenders d d f g (Host l used word) r moved (λ m other. itself m d) (but l o.lenders d f all)
       (λ within up. turned_hosted d.remote.slabs l (channel_of f l) used word (sound.reached l moved.0.range) (sound.lodged l moved.0.range) (all l within up))
 
-  said_turned : (d : Device) (f g : Harbor) (l : Lender) (q : Parcel) → AllTurned o.lenders d f → harbor.Moves f (Send l q) sent_is.Sent g → AllTurned o.lenders d g
-  said_turned d f g l q all moved = through_call o.lenders d d f g (Send l q) sent_is.Sent moved (λ m other. itself m d) (but l o.lenders d f all) (λ within up. turned_sent d.remote.slabs l (channel_of f l) q (all l within up))
+  said_turned :
+      (d : Device) (f g : Harbor) (l : Lender) (q : Parcel) → AllTurned o.lenders d f → harbor.Moves f (Send l q) sent_is.Sent g → AllTurned o.lenders d g
+  said_turned d f g l q all moved =
+      through_call o.lenders d d f g (Send l q) sent_is.Sent moved (λ m other. itself m d) (but l o.lenders d f all)
+      (λ within up. turned_sent d.remote.slabs l (channel_of f l) q (all l within up))
 
   pub each_turned : EachKeepsWhere disk.moves harbor.Moves (Move There) Before TurnedAt
-  each_turned x asked y k k' f f' (enters {d = d} {c = c} {p = p} {bytes = bytes} outs) stay before all = turned_alone o.lenders d (device.enter d c p bytes) f (λ l. record { mapped = λ k h. h; up = refl }) all
-  each_turned x asked y k k' f f' (gives {d = d} {c = c} {p = p} {named = named} {from = from} {bytes = bytes} given) stay before all = alone d (device.give d c p named from bytes) f refl all
-  each_turned x asked y k k' f f' (faults {d = d} {c = c} {p = p} {k = kind} {since = since} {at = at} {bytes = bytes} fails) stay before all = alone d (device.fault d c p kind since at bytes) f refl all
+  each_turned x asked y k k' f f' (enters {d = d} {c = c} {p = p} {bytes = bytes} outs) stay before all =
+      turned_alone o.lenders d (device.enter d c p bytes) f (λ l. record { mapped = λ k h. h; up = refl }) all
+  each_turned x asked y k k' f f' (gives {d = d} {c = c} {p = p} {named = named} {from = from} {bytes = bytes} given) stay before all =
+      alone d (device.give d c p named from bytes) f refl all
+  each_turned x asked y k k' f f' (faults {d = d} {c = c} {p = p} {k = kind} {since = since} {at = at} {bytes = bytes} fails) stay before all =
+      alone d (device.fault d c p kind since at bytes) f refl all
   each_turned x asked y k k' f f' (waits_for_room {d = d} c p bytes e within hands) stay before all = alone d (device.wait_for_room d c p bytes) f refl all
   each_turned x asked y k k' f f' (rates_change {d = d} rates) stay before all = alone d (record d { rates = rates }) f refl all
   each_turned x asked y k k' f f' (lets_go {d = d} l within up) stay before all = after_loss o.lenders d f l (but l o.lenders d f all)
   each_turned x asked y k k' f f' (gives_up {d = d} l t off asks) stay before all =
-      turned_alone o.lenders d (record d { remote = remote.gone d.remote l t }) f (λ m. record { mapped = mapped_answered m l d.remote.slabs t reply.Gone; up = refl }) all
+      turned_alone o.lenders d (record d { remote = remote.gone d.remote l t }) f
+      (λ m. record { mapped = mapped_answered m l d.remote.slabs t reply.Gone; up = refl }) all
   each_turned x asked y k k' f f' (starts {d = d} el ec) (by_disk moved) before all = alone d (record d { queue = queue.start d.queue }) f refl all
-  each_turned x asked y k k' f f' (waits_for_disk {d = d} {c = c} {p = p} {n = e} ins within is none) (by_disk moved) before all = alone d (device.wait_for_disk d c p e) f refl all
+  each_turned x asked y k k' f f' (waits_for_disk {d = d} {c = c} {p = p} {n = e} ins within is none) (by_disk moved) before all =
+      alone d (device.wait_for_disk d c p e) f refl all
   each_turned x asked y k k' f f' (takes {d = d} {taken = taken}) (by_disk moved) before all = alone d (device.took_back d taken).0 f (back_remote d taken) all
   each_turned x asked y k k' f f' lets_finish (by_disk moved) before all = all
   each_turned x asked y k k' f f' (sends {d = d} {e = e} {base = base} {l = l} {q = q} one) (by_fabric moved) before all =
-      through_call o.lenders d e f f' (Send l q) sent_is.Sent moved (λ m other. record { mapped = sent_mapped There d l m q e base one; up = sent_up There d l m q e base one other }) (but l o.lenders d f all)
-      (λ within up. turned_on d.remote.slabs e.remote.slabs l (sent (channel_of f l) q).1 (sent_mapped There d l l q e base one) (turned_sent d.remote.slabs l (channel_of f l) q (all l within (keep.sends_up There d l q e base one))))
+      through_call o.lenders d e f f' (Send l q) sent_is.Sent moved
+      (λ m other. record { mapped = sent_mapped There d l m q e base one; up = sent_up There d l m q e base one other }) (but l o.lenders d f all)
+      (λ within up.
+      turned_on d.remote.slabs e.remote.slabs l (sent (channel_of f l) q).1 (sent_mapped There d l l q e base one)
+      (turned_sent d.remote.slabs l (channel_of f l) q (all l within (keep.sends_up There d l q e base one))))
   each_turned x asked y k k' f f' (finds_down {d = d} {e = e} {base = base} {l = l} {q = q} one) (by_fabric moved) before all =
-      down o.lenders base f f' (Send l q) sent_is.Down moved (but l o.lenders base f (turned_alone o.lenders d base f (λ m. base_mapped There d l m q e base one) all))
+      down o.lenders base f f' (Send l q) sent_is.Down moved
+      (but l o.lenders base f (turned_alone o.lenders d base f (λ m. base_mapped There d l m q e base one) all))
   each_turned x asked y k k' f f' (raises {d = d} {l = l} {r = r} within off) (by_fabric moved) before all =
-      through_call o.lenders d (raised d l) f f' (Connect l (next_link d)) r moved (λ m other. record { mapped = λ k h. h; up = ap (λ (k : LinkState). k.up) (link-other d.remote.links l m rings.fresh other) }) (but l o.lenders d f all)
+      through_call o.lenders d (raised d l) f f' (Connect l (next_link d)) r moved
+      (λ m other. record { mapped = λ k h. h; up = ap (λ (k : LinkState). k.up) (link-other d.remote.links l m rings.fresh other) }) (but l o.lenders d f all)
       (λ _ up. turned_new d.remote.slabs l (channel_of f l) (next_link d) (before.1.0.lodged l moved.0.range))
   each_turned x asked y k k' f f' (speaks {d = d} {l = l} {q = q} word) (by_fabric moved) before all = said_turned d f f' l q all moved
-  each_turned x asked y k k' f f' (speaks_to_nobody {d = d} {l = l} {q = q} word) (by_fabric moved) before all = down o.lenders d f f' (Send l q) sent_is.Down moved (but l o.lenders d f all)
+  each_turned x asked y k k' f f' (speaks_to_nobody {d = d} {l = l} {q = q} word) (by_fabric moved) before all =
+      down o.lenders d f f' (Send l q) sent_is.Down moved (but l o.lenders d f all)
   each_turned x asked y k k' f f' (hears {d = d} {h = heard} {l = l} {q = q} up one) (by_fabric moved) before all =
       words_turned heard.device f' l heard.word
-      (heard_turned o.lenders d f f' l q all (joint.serves_at disk follows laws T o far_may bytes_may d k f before.0) (joint.present_at disk follows laws T o far_may bytes_may d k f l before.0 before.1.1 up) up moved heard one)
+      (heard_turned o.lenders d f f' l q all (joint.serves_at disk follows laws T o far_may bytes_may d k f before.0)
+      (joint.present_at disk follows laws T o far_may bytes_may d k f l before.0 before.1.1 up) up moved heard one)
   each_turned x asked y k k' f f' (hears_nothing {d = d} {l = l} up) (by_fabric moved) before all =
-      through_call o.lenders d d f f' (Take l) NothingCame moved (λ m other. itself m d) (but l o.lenders d f all) (λ within up. subst (λ ch. Turned d.remote.slabs l ch) (sym (taken_nothing (channel_of f l) (ap (λ (x : Handed × Harbor). x.0) moved.1))) (all l within up))
-  each_turned x asked y k k' f f' (loses {d = d} {l = l} up) (by_fabric moved) before all = down o.lenders d f f' (Take l) LinkLost moved (but l o.lenders d f all)
-  each_turned x asked y k k' f f' (misunderstands {d = d} {l = l} {q = q} up) (by_fabric moved) before all = others o.lenders d d f f' (Take l) (Brought q) moved (λ m other. itself m d) (but l o.lenders d f all)
+      through_call o.lenders d d f f' (Take l) NothingCame moved (λ m other. itself m d) (but l o.lenders d f all)
+      (λ within up.
+      subst (λ ch. Turned d.remote.slabs l ch) (sym (taken_nothing (channel_of f l) (ap (λ (x : Handed × Harbor). x.0) moved.1))) (all l within up))
+  each_turned x asked y k k' f f' (loses {d = d} {l = l} up) (by_fabric moved) before all =
+      down o.lenders d f f' (Take l) LinkLost moved (but l o.lenders d f all)
+  each_turned x asked y k k' f f' (misunderstands {d = d} {l = l} {q = q} up) (by_fabric moved) before all =
+      others o.lenders d d f f' (Take l) (Brought q) moved (λ m other. itself m d) (but l o.lenders d f all)
   each_turned x asked y k k' f f' (breaks_off {d = d} {l = l} {r = r}) (by_fabric moved) before all = down o.lenders d f f' (End l) r moved all
   each_turned x asked y k k' f f' (far {d = d} {c = c} {r = r} one) (by_fabric moved) before all = far_turned d f f' c r one before.1.0 all moved

@@ -67,14 +67,17 @@ any-append test [] x e = ap (λ b. b || false) e
 any-append test (y ∷ xs) x e = ap (λ b. test y || b) (any-append test xs x e)
 
 pub lends-append : (k : Lease) (b : Lane) (q : Parcel) → lends k q.msg ≡ false → lends_in k (appended b q).parcels ≡ lends_in k b.parcels
-lends-append k b q e = by_append (λ z. lends_in k z.parcels ≡ lends_in k b.parcels) b q (λ _. refl) (λ _. any-append (λ (q : Parcel). lends k q.msg) b.parcels q e) (λ _. refl)
+lends-append k b q e =
+    by_append (λ z. lends_in k z.parcels ≡ lends_in k b.parcels) b q (λ _. refl) (λ _. any-append (λ (q : Parcel). lends k q.msg) b.parcels q e) (λ _. refl)
 
 no_loan_to : (t : Slab) (k : Lease) (m : Msg) → is_notice m ≡ true → lends_slab t k m ≡ false
 no_loan_to t k (msg.Lent slab lease) e = cc
 no_loan_to t k _ e = refl
 
 lends_to-append : (t : Slab) (k : Lease) (b : Lane) (q : Parcel) → lends_slab t k q.msg ≡ false → lends_to t k (appended b q).parcels ≡ lends_to t k b.parcels
-lends_to-append t k b q e = by_append (λ z. lends_to t k z.parcels ≡ lends_to t k b.parcels) b q (λ _. refl) (λ _. any-append (λ (q : Parcel). lends_slab t k q.msg) b.parcels q e) (λ _. refl)
+lends_to-append t k b q e =
+    by_append (λ z. lends_to t k z.parcels ≡ lends_to t k b.parcels) b q (λ _. refl) (λ _. any-append (λ (q : Parcel). lends_slab t k q.msg) b.parcels q e)
+    (λ _. refl)
 
 -- a loan under way, with a message more: it was, or the message is it
 pub any_last : {X : Type 0} (test : X → Bool) (xs : List X) (x : X) → list_any test (xs ++ x ∷ []) ≡ true → (list_any test xs ≡ true) ⊎ (test x ≡ true)
@@ -85,18 +88,26 @@ any_last test [] x e = inr (sym (or_false (test x)) ∙ e)
     or_false false = refl
 any_last test (y ∷ xs) x e = go (test y) e (any_last test xs x)
   where
-    go : (b : Bool) → (b || list_any test (xs ++ x ∷ [])) ≡ true → (list_any test (xs ++ x ∷ []) ≡ true → (list_any test xs ≡ true) ⊎ (test x ≡ true)) → ((b || list_any test xs) ≡ true) ⊎ (test x ≡ true)
+    go :
+        (b : Bool) → (b || list_any test (xs ++ x ∷ [])) ≡ true → (list_any test (xs ++ x ∷ []) ≡ true → (list_any test xs ≡ true) ⊎ (test x ≡ true))
+        → ((b || list_any test xs) ≡ true) ⊎ (test x ≡ true)
     go true e rest = inl refl
     go false e rest = rest e
 
-pub loan-append : (t : Slab) (k : Lease) (b : Lane) (q : Parcel) → lends_to t k (appended b q).parcels ≡ true → (lends_to t k b.parcels ≡ true) ⊎ (lends_slab t k q.msg ≡ true)
-loan-append t k b q = by_append (λ z. lends_to t k z.parcels ≡ true → (lends_to t k b.parcels ≡ true) ⊎ (lends_slab t k q.msg ≡ true)) b q (λ _ e. inl e) (λ _. any_last (λ (q : Parcel). lends_slab t k q.msg) b.parcels q) (λ _ e. inl e)
+pub loan-append :
+    (t : Slab) (k : Lease) (b : Lane) (q : Parcel) → lends_to t k (appended b q).parcels ≡ true
+    → (lends_to t k b.parcels ≡ true) ⊎ (lends_slab t k q.msg ≡ true)
+loan-append t k b q =
+    by_append (λ z. lends_to t k z.parcels ≡ true → (lends_to t k b.parcels ≡ true) ⊎ (lends_slab t k q.msg ≡ true)) b q (λ _ e. inl e)
+    (λ _. any_last (λ (q : Parcel). lends_slab t k q.msg) b.parcels q) (λ _ e. inl e)
 
 -- each lease is lent once, with a message more that lends none of those under way
 once_last : (ps : List Parcel) (q : Parcel) → LentOnce ps → ((k : Lease) → lends_in k ps ≡ true → lends k q.msg ≡ false) → LentOnce (ps ++ q ∷ [])
 once_last [] q once other = ((λ k e. refl), tt)
-once_last (p ∷ ps) q once other =
-    ((λ k e. any-append (λ (q : Parcel). lends k q.msg) ps q (other k (first (lends k p.msg) (lends_in k ps) e)) ∙ once.0 k e), once_last ps q once.1 (λ k e. other k (rest (lends k p.msg) (lends_in k ps) e)))
+once_last (p ∷ ps) q once other = (
+  (λ k e. any-append (λ (q : Parcel). lends k q.msg) ps q (other k (first (lends k p.msg) (lends_in k ps) e)) ∙ once.0 k e),
+  once_last ps q once.1 (λ k e. other k (rest (lends k p.msg) (lends_in k ps) e)),
+)
   where
     first : (a b : Bool) → a ≡ true → (a || b) ≡ true
     first true b e = refl
@@ -106,7 +117,8 @@ once_last (p ∷ ps) q once other =
     rest true b e = refl
     rest false b e = e
 
-pub once-append : (b : Lane) (q : Parcel) → LentOnce b.parcels → ((k : Lease) → lends_in k b.parcels ≡ true → lends k q.msg ≡ false) → LentOnce (appended b q).parcels
+pub once-append :
+    (b : Lane) (q : Parcel) → LentOnce b.parcels → ((k : Lease) → lends_in k b.parcels ≡ true → lends k q.msg ≡ false) → LentOnce (appended b q).parcels
 once-append b q once other = by_append (λ z. LentOnce z.parcels) b q (λ _. once) (λ _. once_last b.parcels q once other) (λ _. once)
 
 -- notices are appended, or dropped
@@ -118,16 +130,40 @@ pub record Noticed (a b b' : Lane) : Type 0 where
 
 posted_noticed : (a b : Lane) (n link : Link) (q : Parcel) → is_notice q.msg ≡ true → Noticed a b (posted n b link q)
 posted_noticed a b n link q is =
-    cond_both (link.0 == n.0) _ _ (λ z. Noticed a b z) (λ _. record { quiet = noticed_quiet a b q (no_reply q.msg is); lends = λ k. lends-append k b q (no_loan k q.msg is); loans = λ t k. lends_to-append t k b q (no_loan_to t k q.msg is); once = λ once. once-append b q once (λ k e. no_loan k q.msg is) })
-    (λ _. record { quiet = record { asks = refl; replies = refl; to_lender = λ f. f; to_device = λ f. f }; lends = λ k. refl; loans = λ t k. refl; once = λ once. once })
+    cond_both (link.0 == n.0) _ _ (λ z. Noticed a b z)
+    (λ _.
+    record {
+      quiet = noticed_quiet a b q (no_reply q.msg is);
+      lends = λ k. lends-append k b q (no_loan k q.msg is);
+      loans = λ t k. lends_to-append t k b q (no_loan_to t k q.msg is);
+      once = λ once. once-append b q once (λ k e. no_loan k q.msg is);
+    })
+    (λ _.
+    record {
+      quiet = record { asks = refl; replies = refl; to_lender = λ f. f; to_device = λ f. f };
+      lends = λ k. refl;
+      loans = λ t k. refl;
+      once = λ once. once;
+    })
 
 pub forwarded_noticed : (a b : Lane) (n : Link) (ps : List (Link × Parcel)) → AllByRecursion IsNotice ps → Noticed a b (forwarded n b ps)
-forwarded_noticed a b n [] all = record { quiet = record { asks = refl; replies = refl; to_lender = λ f. f; to_device = λ f. f }; lends = λ k. refl; loans = λ t k. refl; once = λ once. once }
+forwarded_noticed a b n [] all =
+    record {
+      quiet = record { asks = refl; replies = refl; to_lender = λ f. f; to_device = λ f. f };
+      lends = λ k. refl;
+      loans = λ t k. refl;
+      once = λ once. once;
+    }
 forwarded_noticed a b n (p ∷ ps) all =
     let q : Parcel = parcel_of p.1.msg p.1.page in
     let one : Noticed a b (posted n b p.0 q) = posted_noticed a b n p.0 q all.0 in
     let rest : Noticed a (posted n b p.0 q) (forwarded n (posted n b p.0 q) ps) = forwarded_noticed a (posted n b p.0 q) n ps all.1 in
-    record { quiet = quiet-trans a b a (posted n b p.0 q) a (forwarded n (posted n b p.0 q) ps) one.quiet rest.quiet; lends = λ k. rest.lends k ∙ one.lends k; loans = λ t k. rest.loans t k ∙ one.loans t k; once = λ once. rest.once (one.once once) }
+    record {
+      quiet = quiet-trans a b a (posted n b p.0 q) a (forwarded n (posted n b p.0 q) ps) one.quiet rest.quiet;
+      lends = λ k. rest.lends k ∙ one.lends k;
+      loans = λ t k. rest.loans t k ∙ one.loans t k;
+      once = λ once. rest.once (one.once once);
+    }
 
 told_notice : (kind : Notice) (b : Bool) (state : SlotState) → AllByRecursion IsNotice (tell_slot kind b state)
 told_notice kind false state = tt
@@ -137,7 +173,9 @@ told_notice notice.Evict true (Held link slab lease evicting) = (refl, tt)
 
 all_told : (kind : Notice) (set from : ℕ) (states : List SlotState) → AllByRecursion IsNotice (told kind set from states)
 all_told kind set from [] = tt
-all_told kind set from (state ∷ states) = All-append IsNotice (tell_slot kind (has set from) state) (told kind set (from + 1) states) (told_notice kind (has set from) state) (all_told kind set (from + 1) states)
+all_told kind set from (state ∷ states) =
+    All-append IsNotice (tell_slot kind (has set from) state) (told kind set (from + 1) states) (told_notice kind (has set from) state)
+    (all_told kind set (from + 1) states)
 
 settled_notices : (l : Lender) (o : Option ℕ) → AllByRecursion IsNotice (settle_with l o).parcels
 settled_notices l None = tt
@@ -149,11 +187,13 @@ serves_quietly l n (msg.Query slab) page e = cc
 serves_quietly l n (msg.Borrow slab) page e = cc
 serves_quietly l n (msg.Write lease place) page e = cc
 serves_quietly l n (msg.Read lease place) page e = cc
-serves_quietly l n (msg.Rates lease value) page e = settled_notices (record l { round = option_map (answer (slot_of l n lease) value) l.round }) (due (option_map (answer (slot_of l n lease) value) l.round))
+serves_quietly l n (msg.Rates lease value) page e =
+    settled_notices (record l { round = option_map (answer (slot_of l n lease) value) l.round }) (due (option_map (answer (slot_of l n lease) value) l.round))
 serves_quietly l n _ page e = tt
 
 pub hosts_quietly : (l : Lender) (used word : ℕ) → AllByRecursion IsNotice (host l used word).parcels
-hosts_quietly l used word = cond_both (opens (measured l used)) _ _ (λ (t : Turn). AllByRecursion IsNotice t.parcels) (λ _. all_told notice.AskRates _ 0 l.slots) (λ _. tt)
+hosts_quietly l used word =
+    cond_both (opens (measured l used)) _ _ (λ (t : Turn). AllByRecursion IsNotice t.parcels) (λ _. all_told notice.AskRates _ 0 l.slots) (λ _. tt)
 
 -- the lender that lent a slab
 abbrev lender_lend : Lender → Link → Slab → Lender
@@ -170,10 +210,23 @@ pub record Reply (s : Sizes) (H : History) (cs : Calls) (states : List SlabState
   pub new : (k : Lease) → k.0 < c.lender.next_lease → lends k reply.msg ≡ false
   pub seat : IsSound c.lender → AreSlots c.lender → (u : Slab) (k : Lease) → lends_slab u k reply.msg ≡ true → HasSeat t.lender c.number k u
 
-pub replies : (s : Sizes) (H : History) (cs : Calls) (states : List SlabState) (o : LenderNo) (c : Channel) (q : Parcel) (x : Request) → Carries s H states o q x → may_send c.lender c.number q.msg ≡ true → Reply s H cs states o c (serve c.lender c.number q.msg q.page) x
+pub replies :
+    (s : Sizes) (H : History) (cs : Calls) (states : List SlabState) (o : LenderNo) (c : Channel) (q : Parcel) (x : Request) → Carries s H states o q x
+    → may_send c.lender c.number q.msg ≡ true → Reply s H cs states o c (serve c.lender c.number q.msg q.page) x
 replies s H cs states o c q (Query t) carries =
     let P : Parcel → Type 0 = λ q. may_send c.lender c.number q.msg ≡ true → Reply s H cs states o c (serve c.lender c.number q.msg q.page) (Query t) in
-    subst P (sym carries) (λ may. record { reply = parcel_of (msg.Room t (lender.free c.lender)) []; parcels = refl; whole = refl; is = refl; answers = refl; brings = λ held. tt; new = λ k less. refl; seat = λ sound slots u k e. cc })
+    subst P (sym carries)
+    (λ may.
+    record {
+      reply = parcel_of (msg.Room t (lender.free c.lender)) [];
+      parcels = refl;
+      whole = refl;
+      is = refl;
+      answers = refl;
+      brings = λ held. tt;
+      new = λ k less. refl;
+      seat = λ sound slots u k e. cc;
+    })
 replies s H cs states o c q (Borrow t) carries =
     let P : Parcel → Type 0 = λ q. may_send c.lender c.number q.msg ≡ true → Reply s H cs states o c (serve c.lender c.number q.msg q.page) (Borrow t) in
     subst P (sym carries)
@@ -190,12 +243,35 @@ replies s H cs states o c q (Borrow t) carries =
           let parts = and_parts (t.0 == u.0) (c.lender.next_lease == k.0) e in
           let same : t ≡ u = ap (λ (n : ℕ). record { 0 = n }) (eqb-true t.0 u.0 parts.0) in
           let lease : record { 0 = c.lender.next_lease } ≡ k = ap (λ (n : ℕ). record { 0 = n }) (eqb-true c.lender.next_lease k.0 parts.1) in
-          subst (λ (k : Lease). HasSeat (lender_lend c.lender c.number t) c.number k u) lease (subst (λ (u : Slab). HasSeat (lender_lend c.lender c.number t) c.number (record { 0 = c.lender.next_lease }) u) same (seat_lend c.lender c.number t sound slots lends));
+          subst (λ (k : Lease). HasSeat (lender_lend c.lender c.number t) c.number k u) lease
+          (subst (λ (u : Slab). HasSeat (lender_lend c.lender c.number t) c.number (record { 0 = c.lender.next_lease }) u) same
+          (seat_lend c.lender c.number t sound slots lends));
     })
-    (λ _. record { reply = parcel_of (msg.Refused t) []; parcels = refl; whole = refl; is = refl; answers = refl; brings = λ held. tt; new = λ k less. refl; seat = λ sound slots u k e. cc }))
+    (λ _.
+    record {
+      reply = parcel_of (msg.Refused t) [];
+      parcels = refl;
+      whole = refl;
+      is = refl;
+      answers = refl;
+      brings = λ held. tt;
+      new = λ k less. refl;
+      seat = λ sound slots u k e. cc;
+    }))
 replies s H cs states o c q (Write p e) carries =
     let P : Parcel → Type 0 = λ q. may_send c.lender c.number q.msg ≡ true → Reply s H cs states o c (serve c.lender c.number q.msg q.page) (Write p e) in
-    subst P (sym carries.1) (λ may. record { reply = parcel_of (msg.Wrote carries.0 (place_of s p.0)) []; parcels = refl; whole = refl; is = refl; answers = (carries.2, refl); brings = λ held. tt; new = λ k less. refl; seat = λ sound slots u k e. cc })
+    subst P (sym carries.1)
+    (λ may.
+    record {
+      reply = parcel_of (msg.Wrote carries.0 (place_of s p.0)) [];
+      parcels = refl;
+      whole = refl;
+      is = refl;
+      answers = (carries.2, refl);
+      brings = λ held. tt;
+      new = λ k less. refl;
+      seat = λ sound slots u k e. cc;
+    })
 replies s H cs states o c q (Read a p) carries =
     let P : Parcel → Type 0 = λ q. may_send c.lender c.number q.msg ≡ true → Reply s H cs states o c (serve c.lender c.number q.msg q.page) (Read a p) in
     subst P (sym carries.1) (λ may. record {
@@ -205,12 +281,20 @@ replies s H cs states o c q (Read a p) carries =
       is = refl;
       answers = (carries.2, refl);
       brings = λ held e is.
-          let was = held carries.0 e carries.2 is in
-          (was.0, some-same (sym (cond-true (may_reach c.lender c.number carries.0 (place_of s p.0)) (Some (lender.page_in c.lender.contents (slot_of c.lender c.number carries.0) (place_of s p.0))) None may) ∙ was.1));
+          let was = held carries.0 e carries.2 is in (
+            was.0,
+            some-same
+                (sym
+                (cond-true (may_reach c.lender c.number carries.0 (place_of s p.0))
+                (Some (lender.page_in c.lender.contents (slot_of c.lender c.number carries.0) (place_of s p.0))) None may)
+                ∙ was.1),
+          );
       new = λ k less. refl;
       seat = λ sound slots u k e. cc;
     })
 
-pub forwarded_one : (n : Link) (b : Lane) (ps : List (Link × Parcel)) (q : Parcel) → ps ≡ (n, q) ∷ [] → parcel_of q.msg q.page ≡ q → forwarded n b ps ≡ appended b q
+pub forwarded_one :
+    (n : Link) (b : Lane) (ps : List (Link × Parcel)) (q : Parcel) → ps ≡ (n, q) ∷ [] → parcel_of q.msg q.page ≡ q → forwarded n b ps ≡ appended b q
 forwarded_one n b ps q is whole =
-    ap (λ (xs : List (Link × Parcel)). forwarded n b xs) is ∙ cond-true (n.0 == n.0) (appended b (parcel_of q.msg q.page)) b (eq-eqb n.0 n.0 refl) ∙ ap (λ r. appended b r) whole
+    ap (λ (xs : List (Link × Parcel)). forwarded n b xs) is ∙ cond-true (n.0 == n.0) (appended b (parcel_of q.msg q.page)) b (eq-eqb n.0 n.0 refl)
+    ∙ ap (λ r. appended b r) whole

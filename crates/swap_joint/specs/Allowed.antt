@@ -75,7 +75,8 @@ borrows_in t ring = list_any (is_borrow t) ring
 -- each lease is named by a message of a kind at most once
 abbrev pub NamedOnce : (Lease → Msg → Bool) → List Parcel → Type 0
 NamedOnce names [] = Unit {0}
-NamedOnce names (q ∷ qs) = ((k : Lease) → names k q.msg ≡ true → list_any (λ (r : Parcel). names k r.msg) qs ≡ false) × NamedOnce names qs
+NamedOnce names (q ∷ qs) =
+    ((k : Lease) → names k q.msg ≡ true → list_any (λ (r : Parcel). names k r.msg) qs ≡ false) × NamedOnce names qs
 
 -- a slot is held by this lease, and was told to go or not
 abbrev pub HasSlot : List SlotState → Lease → Bool → Type 0
@@ -97,7 +98,9 @@ pub record Waits (l : lender.Lender) (k : Lease) : Type 0 where
 -- before a Borrow each slot that is held for its slab is given back
 abbrev pub BorrowsFree : List SlotState → (Lease → Type 0) → List Parcel → Type 0
 BorrowsFree slots G [] = Unit {0}
-BorrowsFree slots G (q ∷ qs) = ((t : Slab) (i : ℕ) (n : Link) (k : Lease) (e : Bool) → q.msg ≡ msg.Borrow t → slot_in slots i ≡ Held n t k e → G k) × BorrowsFree slots (λ k. G k ⊎ (is_done k q.msg ≡ true)) qs
+BorrowsFree slots G (q ∷ qs) =
+    ((t : Slab) (i : ℕ) (n : Link) (k : Lease) (e : Bool) → q.msg ≡ msg.Borrow t → slot_in slots i ≡ Held n t k e → G k)
+    × BorrowsFree slots (λ k. G k ⊎ (is_done k q.msg ≡ true)) qs
 
 -- a link that has greeted does so no more, and one that hasn't greets first, unless its list was cut to nothing
 abbrev pub NoHello : List Parcel → Type 0
@@ -122,47 +125,62 @@ IsToLender _ = ⊥
 abbrev pub AreToLender : List Parcel → Type 0
 AreToLender ps = AllByRecursion (λ (q : Parcel). IsToLender q.msg) ps
 
--- A link whose lender's end stands: the lender, what is under way to the device, whether the list to the lender has ended,
+-- A link whose lender's end stands: the lender, what is under way to the device, whether the list to the lender has
+-- ended,
 -- and `out`: what is under way to the lender, with what the device is about to say. Where a slot was told to go its
 -- Evict is under way, its slab drains or its lease is given back, each of them once; where a round waits for a slot, so
 -- is its question or its answer; and a slot is held for a slab that has its lease or is being lent, until it is given
 -- back.
-pub record Allows (s : Sizes) (states : List SlabState) (ring : List Request) (l : Lender) (table : lender.Lender) (n : Link) (come : List Parcel) (ended : Bool) (out : List Parcel) : Type 0 where
+pub record Allows (s : Sizes) (states : List SlabState) (ring : List Request) (l : Lender) (table : lender.Lender)
+    (n : Link) (come : List Parcel) (ended : Bool) (out : List Parcel) : Type 0 where
   pub told : (k : Lease) → evicts_in k come ≡ true → HasSlot table.slots k true
-  pub drains : (t : Slab) (k : Lease) (flying : ℕ) → state_of states t ≡ Draining l k flying → HasSlot table.slots k true
+  pub drains :
+      (t : Slab) (k : Lease) (flying : ℕ) → state_of states t ≡ Draining l k flying → HasSlot table.slots k true
   pub done : (k : Lease) → gives_back k out ≡ true → HasSlot table.slots k true
   pub done_once : NamedOnce is_done out
   pub evict_once : NamedOnce is_evict come
   pub apart : (k : Lease) → evicts_in k come ≡ true → gives_back k out ≡ false
-  pub before : (t : Slab) (k : Lease) (flying : ℕ) → evicts_in k come ≡ true → state_of states t ≡ Draining l k flying → ⊥
+  pub before :
+      (t : Slab) (k : Lease) (flying : ℕ) → evicts_in k come ≡ true → state_of states t ≡ Draining l k flying → ⊥
   pub asks : (k : Lease) → asks_in k come ≡ true → Waits table k
   pub rates : (k : Lease) → rates_in k out ≡ true → Waits table k
   pub ask_once : NamedOnce is_ask come
   pub rate_once : NamedOnce is_rate out
   pub one : (k : Lease) → asks_in k come ≡ true → rates_in k out ≡ false
-  pub home : (i : ℕ) (m : Link) (t : Slab) (k : Lease) (e : Bool) → slot_in table.slots i ≡ Held m t k e → (has_lease l k (state_of states t) ≡ true) ⊎ (borrows_in t ring ≡ true) ⊎ (gives_back k out ≡ true) ⊎ (ended ≡ true)
-  pub refused : (i : ℕ) (m : Link) (t : Slab) (k : Lease) (e : Bool) → refuses_in t come ≡ true → slot_in table.slots i ≡ Held m t k e → ⊥
+  pub home :
+      (i : ℕ) (m : Link) (t : Slab) (k : Lease) (e : Bool) → slot_in table.slots i ≡ Held m t k e
+      → (has_lease l k (state_of states t) ≡ true) ⊎ (borrows_in t ring ≡ true) ⊎ (gives_back k out ≡ true)
+      ⊎ (ended ≡ true)
+  pub refused :
+      (i : ℕ) (m : Link) (t : Slab) (k : Lease) (e : Bool) → refuses_in t come ≡ true
+      → slot_in table.slots i ≡ Held m t k e → ⊥
   pub free : BorrowsFree table.slots (λ k. ⊥) out
   pub greets : Greets s (has_greeted table n) ended out
   pub kinds : AreToLender out
 
 -- a link that is up, with what the device is about to say on it
 abbrev pub Allowed : Device → Lender → Channel → List Parcel → Type 0
-Allowed d l c said = Unless c.lender_gone (Allows d.sizes d.remote.slabs (ring_of d.remote.links l) l c.lender c.number c.to_device.parcels c.to_lender.ended (c.to_lender.parcels ++ said))
+Allowed d l c said =
+    Unless c.lender_gone
+    (Allows d.sizes d.remote.slabs (ring_of d.remote.links l) l c.lender c.number c.to_device.parcels c.to_lender.ended
+    (c.to_lender.parcels ++ said))
 
 abbrev pub AllAllowed : ℕ → Device → Harbor → Type 0
 AllAllowed n d h = (l : Lender) → l.0 < n → is_up d.remote.links l ≡ true → Allowed d l (channel_of h l) []
 
 abbrev pub AllAllowedBut : Lender → ℕ → Device → Harbor → Type 0
-AllAllowedBut m n d h = (l : Lender) → l.0 < n → (l.0 ≡ m.0 → ⊥) → is_up d.remote.links l ≡ true → Allowed d l (channel_of h l) []
+AllAllowedBut m n d h =
+    (l : Lender) → l.0 < n → (l.0 ≡ m.0 → ⊥) → is_up d.remote.links l ≡ true → Allowed d l (channel_of h l) []
 
 -- with what the device is about to do
 abbrev pub AllowedOwing : ℕ → Device → Harbor → List Owed → Type 0
 AllowedOwing n d h [] = AllAllowed n d h
-AllowedOwing n d h (Says l q ∷ owed) = AllAllowedBut l n d h × (l.0 < n → is_up d.remote.links l ≡ true → Allowed d l (channel_of h l) (q ∷ []))
+AllowedOwing n d h (Says l q ∷ owed) =
+    AllAllowedBut l n d h × (l.0 < n → is_up d.remote.links l ≡ true → Allowed d l (channel_of h l) (q ∷ []))
 AllowedOwing n d h (Ends l ∷ owed) = AllAllowedBut l n d h
 
--- the lender's only link is the present one, as long as its end stands; it has room for one, and the sizes of its device
+-- the lender's only link is the present one, as long as its end stands; it has room for one, and the sizes of its
+-- device
 pub record IsKnown (s : Sizes) (c : Channel) : Type 0 where
   pub alone : IsAlone c.number c.lender_gone c.lender.peers
   pub one : c.lender.lending.links ≡ 1

@@ -41,12 +41,14 @@ IsReach slots places _ = Unit {0}
 -- a lease that is given back is used no more
 abbrev pub DoneLast : List Parcel → Type 0
 DoneLast [] = Unit {0}
-DoneLast (q ∷ qs) = ((k : Lease) → is_done k q.msg ≡ true → list_any (λ (p : Parcel). uses k p.msg) qs ≡ false) × DoneLast qs
+DoneLast (q ∷ qs) =
+    ((k : Lease) → is_done k q.msg ≡ true → list_any (λ (p : Parcel). uses k p.msg) qs ≡ false) × DoneLast qs
 
 -- a slab is borrowed once
 abbrev pub BorrowOnce : List Parcel → Type 0
 BorrowOnce [] = Unit {0}
-BorrowOnce (q ∷ qs) = ((t : Slab) → borrows t q.msg ≡ true → list_any (λ (p : Parcel). borrows t p.msg) qs ≡ false) × BorrowOnce qs
+BorrowOnce (q ∷ qs) =
+    ((t : Slab) → borrows t q.msg ≡ true → list_any (λ (p : Parcel). borrows t p.msg) qs ≡ false) × BorrowOnce qs
 
 pub record Orderly (slots : List SlotState) (places : ℕ) (out : List Parcel) : Type 0 where
   pub reach : AllByRecursion (λ (q : Parcel). IsReach slots places q.msg) out
@@ -55,7 +57,10 @@ pub record Orderly (slots : List SlotState) (places : ℕ) (out : List Parcel) :
 
 -- a link that its device has lost, whatever the device keeps
 abbrev pub Left : Sizes → Lender → Channel → Type 0
-Left s l c = Unless c.lender_gone (Allows s [] [] l c.lender c.number [] true c.to_lender.parcels × Orderly c.lender.slots s.pages_per_slab c.to_lender.parcels)
+Left s l c =
+    Unless c.lender_gone
+    (Allows s [] [] l c.lender c.number [] true c.to_lender.parcels
+    × Orderly c.lender.slots s.pages_per_slab c.to_lender.parcels)
 
 -- so of each link that is down, or about to be ended
 abbrev pub IsLeft : Device → List Owed → Lender → Type 0

@@ -19,9 +19,15 @@ use Rattle.swap_joint.specs.Allowed.{AllKnown}
 -- a slot that is lent is had by the next lease, and a slot stays a link's, by its lease and for its slab, through each
 -- message that is served but the one that gives it back, and through the lender's own measure of its host
 pub record TurnsKeepSeats : Type 0 where
-  pub lent : (l : Lender) (n : Link) (t : Slab) → IsSound l → AreSlots l → lends l ≡ true → HasSeat (lend l n t (first_where is_free l.slots)).lender n (record { 0 = l.next_lease }) t
-  pub served : (l : Lender) (n : Link) (m : Msg) (page : List ℕ) (k : Lease) (t : Slab) → IsSound l → may_send l n m ≡ true → is_done k m ≡ false → HasSeat l n k t → HasSeat (serve l n m page).lender n k t
-  pub hosted : (l : Lender) (used word : ℕ) (n : Link) (k : Lease) (t : Slab) → HasSeat l n k t → HasSeat (host l used word).lender n k t
+  pub lent :
+      (l : Lender) (n : Link) (t : Slab) → IsSound l → AreSlots l → lends l ≡ true
+      → HasSeat (lend l n t (first_where is_free l.slots)).lender n (record { 0 = l.next_lease }) t
+  pub served :
+      (l : Lender) (n : Link) (m : Msg) (page : List ℕ) (k : Lease) (t : Slab) → IsSound l → may_send l n m ≡ true
+      → is_done k m ≡ false → HasSeat l n k t → HasSeat (serve l n m page).lender n k t
+  pub hosted :
+      (l : Lender) (used word : ℕ) (n : Link) (k : Lease) (t : Slab) → HasSeat l n k t
+      → HasSeat (host l used word).lender n k t
 
 -- each lender has the slots of its spec
 abbrev pub AreWhole : Harbor → Type 0
@@ -37,7 +43,8 @@ abbrev pub AreReached : Harbor → Type 0
 AreReached h = (l : LenderNo) → l.0 < length h.channels → IsReached (channel_of h l).lender
 
 abbrev pub AllUntold : Harbor → Type 0
-AllUntold h = (l : LenderNo) → l.0 < length h.channels → AsksUntold (channel_of h l).lender.round (channel_of h l).lender.slots
+AllUntold h =
+    (l : LenderNo) → l.0 < length h.channels → AsksUntold (channel_of h l).lender.round (channel_of h l).lender.slots
 
 abbrev pub AllLodge : Harbor → Type 0
 AllLodge h = (l : LenderNo) → l.0 < length h.channels → Lodges (channel_of h l)

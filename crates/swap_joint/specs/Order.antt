@@ -68,14 +68,19 @@ Answers s states l q (Read c p) = Names s states l p (read_reply q.msg)
 abbrev pub Carries : Sizes → History → List SlabState → Lender → Parcel → Request → Type 0
 Carries s H states l q (Query t) = q ≡ parcel_of (msg.Query t) []
 Carries s H states l q (Borrow t) = q ≡ parcel_of (msg.Borrow t) []
-Carries s H states l q (Write p e) = (k : Lease) × (q ≡ write_parcel k (place_of s p.0) (bytes_of H e)) × (has_lease l k (state_for s states p) ≡ true) × IsOut H p e
-Carries s H states l q (Read c p) = (k : Lease) × (q ≡ read_parcel k (place_of s p.0)) × (has_lease l k (state_for s states p) ≡ true)
+Carries s H states l q (Write p e) =
+    (k : Lease) × (q ≡ write_parcel k (place_of s p.0) (bytes_of H e)) × (has_lease l k (state_for s states p) ≡ true)
+    × IsOut H p e
+Carries s H states l q (Read c p) =
+    (k : Lease) × (q ≡ read_parcel k (place_of s p.0)) × (has_lease l k (state_for s states p) ≡ true)
 
 -- A ring is cut in four, the oldest first, where a test says which reply answers a request, and another which message
 -- carries it: requests whose replies are under way, those that were served and whose
--- replies were lost, those under way to the lender, and those that were lost. Replies are lost only where the list to the
+-- replies were lost, those under way to the lender, and those that were lost. Replies are lost only where the list to
+-- the
 -- device has ended, and requests where the list to the lender has.
-pub record OrderOf (replies_to carries : Parcel → Request → Type 0) (ring : List Request) (to_lender to_device : Lane) : Type 0 where
+pub record OrderOf (replies_to carries : Parcel → Request → Type 0) (ring : List Request)
+    (to_lender to_device : Lane) : Type 0 where
   pub answered : List Request
   pub unheard : List Request
   pub under_way : List Request
@@ -88,11 +93,13 @@ pub record OrderOf (replies_to carries : Parcel → Request → Type 0) (ring : 
 
 -- what a reply answers and a message carries is told by the device's sizes, its history and the states of its slabs
 abbrev pub InOrder : Sizes → History → List SlabState → List Request → Lender → Lane → Lane → Type 0
-InOrder s H states ring l to_lender to_device = OrderOf (Answers s states l) (Carries s H states l) ring to_lender to_device
+InOrder s H states ring l to_lender to_device =
+    OrderOf (Answers s states l) (Carries s H states l) ring to_lender to_device
 
 abbrev pub Order : Device → Lender → Channel → Type 0
 Order d l c = InOrder d.sizes d.history d.remote.slabs (ring_of d.remote.links l) l c.to_lender c.to_device
 
 -- what the lender has served of the ring
-abbrev pub served_of : {R C : Parcel → Request → Type 0} {ring : List Request} {a b : Lane} → OrderOf R C ring a b → List Request
+abbrev pub served_of :
+    {R C : Parcel → Request → Type 0} {ring : List Request} {a b : Lane} → OrderOf R C ring a b → List Request
 served_of o = o.answered ++ o.unheard

@@ -16,8 +16,10 @@ abbrev pub HasItsSlot : Device → Harbor → Slab → SlabState → Type 0
 HasItsSlot d h t Local = Unit {0}
 HasItsSlot d h t (Asking pair) = Unit {0}
 HasItsSlot d h t (Borrowing l) = Unit {0}
-HasItsSlot d h t (Mapped l k flying) = Unless (channel_of h l).lender_gone (HasSeat (channel_of h l).lender (channel_of h l).number k t)
-HasItsSlot d h t (Draining l k flying) = Unless (channel_of h l).lender_gone (HasSeat (channel_of h l).lender (channel_of h l).number k t)
+HasItsSlot d h t (Mapped l k flying) =
+    Unless (channel_of h l).lender_gone (HasSeat (channel_of h l).lender (channel_of h l).number k t)
+HasItsSlot d h t (Draining l k flying) =
+    Unless (channel_of h l).lender_gone (HasSeat (channel_of h l).lender (channel_of h l).number k t)
 
 abbrev pub HaveTheirSlots : Device → Harbor → Type 0
 HaveTheirSlots d h = (t : Slab) → t.0 < d.sizes.slabs → HasItsSlot d h t (state_of d.remote.slabs t)

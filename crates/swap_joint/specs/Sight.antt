@@ -22,14 +22,17 @@ use Rattle.swap_joint.specs.Brought.{kept_entry}
 
 -- each slab has the leases of the lender that it had, or none but those
 abbrev pub SameLeases : Lender → List SlabState → List SlabState → Type 0
-SameLeases l states states' = (t : Slab) (k : Lease) → has_lease l k (state_of states' t) ≡ has_lease l k (state_of states t)
+SameLeases l states states' =
+    (t : Slab) (k : Lease) → has_lease l k (state_of states' t) ≡ has_lease l k (state_of states t)
 
 abbrev pub FewerLeases : Lender → List SlabState → List SlabState → Type 0
-FewerLeases l states states' = (t : Slab) (k : Lease) → has_lease l k (state_of states' t) ≡ true → has_lease l k (state_of states t) ≡ true
+FewerLeases l states states' =
+    (t : Slab) (k : Lease) → has_lease l k (state_of states' t) ≡ true → has_lease l k (state_of states t) ≡ true
 
 -- the slab of a request's page keeps its lease
 abbrev pub KeepsLease : Sizes → Lender → List SlabState → List SlabState → Page → Type 0
-KeepsLease s l states states' p = (k : Lease) → has_lease l k (state_for s states p) ≡ true → has_lease l k (state_for s states' p) ≡ true
+KeepsLease s l states states' p =
+    (k : Lease) → has_lease l k (state_for s states p) ≡ true → has_lease l k (state_for s states' p) ≡ true
 
 abbrev pub StaysLeased : Sizes → Lender → List SlabState → List SlabState → Request → Type 0
 StaysLeased s l states states' (Query t) = Unit {0}
@@ -43,7 +46,8 @@ KeepsEntries H H' = (p : Page) (e : EntryNo) → IsOut H p e → IsOut H' p e ×
 
 -- a page at the lender whose bit is set had it set, and has the content that it had
 abbrev pub KeepsBits : Lender → Device → Device → Type 0
-KeepsBits l d d' = (p : Page) (k : Lease) → has_lease l k (state_for d.sizes d.remote.slabs p) ≡ true → has_page d'.remote p ≡ true
+KeepsBits l d d' =
+    (p : Page) (k : Lease) → has_lease l k (state_for d.sizes d.remote.slabs p) ≡ true → has_page d'.remote p ≡ true
     → (has_page d.remote p ≡ true) × (array (zeros d.sizes) d'.history p ≡ array (zeros d.sizes) d.history p)
 
 -- a call that reads keeps its entry, or reads no more
@@ -51,7 +55,8 @@ abbrev pub StillReads : Calls → Calls → Request → Type 0
 StillReads calls calls' (Query t) = Unit {0}
 StillReads calls calls' (Borrow t) = Unit {0}
 StillReads calls calls' (Write p e) = Unit {0}
-StillReads calls calls' (Read a p) = (e : EntryNo) → kept_entry (calls_of.state_of calls' a) ≡ Some e → kept_entry (calls_of.state_of calls a) ≡ Some e
+StillReads calls calls' (Read a p) =
+    (e : EntryNo) → kept_entry (calls_of.state_of calls' a) ≡ Some e → kept_entry (calls_of.state_of calls a) ≡ Some e
 
 -- what the lender has stays what the device has of it: a lease may go where no request under way is for its slab
 pub record SeesSame (l : Lender) (d d' : Device) : Type 0 where

@@ -60,15 +60,21 @@ pub record IsGivenBack (states : List SlabState) (l : Lender) (c : Channel) (k :
 
 -- a slab with a lease has its slot, and so has one whose lease is under way; of a page with a write that was served the
 -- slot holds what the last of them wrote, and of a page whose bit is set the page's content
-pub record Stored (s : Sizes) (H : History) (states : List SlabState) (bits : List Bool) (l : Lender) (c : Channel) (served : List Request) : Type 0 where
+pub record Stored (s : Sizes) (H : History) (states : List SlabState) (bits : List Bool) (l : Lender) (c : Channel)
+    (served : List Request) : Type 0 where
   pub leased : (t : Slab) (k : Lease) → has_lease l k (state_of states t) ≡ true → HasSeat c.lender c.number k t
   pub lent : (t : Slab) (k : Lease) → lends_to t k c.to_device.parcels ≡ true → HasSeat c.lender c.number k t
-  pub written : (p : Page) (k : Lease) (e : EntryNo) → has_lease l k (state_for s states p) ≡ true → latest p served ≡ Some e → IsOut H p e × (found s c k p ≡ Some (bytes_of H e))
-  pub readable : (p : Page) (k : Lease) → has_lease l k (state_for s states p) ≡ true → has bits p.0 ≡ true → found s c k p ≡ Some (array (zeros s) H p)
+  pub written :
+      (p : Page) (k : Lease) (e : EntryNo) → has_lease l k (state_for s states p) ≡ true → latest p served ≡ Some e
+      → IsOut H p e × (found s c k p ≡ Some (bytes_of H e))
+  pub readable :
+      (p : Page) (k : Lease) → has_lease l k (state_for s states p) ≡ true → has bits p.0 ≡ true
+      → found s c k p ≡ Some (array (zeros s) H p)
   pub given : (k : Lease) → gives_back k c.to_lender.parcels ≡ true → IsGivenBack states l c k
 
 -- a link that is up, with its lender
-pub record JoinedOf (s : Sizes) (H : History) (calls : Calls) (states : List SlabState) (bits : List Bool) (ring : List Request) (l : Lender) (c : Channel) : Type 0 where
+pub record JoinedOf (s : Sizes) (H : History) (calls : Calls) (states : List SlabState) (bits : List Bool)
+    (ring : List Request) (l : Lender) (c : Channel) : Type 0 where
   pub present : c.device_gone ≡ false
   pub order : OrderOf (Replied s H calls states l) (Asked s H calls states l c) ring c.to_lender c.to_device
   pub stored : Unless c.lender_gone (Stored s H states bits l c (served_of order))
@@ -82,7 +88,8 @@ abbrev pub AllJoined : ℕ → Device → Harbor → Type 0
 AllJoined n d h = (l : Lender) → l.0 < n → is_up d.remote.links l ≡ true → Joined d l (channel_of h l)
 
 abbrev pub AllJoinedBut : Lender → ℕ → Device → Harbor → Type 0
-AllJoinedBut m n d h = (l : Lender) → l.0 < n → (l.0 ≡ m.0 → ⊥) → is_up d.remote.links l ≡ true → Joined d l (channel_of h l)
+AllJoinedBut m n d h =
+    (l : Lender) → l.0 < n → (l.0 ≡ m.0 → ⊥) → is_up d.remote.links l ≡ true → Joined d l (channel_of h l)
 
 -- a lease that is about to be given back on a link
 abbrev pub MayGiveBack : Device → Lender → Channel → Msg → Type 0
@@ -91,5 +98,6 @@ MayGiveBack d l c m = (k : Lease) → is_done k m ≡ true → Unless c.lender_g
 -- with what the device is about to do
 abbrev pub JoinedOwing : ℕ → Device → Harbor → List Owed → Type 0
 JoinedOwing n d h [] = AllJoined n d h
-JoinedOwing n d h (Says l q ∷ owed) = AllJoined n d h × (is_up d.remote.links l ≡ true) × MayGiveBack d l (channel_of h l) q.msg
+JoinedOwing n d h (Says l q ∷ owed) =
+    AllJoined n d h × (is_up d.remote.links l ≡ true) × MayGiveBack d l (channel_of h l) q.msg
 JoinedOwing n d h (Ends l ∷ owed) = AllJoinedBut l n d h

@@ -55,7 +55,9 @@ InTurn M (q ∷ qs) = MayCome M q.msg × InTurn (λ j. Then M q.msg j) qs
 
 -- a slot that was not told to go maps its slab once all is taken, as long as the list has not ended
 abbrev pub Stays : (Lease → Type 0) → List SlotState → Lane → Type 0
-Stays M slots b = b.ended ≡ false → (i : ℕ) (n : Link) (t : Slab) (k : Lease) → slot_in slots i ≡ Held n t k false → After M b.parcels k
+Stays M slots b =
+    b.ended ≡ false → (i : ℕ) (n : Link) (t : Slab) (k : Lease) → slot_in slots i ≡ Held n t k false
+    → After M b.parcels k
 
 -- no slot that the open round asks was told to go
 abbrev pub AsksUntold : Option Round → List SlotState → Type 0
@@ -64,9 +66,12 @@ AsksUntold (Some r) slots = (i : ℕ) → has r.asked i ≡ true → is_evicting
 
 -- a lender holds slots for its present link alone, and none where its end is gone
 abbrev pub Lodges : Channel → Type 0
-Lodges c = (i : ℕ) (a : Tenant) → tenant (slot_in c.lender.slots i) ≡ Some a → (c.lender_gone ≡ false) × (a.link.0 ≡ c.number.0)
+Lodges c =
+    (i : ℕ) (a : Tenant) → tenant (slot_in c.lender.slots i) ≡ Some a
+    → (c.lender_gone ≡ false) × (a.link.0 ≡ c.number.0)
 
--- a link of a device whose slabs are in these states: what is under way to it may be taken in turn, and where the lender's
+-- a link of a device whose slabs are in these states: what is under way to it may be taken in turn, and where the
+-- lender's
 -- end stands, each slot that was not told to go maps its slab then
 pub record Turned (states : List SlabState) (l : Lender) (c : Channel) : Type 0 where
   pub turn : InTurn (λ k. IsMappedAt states l k) c.to_device.parcels
@@ -77,7 +82,8 @@ abbrev pub AllTurned : ℕ → Device → Harbor → Type 0
 AllTurned n d h = (l : Lender) → l.0 < n → is_up d.remote.links l ≡ true → Turned d.remote.slabs l (channel_of h l)
 
 abbrev pub AllTurnedBut : Lender → ℕ → Device → Harbor → Type 0
-AllTurnedBut m n d h = (l : Lender) → l.0 < n → (l.0 ≡ m.0 → ⊥) → is_up d.remote.links l ≡ true → Turned d.remote.slabs l (channel_of h l)
+AllTurnedBut m n d h =
+    (l : Lender) → l.0 < n → (l.0 ≡ m.0 → ⊥) → is_up d.remote.links l ≡ true → Turned d.remote.slabs l (channel_of h l)
 
 abbrev pub TurnedOwing : ℕ → Device → Harbor → List Owed → Type 0
 TurnedOwing n d h [] = AllTurned n d h

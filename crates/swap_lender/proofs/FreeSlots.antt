@@ -13,7 +13,8 @@ pub free_there : (slots : List SlotState) → count_by is_held slots < length sl
 free_there [] lt = absurd (omega arith)
 free_there (Free ∷ slots) lt = omega arith
 free_there (Held link slab lease evicting ∷ slots) lt =
-    let one_more : count_by is_held (Held link slab lease evicting ∷ slots) ≡ 1 + count_by is_held slots = sum_by-cons (λ state. cond (is_held state) 1 0) (Held link slab lease evicting) slots in
+    let one_more : count_by is_held (Held link slab lease evicting ∷ slots) ≡ 1 + count_by is_held slots =
+    sum_by-cons (λ state. cond (is_held state) 1 0) (Held link slab lease evicting) slots in
     let later : position_or_len is_free slots < length slots = free_there slots (omega (arith, one_more)) in omega arith
 
 pub lowest_there : (slots : List SlotState) → count_by is_held slots < length slots → position is_free slots ≡ Some (position_or_len is_free slots)

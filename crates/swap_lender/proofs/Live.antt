@@ -65,8 +65,11 @@ each_pick : (P : ℕ → Type 0) (n word : ℕ) (xs : List ℕ) → Each P xs �
 each_pick P zero word xs e = tt
 each_pick P (suc n) word [] e = tt
 each_pick P (suc n) word (x ∷ xs) e =
-    let k = word % length (x ∷ xs) in
-    (each_get P (x ∷ xs) k 0 (omega arith) e, each_pick P n (word / length (x ∷ xs)) (remove (x ∷ xs) k) (each_append P (take k (x ∷ xs)) (drop (suc k) (x ∷ xs)) (each_take P k (x ∷ xs) e) (each_drop P (suc k) (x ∷ xs) e)))
+    let k = word % length (x ∷ xs) in (
+      each_get P (x ∷ xs) k 0 (omega arith) e,
+      each_pick P n (word / length (x ∷ xs)) (remove (x ∷ xs) k)
+          (each_append P (take k (x ∷ xs)) (drop (suc k) (x ∷ xs)) (each_take P k (x ∷ xs) e) (each_drop P (suc k) (x ∷ xs) e)),
+    )
 
 filter_if : (P : ℕ → Type 0) (b : Bool) (x : ℕ) (rest : List ℕ) → (b ≡ true → P x) → Each P rest → Each P (cond b (x ∷ rest) rest)
 filter_if P true x rest here e = (here refl, e)
@@ -84,25 +87,40 @@ each_slot s = each_filter (has s) (range_with_len 0 64)
 in_set : (P : ℕ → Type 0) (s i : ℕ) (xs : List ℕ) → (has s i ≡ true → P i) → Each P xs → has (fold (λ set slot. bit_or set (2 ^ slot)) s xs) i ≡ true → P i
 in_set P s i [] before e h = before h
 in_set P s i (x ∷ xs) before e h =
-    in_set P (bit_or s (2 ^ x)) i xs (λ (now : has (bit_or s (2 ^ x)) i ≡ true). ⊎_elim before (λ (same : i ≡ x). subst P (sym same) e.0) (or_has s x i now)) e.1 h
+    in_set P (bit_or s (2 ^ x)) i xs
+    (λ (now : has (bit_or s (2 ^ x)) i ≡ true). ⊎_elim before (λ (same : i ≡ x). subst P (sym same) e.0) (or_has s x i now)) e.1 h
 
 in_set_of : (P : ℕ → Type 0) (i : ℕ) (xs : List ℕ) → Each P xs → has (set_of xs) i ≡ true → P i
-in_set_of P i xs e h = in_set P 0 i xs (λ (none : has 0 i ≡ true). absurd (let zero_bit : bit_at 0 i ≡ 0 = bit_at-zero i in let one : bit_at 0 i ≡ 1 = eqb-true (bit_at 0 i) 1 none in omega (arith, zero_bit, one))) e h
+in_set_of P i xs e h =
+    in_set P 0 i xs
+    (λ (none : has 0 i ≡ true).
+    absurd (let zero_bit : bit_at 0 i ≡ 0 = bit_at-zero i in let one : bit_at 0 i ≡ 1 = eqb-true (bit_at 0 i) 1 none in omega (arith, zero_bit, one)))
+    e h
 
 numbers_if : (P : ℕ → Type 0) (b : Bool) (x : ℕ) (rest : List ℕ) → (b ≡ true → P x) → Each P rest → Each P (if b then x ∷ rest else rest)
 numbers_if P true x rest here e = (here refl, e)
 numbers_if P false x rest here e = e
 
-each_number : (P : ℕ → Type 0) (test : SlotState → Bool) (from : ℕ) (states : List SlotState) → ((i : ℕ) → test (get_or states i Free) ≡ true → P (from + i)) → Each P (numbers_where test from states)
+each_number :
+    (P : ℕ → Type 0) (test : SlotState → Bool) (from : ℕ) (states : List SlotState) → ((i : ℕ) → test (get_or states i Free) ≡ true → P (from + i))
+    → Each P (numbers_where test from states)
 each_number P test from [] here = tt
 each_number P test from (state ∷ states) here =
-    numbers_if P (test state) from (numbers_where test (from + 1) states) (λ e. subst P (omega arith) (here 0 e)) (each_number P test (from + 1) states (λ i e. subst P (omega arith) (here (suc i) e)))
+    numbers_if P (test state) from (numbers_where test (from + 1) states) (λ e. subst P (omega arith) (here 0 e))
+    (each_number P test (from + 1) states (λ i e. subst P (omega arith) (here (suc i) e)))
 
 -- the slots that a round asks stay
 asked_stay : (l : Lender) (word i : ℕ) → has (asked l word) i ≡ true → is_staying (slot_in l.slots i) ≡ true
 asked_stay l word i e =
-    let kept : has (staying l) i ≡ true = in_set_of (λ k. has (staying l) k ≡ true) i (take (to_ask l) (picks word (slots (staying l)))) (each_take (λ k. has (staying l) k ≡ true) (to_ask l) (picks word (slots (staying l))) (each_pick (λ k. has (staying l) k ≡ true) (length (slots (staying l))) word (slots (staying l)) (each_slot (staying l)))) e in
-    in_set_of (λ k. is_staying (slot_in l.slots k) ≡ true) i (numbers_where is_staying 0 l.slots) (each_number (λ k. is_staying (slot_in l.slots k) ≡ true) is_staying 0 l.slots (λ k h. subst (λ n. is_staying (slot_in l.slots n) ≡ true) (omega arith) h)) kept
+    let kept : has (staying l) i ≡ true =
+    in_set_of (λ k. has (staying l) k ≡ true) i (take (to_ask l) (picks word (slots (staying l))))
+    (each_take (λ k. has (staying l) k ≡ true) (to_ask l) (picks word (slots (staying l)))
+    (each_pick (λ k. has (staying l) k ≡ true) (length (slots (staying l))) word (slots (staying l)) (each_slot (staying l))))
+    e in
+    in_set_of (λ k. is_staying (slot_in l.slots k) ≡ true) i (numbers_where is_staying 0 l.slots)
+    (each_number (λ k. is_staying (slot_in l.slots k) ≡ true) is_staying 0 l.slots
+    (λ k h. subst (λ n. is_staying (slot_in l.slots n) ≡ true) (omega arith) h))
+    kept
 
 -- rounds
 
@@ -133,13 +151,16 @@ all_three a b c e f g = cc
 waited : (a b b2 c c2 : Bool) → (b ≡ true → b2 ≡ true) → (c ≡ true → c2 ≡ true) → (a && not b2 && not c2) ≡ true → (a && not b && not c) ≡ true
 waited a b b2 c c2 f g e =
     let front : (a && not b2) ≡ true = first_true (a && not b2) (not c2) e in
-    all_three a b c (first_true a (not b2) front) (not_so b (λ h. not_true b2 (second_true a (not b2) front) (f h))) (not_so c (λ h. not_true c2 (second_true (a && not b2) (not c2) e) (g h)))
+    all_three a b c (first_true a (not b2) front) (not_so b (λ h. not_true b2 (second_true a (not b2) front) (f h)))
+    (not_so c (λ h. not_true c2 (second_true (a && not b2) (not c2) e) (g h)))
 
 answer_waits : (r : Round) (slot value i : ℕ) → waits_for (answer slot value r) i ≡ true → waits_for r i ≡ true
-answer_waits r slot value i e = waited (has r.asked i) (has r.answered i) (has (bit_or r.answered (2 ^ slot)) i) (has r.gone i) (has r.gone i) (has_or r.answered slot i) (λ g. g) e
+answer_waits r slot value i e =
+    waited (has r.asked i) (has r.answered i) (has (bit_or r.answered (2 ^ slot)) i) (has r.gone i) (has r.gone i) (has_or r.answered slot i) (λ g. g) e
 
 leave_waits : (r : Round) (slot i : ℕ) → waits_for (leave slot r) i ≡ true → waits_for r i ≡ true
-leave_waits r slot i e = waited (has r.asked i) (has r.answered i) (has r.answered i) (has r.gone i) (has (bit_or r.gone (2 ^ slot)) i) (λ g. g) (has_or r.gone slot i) e
+leave_waits r slot i e =
+    waited (has r.asked i) (has r.answered i) (has r.answered i) (has r.gone i) (has (bit_or r.gone (2 ^ slot)) i) (λ g. g) (has_or r.gone slot i) e
 
 left_waits : (xs : List ℕ) (r : Round) (i : ℕ) → waits_for (fold (λ r slot. leave slot r) r xs) i ≡ true → waits_for r i ≡ true
 left_waits [] r i e = e
@@ -149,27 +170,36 @@ gone_stays : (xs : List ℕ) (r : Round) (i : ℕ) → has r.gone i ≡ true →
 gone_stays [] r i e = e
 gone_stays (x ∷ xs) r i e = gone_stays xs (leave x r) i (has_or r.gone x i e)
 
-gone_if : (b : Bool) (from : ℕ) (rest : List ℕ) (r : Round) → b ≡ true → has (fold (λ r slot. leave slot r) r (if b then from ∷ rest else rest)).gone from ≡ true
+gone_if :
+    (b : Bool) (from : ℕ) (rest : List ℕ) (r : Round) → b ≡ true → has (fold (λ r slot. leave slot r) r (if b then from ∷ rest else rest)).gone from ≡ true
 gone_if true from rest r e = gone_stays rest (leave from r) from (has_new r.gone from)
 gone_if false from rest r e = absurd (cc)
 
-gone_later : (b : Bool) (from : ℕ) (rest : List ℕ) (r : Round) (i : ℕ) → ((r2 : Round) → has (fold (λ r slot. leave slot r) r2 rest).gone i ≡ true) → has (fold (λ r slot. leave slot r) r (if b then from ∷ rest else rest)).gone i ≡ true
+gone_later :
+    (b : Bool) (from : ℕ) (rest : List ℕ) (r : Round) (i : ℕ) → ((r2 : Round) → has (fold (λ r slot. leave slot r) r2 rest).gone i ≡ true)
+    → has (fold (λ r slot. leave slot r) r (if b then from ∷ rest else rest)).gone i ≡ true
 gone_later true from rest r i e = e (leave from r)
 gone_later false from rest r i e = e r
 
-gone_there : (link : Link) (states : List SlotState) (from i : ℕ) (r : Round) → is_of link (get_or states i Free) ≡ true → has (fold (λ r slot. leave slot r) r (numbers_where (is_of link) from states)).gone (from + i) ≡ true
+gone_there :
+    (link : Link) (states : List SlotState) (from i : ℕ) (r : Round) → is_of link (get_or states i Free) ≡ true
+    → has (fold (λ r slot. leave slot r) r (numbers_where (is_of link) from states)).gone (from + i) ≡ true
 gone_there link [] from i r e = absurd (cc)
 gone_there link (state ∷ states) from zero r e =
-    subst (λ n. has (fold (λ r slot. leave slot r) r (numbers_where (is_of link) from (state ∷ states))).gone n ≡ true) (omega arith) (gone_if (is_of link state) from (numbers_where (is_of link) (from + 1) states) r e)
+    subst (λ n. has (fold (λ r slot. leave slot r) r (numbers_where (is_of link) from (state ∷ states))).gone n ≡ true) (omega arith)
+    (gone_if (is_of link state) from (numbers_where (is_of link) (from + 1) states) r e)
 gone_there link (state ∷ states) from (suc i) r e =
-    subst (λ n. has (fold (λ r slot. leave slot r) r (numbers_where (is_of link) from (state ∷ states))).gone n ≡ true) (omega arith) (gone_later (is_of link state) from (numbers_where (is_of link) (from + 1) states) r (from + 1 + i) (λ r2. gone_there link states (from + 1) i r2 e))
+    subst (λ n. has (fold (λ r slot. leave slot r) r (numbers_where (is_of link) from (state ∷ states))).gone n ≡ true) (omega arith)
+    (gone_later (is_of link state) from (numbers_where (is_of link) (from + 1) states) r (from + 1 + i) (λ r2. gone_there link states (from + 1) i r2 e))
 
 last_of : (a b c : Bool) → (a && not b && not c) ≡ true → c ≡ true → ⊥
 last_of a b c e f = not_true c (second_true (a && not b) (not c) e) f
 
 -- slots
 
-freed_stays : (link : Link) (states : List SlotState) (i : ℕ) → (is_of link (get_or states i Free) ≡ true → ⊥) → is_staying (get_or states i Free) ≡ true → is_staying (get_or (map (freed link) states) i Free) ≡ true
+freed_stays :
+    (link : Link) (states : List SlotState) (i : ℕ) → (is_of link (get_or states i Free) ≡ true → ⊥) → is_staying (get_or states i Free) ≡ true
+    → is_staying (get_or (map (freed link) states) i Free) ≡ true
 freed_stays link [] i other e = e
 freed_stays link (state ∷ states) zero other e =
     elim (is_of link state) as (λ b. (b ≡ true → ⊥) → is_staying (if b then Free else state) ≡ true) [ true ↦ λ o. absurd (o refl) | false ↦ λ o. e ] other
@@ -180,14 +210,18 @@ not_both_stay Free e f = cc
 not_both_stay (Held link slab lease true) e f = cc
 not_both_stay (Held link slab lease false) e f = cc
 
-done_stays : (states : List SlotState) (k i : ℕ) → is_evicting (get_or states k Free) ≡ true → is_staying (get_or states i Free) ≡ true → is_staying (get_or (set states k Free) i Free) ≡ true
+done_stays :
+    (states : List SlotState) (k i : ℕ) → is_evicting (get_or states k Free) ≡ true → is_staying (get_or states i Free) ≡ true
+    → is_staying (get_or (set states k Free) i Free) ≡ true
 done_stays [] k i e f = f
 done_stays (state ∷ states) zero zero e f = absurd (not_both_stay state e f)
 done_stays (state ∷ states) zero (suc i) e f = f
 done_stays (state ∷ states) (suc k) zero e f = f
 done_stays (state ∷ states) (suc k) (suc i) e f = done_stays states k i e f
 
-lent_stays : (states : List SlotState) (k i : ℕ) (link : Link) (slab : Slab) (lease : Lease) → is_staying (get_or states i Free) ≡ true → is_staying (get_or (set states k (Held link slab lease false)) i Free) ≡ true
+lent_stays :
+    (states : List SlotState) (k i : ℕ) (link : Link) (slab : Slab) (lease : Lease) → is_staying (get_or states i Free) ≡ true
+    → is_staying (get_or (set states k (Held link slab lease false)) i Free) ≡ true
 lent_stays [] k i link slab lease f = f
 lent_stays (state ∷ states) zero zero link slab lease f = refl
 lent_stays (state ∷ states) zero (suc i) link slab lease f = f
@@ -195,10 +229,14 @@ lent_stays (state ∷ states) (suc k) zero link slab lease f = f
 lent_stays (state ∷ states) (suc k) (suc i) link slab lease f = lent_stays states k i link slab lease f
 
 -- a round goes on to wait for staying slots where it waits for no others than before, and these stay
-live_on : (r r2 : Round) (states states2 : List SlotState) → ((i : ℕ) → waits_for r2 i ≡ true → waits_for r i ≡ true) → ((i : ℕ) → waits_for r2 i ≡ true → is_staying (slot_in states i) ≡ true → is_staying (slot_in states2 i) ≡ true) → IsLive r states → IsLive r2 states2
+live_on :
+    (r r2 : Round) (states states2 : List SlotState) → ((i : ℕ) → waits_for r2 i ≡ true → waits_for r i ≡ true)
+    → ((i : ℕ) → waits_for r2 i ≡ true → is_staying (slot_in states i) ≡ true → is_staying (slot_in states2 i) ≡ true) → IsLive r states → IsLive r2 states2
 live_on r r2 states states2 f g live = record { waits = λ i e. g i e (live.waits i (f i e)) }
 
-asks_slots : (o : Option Round) (states states2 : List SlotState) → ((i : ℕ) → is_staying (slot_in states i) ≡ true → is_staying (slot_in states2 i) ≡ true) → AsksStaying o states → AsksStaying o states2
+asks_slots :
+    (o : Option Round) (states states2 : List SlotState) → ((i : ℕ) → is_staying (slot_in states i) ≡ true → is_staying (slot_in states2 i) ≡ true)
+    → AsksStaying o states → AsksStaying o states2
 asks_slots None states states2 g live = tt
 asks_slots (Some r) states states2 g live = live_on r r states states2 (λ i e. e) (λ i e. g i) live
 
@@ -212,26 +250,57 @@ rates_live : (o : Option Round) (states : List SlotState) (slot value : ℕ) →
 rates_live None states slot value live = tt
 rates_live (Some r) states slot value live = live_on r (answer slot value r) states states (λ i e. answer_waits r slot value i e) (λ i e f. f) live
 
-left_live : (o : Option Round) (link : Link) (states : List SlotState) → AsksStaying o states → AsksStaying (option_map (left link states) o) (map (freed link) states)
+left_live :
+    (o : Option Round) (link : Link) (states : List SlotState) → AsksStaying o states → AsksStaying (option_map (left link states) o) (map (freed link) states)
 left_live None link states live = tt
 left_live (Some r) link states live =
     live_on r (left link states r) states (map (freed link) states) (λ i e. left_waits (numbers_where (is_of link) 0 states) r i e)
-    (λ i e f. freed_stays link states i (λ mine. last_of (has (left link states r).asked i) (has (left link states r).answered i) (has (left link states r).gone i) e (subst (λ n. has (left link states r).gone n ≡ true) (omega arith) (gone_there link states 0 i r mine))) f)
+    (λ i e f.
+    freed_stays link states i
+    (λ mine.
+    last_of (has (left link states r).asked i) (has (left link states r).answered i) (has (left link states r).gone i) e
+    (subst (λ n. has (left link states r).gone n ≡ true) (omega arith) (gone_there link states 0 i r mine)))
+    f)
     live
 
 took_live : (l : Lender) (link : Link) (m : Msg) (page : List ℕ) → AsksStaying l.round l.slots → TurnLive (took l link m page)
 took_live l link m page live =
-    took_each TurnLive l link m page (record { quiet = live; hello = live; query = λ slab. live; borrow = λ slab may. choose TurnLive (lends l) (lend l link slab (first_where is_free l.slots)) _ (λ _. asks_slots l.round l.slots _ (λ i e. lent_stays l.slots (first_where is_free l.slots) i link slab (record { 0 = l.next_lease }) e) live) live; write = λ lease place. live; read = λ lease place. live; rates = λ lease value. settle_live (record l { round = option_map (answer (slot_of l link lease) value) l.round }) (rates_live l.round l.slots (slot_of l link lease) value live); done = λ lease may. asks_slots l.round l.slots _ (λ i e. done_stays l.slots (slot_of l link lease) i (second_true (holds l link lease) (is_evicting (slot_in l.slots (slot_of l link lease))) may) e) live })
+    took_each TurnLive l link m page
+    (record {
+      quiet = live;
+      hello = live;
+      query = λ slab. live;
+      borrow =
+          λ slab may.
+          choose TurnLive (lends l) (lend l link slab (first_where is_free l.slots)) _
+          (λ _. asks_slots l.round l.slots _ (λ i e. lent_stays l.slots (first_where is_free l.slots) i link slab (record { 0 = l.next_lease }) e) live)
+          live;
+      write = λ lease place. live;
+      read = λ lease place. live;
+      rates =
+          λ lease value.
+          settle_live (record l { round = option_map (answer (slot_of l link lease) value) l.round })
+          (rates_live l.round l.slots (slot_of l link lease) value live);
+      done =
+          λ lease may.
+          asks_slots l.round l.slots _
+          (λ i e.
+          done_stays l.slots (slot_of l link lease) i (second_true (holds l link lease) (is_evicting (slot_in l.slots (slot_of l link lease))) may) e)
+          live;
+    })
 
 host_live : (l : Lender) (usage word : ℕ) → AsksStaying l.round l.slots → TurnLive (host l usage word)
 host_live l usage word live =
-    host_each TurnLive l usage word live (record { waits = λ i e. asked_stay (measured l usage) word i (first_of (has (asked (measured l usage) word) i) (has 0 i) (has 0 i) e) })
+    host_each TurnLive l usage word live
+    (record { waits = λ i e. asked_stay (measured l usage) word i (first_of (has (asked (measured l usage) word) i) (has 0 i) (has 0 i) e) })
 
 gone_live : (l : Lender) (link : Link) → AsksStaying l.round l.slots → TurnLive (gone l link)
 gone_live l link live =
-    settle_live (record l { slots = map (freed link) l.slots; peers = without_peer link l.peers; round = option_map (left link l.slots) l.round }) (left_live l.round link l.slots live)
+    settle_live (record l { slots = map (freed link) l.slots; peers = without_peer link l.peers; round = option_map (left link l.slots) l.round })
+    (left_live l.round link l.slots live)
 
-if_live : (b : Bool) (l m : Lender) → AsksStaying l.round l.slots → AsksStaying m.round m.slots → AsksStaying (if b then l else m).round (if b then l else m).slots
+if_live :
+    (b : Bool) (l m : Lender) → AsksStaying l.round l.slots → AsksStaying m.round m.slots → AsksStaying (if b then l else m).round (if b then l else m).slots
 if_live true l m p q = p
 if_live false l m p q = q
 

@@ -11,14 +11,17 @@ pub record IsSomewhere (test : ℕ → Bool) (high : ℕ) : Type 0 where
   pub low : number < high
   pub holds : test number ≡ true
 
-somewhere_case : (test : ℕ → Bool) (b : Bool) (from n : ℕ) (rest : List ℕ) → test from ≡ b → 0 < length (cond b (from ∷ rest) rest) → (0 < length rest → IsSomewhere test (from + 1 + n)) → IsSomewhere test (from + 1 + n)
+somewhere_case :
+    (test : ℕ → Bool) (b : Bool) (from n : ℕ) (rest : List ℕ) → test from ≡ b → 0 < length (cond b (from ∷ rest) rest)
+    → (0 < length rest → IsSomewhere test (from + 1 + n)) → IsSomewhere test (from + 1 + n)
 somewhere_case test true from n rest e some later = record { number = from; low = omega arith; holds = e }
 somewhere_case test false from n rest e some later = later some
 
 somewhere : (test : ℕ → Bool) (from n : ℕ) → 0 < length (filter test (range_with_len from n)) → IsSomewhere test (from + n)
 somewhere test from zero some = absurd (omega arith)
 somewhere test from (suc n) some =
-    let later : IsSomewhere test (from + 1 + n) = somewhere_case test (test from) from n (filter test (range_with_len (from + 1) n)) refl some (λ more. somewhere test (from + 1) n more) in
+    let later : IsSomewhere test (from + 1 + n) =
+    somewhere_case test (test from) from n (filter test (range_with_len (from + 1) n)) refl some (λ more. somewhere test (from + 1) n more) in
     let size : from + 1 + n ≡ from + suc n = omega arith in
     subst (λ high. IsSomewhere test high) size later
 
@@ -34,5 +37,8 @@ waits_there a b c e f g = cc
 
 pub opened_waits : (asked count : ℕ) → 0 < size asked → IsOpen (opened asked count)
 opened_waits asked count some =
-    let there = somewhere (has asked) 0 64 (omega (arith, some, sized asked)) in
-    (there.number, omega (arith, there.low), waits_there (has asked there.number) (has 0 there.number) (has 0 there.number) there.holds (has_none there.number) (has_none there.number))
+    let there = somewhere (has asked) 0 64 (omega (arith, some, sized asked)) in (
+      there.number,
+      omega (arith, there.low),
+      waits_there (has asked there.number) (has 0 there.number) (has 0 there.number) there.holds (has_none there.number) (has_none there.number),
+    )

@@ -40,9 +40,13 @@ part_free slots k = record { kept = λ i a e. kept_free slots k i a e }
 freed_keeps : (link : Link) (state : SlotState) (a : Tenant) → tenant (freed link state) ≡ Some a → tenant state ≡ Some a
 freed_keeps link Free a e = e
 freed_keeps link (Held other slab lease evicting) a e =
-    elim (other.0 == link.0) as (λ b. tenant (if b then Free else Held other slab lease evicting) ≡ Some a → tenant (Held other slab lease evicting) ≡ Some a) [ true ↦ λ h. absurd (nobody a h) | false ↦ λ h. h ] e
+    elim (other.0 == link.0) as
+    (λ b. tenant (if b then Free else Held other slab lease evicting) ≡ Some a → tenant (Held other slab lease evicting) ≡ Some a)
+    [ true ↦ λ h. absurd (nobody a h) | false ↦ λ h. h ] e
 
-kept_freed : (link : Link) (slots : List SlotState) (i : ℕ) (a : Tenant) → tenant (get_or (map (freed link) slots) i Free) ≡ Some a → tenant (get_or slots i Free) ≡ Some a
+kept_freed :
+    (link : Link) (slots : List SlotState) (i : ℕ) (a : Tenant) → tenant (get_or (map (freed link) slots) i Free) ≡ Some a
+    → tenant (get_or slots i Free) ≡ Some a
 kept_freed link [] i a e = e
 kept_freed link (state ∷ slots) zero a e = freed_keeps link state a e
 kept_freed link (state ∷ slots) (suc i) a e = kept_freed link slots i a e
@@ -56,7 +60,9 @@ mark_keeps false state a e = e
 mark_keeps true Free a e = e
 mark_keeps true (Held link slab lease evicting) a e = e
 
-kept_marked : (told from : ℕ) (slots : List SlotState) (i : ℕ) (a : Tenant) → tenant (get_or (marked told from slots) i Free) ≡ Some a → tenant (get_or slots i Free) ≡ Some a
+kept_marked :
+    (told from : ℕ) (slots : List SlotState) (i : ℕ) (a : Tenant) → tenant (get_or (marked told from slots) i Free) ≡ Some a
+    → tenant (get_or slots i Free) ≡ Some a
 kept_marked told from [] i a e = e
 kept_marked told from (state ∷ slots) zero a e = mark_keeps (has told from) state a e
 kept_marked told from (state ∷ slots) (suc i) a e = kept_marked told (from + 1) slots i a e
@@ -76,24 +82,29 @@ pub record HasLent (slots : List SlotState) (k : ℕ) (new : Tenant) (i : ℕ) (
 some_same : (a b : Tenant) → Some a ≡ Some b → a ≡ b
 some_same a b e = cc
 
-lent_case : (slots : List SlotState) (k : ℕ) (link : Link) (slab : Slab) (lease : ℕ) (i : ℕ) (a : Tenant) → tenant (get_or (set slots k (Held link slab (record { 0 = lease }) false)) i Free) ≡ Some a
+lent_case :
+    (slots : List SlotState) (k : ℕ) (link : Link) (slab : Slab) (lease : ℕ) (i : ℕ) (a : Tenant)
+    → tenant (get_or (set slots k (Held link slab (record { 0 = lease }) false)) i Free) ≡ Some a
     → ((i ≡ k) × (a ≡ record { link = link; slab = slab; lease = record { 0 = lease } })) ⊎ (tenant (get_or slots i Free) ≡ Some a)
 lent_case [] k link slab lease i a e = inr e
 lent_case (state ∷ slots) zero link slab lease zero a e = inl (refl, sym (some_same _ a e))
 lent_case (state ∷ slots) zero link slab lease (suc i) a e = inr e
 lent_case (state ∷ slots) (suc k) link slab lease zero a e = inr e
 lent_case (state ∷ slots) (suc k) link slab lease (suc i) a e =
-    ⊎_elim (λ (h : (i ≡ k) × (a ≡ record { link = link; slab = slab; lease = record { 0 = lease } })). inl (ap (λ n. suc n) h.0, h.1)) (λ (h : tenant (get_or slots i Free) ≡ Some a). inr h) (lent_case slots k link slab lease i a e)
+    ⊎_elim (λ (h : (i ≡ k) × (a ≡ record { link = link; slab = slab; lease = record { 0 = lease } })). inl (ap (λ n. suc n) h.0, h.1))
+    (λ (h : tenant (get_or slots i Free) ≡ Some a). inr h) (lent_case slots k link slab lease i a e)
 
 -- no slot is held for this link and slab
 both_true : (a b : Bool) → a ≡ true → b ≡ true → (a && b) ≡ true
 both_true a b e f = cc
 
-here_for : (link : Link) (slab : Slab) (state : SlotState) (a : Tenant) → tenant state ≡ Some a → a.link.0 ≡ link.0 → a.slab.0 ≡ slab.0 → is_for link slab state ≡ true
+here_for :
+    (link : Link) (slab : Slab) (state : SlotState) (a : Tenant) → tenant state ≡ Some a → a.link.0 ≡ link.0 → a.slab.0 ≡ slab.0 → is_for link slab state ≡ true
 here_for link slab Free a e l s = absurd (nobody a e)
 here_for link slab (Held other held lease evicting) a e l s =
     let same : record { link = other; slab = held; lease = lease } ≡ a = some_same _ a e in
-    both_true (other.0 == link.0) (held.0 == slab.0) (eq-eqb other.0 link.0 (ap (λ (t : Tenant). t.link.0) same ∙ l)) (eq-eqb held.0 slab.0 (ap (λ (t : Tenant). t.slab.0) same ∙ s))
+    both_true (other.0 == link.0) (held.0 == slab.0) (eq-eqb other.0 link.0 (ap (λ (t : Tenant). t.link.0) same ∙ l))
+    (eq-eqb held.0 slab.0 (ap (λ (t : Tenant). t.slab.0) same ∙ s))
 
 any_first : (b c : Bool) → (b || c) ≡ false → b ≡ true → ⊥
 any_first b c e t = cc
@@ -102,12 +113,19 @@ any_rest : (b c : Bool) → (b || c) ≡ false → c ≡ false
 any_rest true c e = absurd (cc)
 any_rest false c e = e
 
-none_for : (link : Link) (slab : Slab) (slots : List SlotState) (i : ℕ) (a : Tenant) → list_any (is_for link slab) slots ≡ false → tenant (get_or slots i Free) ≡ Some a → a.link.0 ≡ link.0 → a.slab.0 ≡ slab.0 → ⊥
+none_for :
+    (link : Link) (slab : Slab) (slots : List SlotState) (i : ℕ) (a : Tenant) → list_any (is_for link slab) slots ≡ false
+    → tenant (get_or slots i Free) ≡ Some a
+    → a.link.0 ≡ link.0 → a.slab.0 ≡ slab.0 → ⊥
 none_for link slab [] i a none e l s = nobody a e
-none_for link slab (state ∷ slots) zero a none e l s = any_first (is_for link slab state) (list_any (is_for link slab) slots) none (here_for link slab state a e l s)
-none_for link slab (state ∷ slots) (suc i) a none e l s = none_for link slab slots i a (any_rest (is_for link slab state) (list_any (is_for link slab) slots) none) e l s
+none_for link slab (state ∷ slots) zero a none e l s =
+    any_first (is_for link slab state) (list_any (is_for link slab) slots) none (here_for link slab state a e l s)
+none_for link slab (state ∷ slots) (suc i) a none e l s =
+    none_for link slab slots i a (any_rest (is_for link slab state) (list_any (is_for link slab) slots) none) e l s
 
-pub owned_lent : (slots : List SlotState) (k : ℕ) (link : Link) (slab : Slab) (n : ℕ) → list_any (is_for link slab) slots ≡ false → IsOwned slots n → IsOwned (set slots k (Held link slab (record { 0 = n }) false)) (n + 1)
+pub owned_lent :
+    (slots : List SlotState) (k : ℕ) (link : Link) (slab : Slab) (n : ℕ) → list_any (is_for link slab) slots ≡ false → IsOwned slots n
+    → IsOwned (set slots k (Held link slab (record { 0 = n }) false)) (n + 1)
 owned_lent slots k link slab n none owned =
     let new : Tenant = record { link = link; slab = slab; lease = record { 0 = n } } in
     record {
@@ -115,10 +133,13 @@ owned_lent slots k link slab n none owned =
           ⊎_elim
           (λ (p : (i ≡ k) × (a ≡ new)).
           ⊎_elim (λ (q : (j ≡ k) × (b ≡ new)). p.0 ∙ sym q.0)
-          (λ (q : tenant (slot_in slots j) ≡ Some b). let low : b.lease.0 < n = owned.given j b q in let e : a.lease.0 ≡ n = ap (λ (t : Tenant). t.lease.0) p.1 in absurd (omega arith))
+          (λ (q : tenant (slot_in slots j) ≡ Some b). let low : b.lease.0 < n = owned.given j b q in
+          let e : a.lease.0 ≡ n = ap (λ (t : Tenant). t.lease.0) p.1 in absurd (omega arith))
           (lent_case slots k link slab n j b bt))
           (λ (p : tenant (slot_in slots i) ≡ Some a).
-          ⊎_elim (λ (q : (j ≡ k) × (b ≡ new)). let low : a.lease.0 < n = owned.given i a p in let e : b.lease.0 ≡ n = ap (λ (t : Tenant). t.lease.0) q.1 in absurd (omega arith))
+          ⊎_elim
+          (λ (q : (j ≡ k) × (b ≡ new)). let low : a.lease.0 < n = owned.given i a p in let e : b.lease.0 ≡ n = ap (λ (t : Tenant). t.lease.0) q.1 in
+          absurd (omega arith))
           (λ (q : tenant (slot_in slots j) ≡ Some b). owned.leases i j a b p q same)
           (lent_case slots k link slab n j b bt))
           (lent_case slots k link slab n i a at);
@@ -126,10 +147,13 @@ owned_lent slots k link slab n none owned =
           ⊎_elim
           (λ (p : (i ≡ k) × (a ≡ new)).
           ⊎_elim (λ (q : (j ≡ k) × (b ≡ new)). p.0 ∙ sym q.0)
-          (λ (q : tenant (slot_in slots j) ≡ Some b). absurd (none_for link slab slots j b none q (sym l ∙ ap (λ (t : Tenant). t.link.0) p.1) (sym s ∙ ap (λ (t : Tenant). t.slab.0) p.1)))
+          (λ (q : tenant (slot_in slots j) ≡ Some b).
+          absurd (none_for link slab slots j b none q (sym l ∙ ap (λ (t : Tenant). t.link.0) p.1) (sym s ∙ ap (λ (t : Tenant). t.slab.0) p.1)))
           (lent_case slots k link slab n j b bt))
           (λ (p : tenant (slot_in slots i) ≡ Some a).
-          ⊎_elim (λ (q : (j ≡ k) × (b ≡ new)). absurd (none_for link slab slots i a none p (l ∙ ap (λ (t : Tenant). t.link.0) q.1) (s ∙ ap (λ (t : Tenant). t.slab.0) q.1)))
+          ⊎_elim
+          (λ (q : (j ≡ k) × (b ≡ new)).
+          absurd (none_for link slab slots i a none p (l ∙ ap (λ (t : Tenant). t.link.0) q.1) (s ∙ ap (λ (t : Tenant). t.slab.0) q.1)))
           (λ (q : tenant (slot_in slots j) ≡ Some b). owned.slabs i j a b p q l s)
           (lent_case slots k link slab n j b bt))
           (lent_case slots k link slab n i a at);

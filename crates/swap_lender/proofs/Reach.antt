@@ -24,7 +24,9 @@ mark_leased link lease false state = refl
 mark_leased link lease true Free = refl
 mark_leased link lease true (Held other slab held evicting) = refl
 
-marked_first : (link : Link) (lease : Lease) (told_to from : ℕ) (slots : List SlotState) → position_or_len (has_lease link lease) (marked told_to from slots) ≡ position_or_len (has_lease link lease) slots
+marked_first :
+    (link : Link) (lease : Lease) (told_to from : ℕ) (slots : List SlotState)
+    → position_or_len (has_lease link lease) (marked told_to from slots) ≡ position_or_len (has_lease link lease) slots
 marked_first link lease told_to from [] = refl
 marked_first link lease told_to from (state ∷ slots) =
     ap (λ b. cond (not b) (1 + position_or_len (has_lease link lease) (marked told_to (from + 1) slots)) 0) (mark_leased link lease (has told_to from) state)
@@ -32,9 +34,11 @@ marked_first link lease told_to from (state ∷ slots) =
 
 marked_length : (told_to from : ℕ) (slots : List SlotState) → length (marked told_to from slots) ≡ length slots
 marked_length told_to from [] = refl
-marked_length told_to from (state ∷ slots) = let rest : length (marked told_to (from + 1) slots) ≡ length slots = marked_length told_to (from + 1) slots in omega (arith, rest)
+marked_length told_to from (state ∷ slots) =
+    let rest : length (marked told_to (from + 1) slots) ≡ length slots = marked_length told_to (from + 1) slots in omega (arith, rest)
 
-settled : (l : Lender) (link : Link) (lease : Lease) (place : ℕ) (o : Option ℕ) → may_reach (settle_with l o).lender link lease place ≡ may_reach l link lease place
+settled :
+    (l : Lender) (link : Link) (lease : Lease) (place : ℕ) (o : Option ℕ) → may_reach (settle_with l o).lender link lease place ≡ may_reach l link lease place
 settled l link lease place None = refl
 settled l link lease place (Some told_to) =
     ap (λ n. nat_lt n (length (marked told_to 0 l.slots)) && nat_lt place l.lending.pages_per_slab) (marked_first link lease told_to 0 l.slots)

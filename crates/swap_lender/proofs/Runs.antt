@@ -33,15 +33,29 @@ settle_owned l owned = settle_each TurnOwned l owned (λ told_to. owned_part _ l
 
 borrow_owned : (l : Lender) (link : Link) (slab : Slab) → IsOwned l.slots l.next_lease → may_borrow l link slab ≡ true → TurnOwned (borrow l link slab)
 borrow_owned l link slab owned may =
-    choose TurnOwned (lends l) (lend l link slab (first_where is_free l.slots)) _ (λ _. owned_lent l.slots (first_where is_free l.slots) link slab l.next_lease (not_both (has_greeted l link) (list_any (is_for link slab) l.slots) may) owned) owned
+    choose TurnOwned (lends l) (lend l link slab (first_where is_free l.slots)) _
+    (λ _.
+    owned_lent l.slots (first_where is_free l.slots) link slab l.next_lease (not_both (has_greeted l link) (list_any (is_for link slab) l.slots) may) owned)
+    owned
 
 took_owned : (l : Lender) (link : Link) (m : Msg) (page : List ℕ) → IsOwned l.slots l.next_lease → TurnOwned (took l link m page)
 took_owned l link m page owned =
-    took_each TurnOwned l link m page (record { quiet = owned; hello = owned; query = λ slab. owned; borrow = λ slab may. borrow_owned l link slab owned may; write = λ lease place. owned; read = λ lease place. owned; rates = λ lease value. settle_owned (record l { round = option_map (answer (slot_of l link lease) value) l.round }) owned; done = λ lease may. owned_part _ l.slots l.next_lease (part_free l.slots (slot_of l link lease)) owned })
+    took_each TurnOwned l link m page
+    (record {
+      quiet = owned;
+      hello = owned;
+      query = λ slab. owned;
+      borrow = λ slab may. borrow_owned l link slab owned may;
+      write = λ lease place. owned;
+      read = λ lease place. owned;
+      rates = λ lease value. settle_owned (record l { round = option_map (answer (slot_of l link lease) value) l.round }) owned;
+      done = λ lease may. owned_part _ l.slots l.next_lease (part_free l.slots (slot_of l link lease)) owned;
+    })
 
 gone_owned : (l : Lender) (link : Link) → IsOwned l.slots l.next_lease → TurnOwned (gone l link)
 gone_owned l link owned =
-    settle_owned (record l { slots = map (freed link) l.slots; peers = without_peer link l.peers; round = option_map (left link l.slots) l.round }) (owned_part _ l.slots l.next_lease (part_freed link l.slots) owned)
+    settle_owned (record l { slots = map (freed link) l.slots; peers = without_peer link l.peers; round = option_map (left link l.slots) l.round })
+    (owned_part _ l.slots l.next_lease (part_freed link l.slots) owned)
 
 if_lender : (P : Lender → Type 0) (b : Bool) (l m : Lender) → P l → P m → P (if b then l else m)
 if_lender P true l m p q = p
@@ -84,13 +98,24 @@ settle_lends l m same = settle_each (LendsNext l) m (inl (refl, same)) (λ told_
 
 took_lends : (l : Lender) (link : Link) (m : Msg) (page : List ℕ) → LendsNext l (took l link m page)
 took_lends l link m page =
-    took_each (LendsNext l) l link m page (record { quiet = inl (refl, refl); hello = inl (refl, refl); query = λ slab. inl (refl, refl); borrow = λ slab may. choose (LendsNext l) (lends l) (lend l link slab (first_where is_free l.slots)) _ (λ _. inr (refl, refl)) (inl (refl, refl)); write = λ lease place. inl (refl, refl); read = λ lease place. inl (refl, refl); rates = λ lease value. settle_lends l (record l { round = option_map (answer (slot_of l link lease) value) l.round }) refl; done = λ lease may. inl (refl, refl) })
+    took_each (LendsNext l) l link m page
+    (record {
+      quiet = inl (refl, refl);
+      hello = inl (refl, refl);
+      query = λ slab. inl (refl, refl);
+      borrow = λ slab may. choose (LendsNext l) (lends l) (lend l link slab (first_where is_free l.slots)) _ (λ _. inr (refl, refl)) (inl (refl, refl));
+      write = λ lease place. inl (refl, refl);
+      read = λ lease place. inl (refl, refl);
+      rates = λ lease value. settle_lends l (record l { round = option_map (answer (slot_of l link lease) value) l.round }) refl;
+      done = λ lease may. inl (refl, refl);
+    })
 
 step_lends : (l : Lender) (call : Call) → is_restart call ≡ false → LendsNext l (step l call)
 step_lends l (Arrive link) e = inl (refl, if_lender (λ m. m.next_lease ≡ l.next_lease) (has_room l) _ l refl refl)
 step_lends l (Took link m page) e = took_lends l link m page
 step_lends l (Host usage word) e = host_each (LendsNext l) l usage word (inl (refl, refl)) (inl (told_lends_none AskRates _ 0 l.slots, refl))
-step_lends l (Gone link) e = settle_lends l (record l { slots = map (freed link) l.slots; peers = without_peer link l.peers; round = option_map (left link l.slots) l.round }) refl
+step_lends l (Gone link) e =
+    settle_lends l (record l { slots = map (freed link) l.slots; peers = without_peer link l.peers; round = option_map (left link l.slots) l.round }) refl
 step_lends l Restart e = absurd (cc)
 
 or_first : (a b : Bool) → (a || b) ≡ false → a ≡ false
@@ -104,21 +129,30 @@ or_rest false b e = e
 abbrev InOrder : ℕ → List ℕ → ℕ → Type 0
 InOrder next leases after = (leases ≡ range_with_len next (length leases)) × (after ≡ next + length leases)
 
-order_step : (next later after : ℕ) (now leases : List ℕ) → ((now ≡ []) × (later ≡ next)) ⊎ ((now ≡ next ∷ []) × (later ≡ next + 1)) → InOrder later leases after → InOrder next (now ++ leases) after
+order_step :
+    (next later after : ℕ) (now leases : List ℕ) → ((now ≡ []) × (later ≡ next)) ⊎ ((now ≡ next ∷ []) × (later ≡ next + 1)) → InOrder later leases after
+    → InOrder next (now ++ leases) after
 order_step next later after now leases c rest =
     ⊎_elim
     (λ (h : (now ≡ []) × (later ≡ next)).
-    let listed : now ++ leases ≡ leases = ap (λ l. l ++ leases) h.0 in
-    (listed ∙ rest.0 ∙ ap (λ n. range_with_len n (length leases)) h.1 ∙ sym (ap (λ l. range_with_len next (length l)) listed), rest.1 ∙ ap (λ n. n + length leases) h.1 ∙ sym (ap (λ l. next + length l) listed)))
+    let listed : now ++ leases ≡ leases = ap (λ l. l ++ leases) h.0 in (
+      listed ∙ rest.0 ∙ ap (λ n. range_with_len n (length leases)) h.1 ∙ sym (ap (λ l. range_with_len next (length l)) listed),
+      rest.1 ∙ ap (λ n. n + length leases) h.1 ∙ sym (ap (λ l. next + length l) listed),
+    ))
     (λ (h : (now ≡ next ∷ []) × (later ≡ next + 1)).
-    let listed : now ++ leases ≡ next ∷ leases = ap (λ l. l ++ leases) h.0 in
-    (listed ∙ ap (λ l. next ∷ l) (rest.0 ∙ ap (λ n. range_with_len n (length leases)) h.1) ∙ sym (ap (λ l. range_with_len next (length l)) listed), let size : length (now ++ leases) ≡ suc (length leases) = ap length listed in omega (arith, rest.1, h.1, size)))
+    let listed : now ++ leases ≡ next ∷ leases = ap (λ l. l ++ leases) h.0 in (
+      listed ∙ ap (λ l. next ∷ l) (rest.0 ∙ ap (λ n. range_with_len n (length leases)) h.1) ∙ sym (ap (λ l. range_with_len next (length l)) listed),
+      let size : length (now ++ leases) ≡ suc (length leases) = ap length listed in
+          omega (arith, rest.1, h.1, size),
+    ))
     c
 
 pub leases_in_order : LeasesInOrder
 leases_in_order l [] none = (refl, omega arith)
 leases_in_order l (call ∷ calls) none =
-    order_step l.next_lease (step l call).lender.next_lease (run (step l call).lender calls).next_lease (lent_in (step l call).parcels) (lent (step l call).lender calls) (step_lends l call (or_first (is_restart call) (list_any is_restart calls) none)) (leases_in_order (step l call).lender calls (or_rest (is_restart call) (list_any is_restart calls) none))
+    order_step l.next_lease (step l call).lender.next_lease (run (step l call).lender calls).next_lease (lent_in (step l call).parcels)
+    (lent (step l call).lender calls) (step_lends l call (or_first (is_restart call) (list_any is_restart calls) none))
+    (leases_in_order (step l call).lender calls (or_rest (is_restart call) (list_any is_restart calls) none))
 
 pub sizes_stay : SizesStay
 sizes_stay l (Arrive link) = if_lender (λ m. m.lending ≡ l.lending) (has_room l) _ l refl refl

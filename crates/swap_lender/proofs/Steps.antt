@@ -25,10 +25,12 @@ pub record EachRow (P : Turn → Type 0) (l : Lender) (link : Link) (page : List
   pub done : (lease : Lease) → may_done l link lease ≡ true → P (done l link lease)
 
 pub took_each : (P : Turn → Type 0) (l : Lender) (link : Link) (m : Msg) (page : List ℕ) → EachRow P l link page → P (took l link m page)
-took_each P l link (msg.Hello version page_bytes pages_per_slab) page r = choose P (may_hello l link version page_bytes pages_per_slab) (hello l link) (quiet l) (λ _. r.hello) r.quiet
+took_each P l link (msg.Hello version page_bytes pages_per_slab) page r =
+    choose P (may_hello l link version page_bytes pages_per_slab) (hello l link) (quiet l) (λ _. r.hello) r.quiet
 took_each P l link (msg.Query slab) page r = choose P (has_greeted l link) (query l link slab) (quiet l) (λ _. r.query slab) r.quiet
 took_each P l link (msg.Borrow slab) page r = choose P (may_borrow l link slab) (borrow l link slab) (quiet l) (r.borrow slab) r.quiet
-took_each P l link (msg.Write lease place) page r = choose P (may_reach l link lease place) (write l link lease place page) (quiet l) (λ _. r.write lease place) r.quiet
+took_each P l link (msg.Write lease place) page r =
+    choose P (may_reach l link lease place) (write l link lease place page) (quiet l) (λ _. r.write lease place) r.quiet
 took_each P l link (msg.Read lease place) page r = choose P (may_reach l link lease place) (read l link lease place) (quiet l) (λ _. r.read lease place) r.quiet
 took_each P l link (msg.Rates lease value) page r = choose P (may_rates l link lease) (rates l link lease value) (quiet l) (λ _. r.rates lease value) r.quiet
 took_each P l link (msg.Done lease) page r = choose P (may_done l link lease) (done l link lease) (quiet l) (r.done lease) r.quiet
@@ -47,8 +49,11 @@ settle_case P l (Some set) still closed = closed set
 pub settle_each : (P : Turn → Type 0) (l : Lender) → P (quiet l) → ((set : ℕ) → P (settle_with l (Some set))) → P (settle l)
 settle_each P l still closed = settle_case P l (due l.round) still closed
 
-pub host_each : (P : Turn → Type 0) (l : Lender) (usage word : ℕ) → P (quiet (measured l usage)) → P (open_round (measured l usage) (asked (measured l usage) word)) → P (host l usage word)
-host_each P l usage word still opened = choose P (opens (measured l usage)) (open_round (measured l usage) (asked (measured l usage) word)) (quiet (measured l usage)) (λ _. opened) still
+pub host_each :
+    (P : Turn → Type 0) (l : Lender) (usage word : ℕ) → P (quiet (measured l usage)) → P (open_round (measured l usage) (asked (measured l usage) word))
+    → P (host l usage word)
+host_each P l usage word still opened =
+    choose P (opens (measured l usage)) (open_round (measured l usage) (asked (measured l usage) word)) (quiet (measured l usage)) (λ _. opened) still
 
 -- no call changes what a lender is made for
 
@@ -57,10 +62,22 @@ SameSizes l t = t.lender.lending ≡ l.lending
 
 pub took_lending : (l : Lender) (link : Link) (m : Msg) (page : List ℕ) → (took l link m page).lender.lending ≡ l.lending
 took_lending l link m page =
-    took_each (SameSizes l) l link m page (record { quiet = refl; hello = refl; query = λ slab. refl; borrow = λ slab may. choose (SameSizes l) (lends l) _ _ (λ _. refl) refl; write = λ lease place. refl; read = λ lease place. refl; rates = λ lease value. settle_each (SameSizes l) (record l { round = option_map (answer (slot_of l link lease) value) l.round }) refl (λ set. refl); done = λ lease may. refl })
+    took_each (SameSizes l) l link m page
+    (record {
+      quiet = refl;
+      hello = refl;
+      query = λ slab. refl;
+      borrow = λ slab may. choose (SameSizes l) (lends l) _ _ (λ _. refl) refl;
+      write = λ lease place. refl;
+      read = λ lease place. refl;
+      rates = λ lease value. settle_each (SameSizes l) (record l { round = option_map (answer (slot_of l link lease) value) l.round }) refl (λ set. refl);
+      done = λ lease may. refl;
+    })
 
 pub host_lending : (l : Lender) (usage word : ℕ) → (host l usage word).lender.lending ≡ l.lending
 host_lending l usage word = host_each (SameSizes l) l usage word refl refl
 
 pub gone_lending : (l : Lender) (link : Link) → (gone l link).lender.lending ≡ l.lending
-gone_lending l link = settle_each (SameSizes l) (record l { slots = map (freed link) l.slots; peers = without_peer link l.peers; round = option_map (left link l.slots) l.round }) refl (λ set. refl)
+gone_lending l link =
+    settle_each (SameSizes l)
+    (record l { slots = map (freed link) l.slots; peers = without_peer link l.peers; round = option_map (left link l.slots) l.round }) refl (λ set. refl)

@@ -29,8 +29,12 @@ tenant (Held link slab lease evicting) = Some (record { link = link; slab = slab
 
 -- no two held slots have one lease, or one link and slab, and no held slot has a lease that is still to come
 pub record IsOwned (slots : List SlotState) (next_lease : ℕ) : Type 0 where
-  pub leases : (i j : ℕ) (a b : Tenant) → tenant (slot_in slots i) ≡ Some a → tenant (slot_in slots j) ≡ Some b → a.lease.0 ≡ b.lease.0 → i ≡ j
-  pub slabs : (i j : ℕ) (a b : Tenant) → tenant (slot_in slots i) ≡ Some a → tenant (slot_in slots j) ≡ Some b → a.link.0 ≡ b.link.0 → a.slab.0 ≡ b.slab.0 → i ≡ j
+  pub leases :
+      (i j : ℕ) (a b : Tenant) → tenant (slot_in slots i) ≡ Some a → tenant (slot_in slots j) ≡ Some b
+      → a.lease.0 ≡ b.lease.0 → i ≡ j
+  pub slabs :
+      (i j : ℕ) (a b : Tenant) → tenant (slot_in slots i) ≡ Some a → tenant (slot_in slots j) ≡ Some b
+      → a.link.0 ≡ b.link.0 → a.slab.0 ≡ b.slab.0 → i ≡ j
   pub given : (i : ℕ) (a : Tenant) → tenant (slot_in slots i) ≡ Some a → a.lease.0 < next_lease
 
 -- a round waits only for slots that are held and not being evicted
@@ -88,7 +92,9 @@ AlwaysOwned = (s : Lending) (calls : List Call) → IsOwned (run (fresh s) calls
 -- leases never repeat until a restart: those that are lent are the numbers from the next lease on, each once
 abbrev pub LeasesInOrder : Type 0
 LeasesInOrder =
-    (l : Lender) (calls : List Call) → list_any is_restart calls ≡ false → (lent l calls ≡ range_with_len l.next_lease (length (lent l calls))) × ((run l calls).next_lease ≡ l.next_lease + length (lent l calls))
+    (l : Lender) (calls : List Call) → list_any is_restart calls ≡ false
+    → (lent l calls ≡ range_with_len l.next_lease (length (lent l calls)))
+    × ((run l calls).next_lease ≡ l.next_lease + length (lent l calls))
 
 -- no call changes what a lender is made for
 abbrev pub SizesStay : Type 0
@@ -97,11 +103,14 @@ SizesStay = (l : Lender) (call : Call) → (step l call).lender.lending ≡ l.le
 -- a slot that a lender lends is one of its own, and free
 abbrev pub LendsFreeSlots : Type 0
 LendsFreeSlots =
-    (l : Lender) → lends l ≡ true → length l.slots ≡ l.lending.spec.slots → (first_where is_free l.slots < length l.slots) × (is_free (slot_in l.slots (first_where is_free l.slots)) ≡ true)
+    (l : Lender) → lends l ≡ true → length l.slots ≡ l.lending.spec.slots
+    → (first_where is_free l.slots < length l.slots) × (is_free (slot_in l.slots (first_where is_free l.slots)) ≡ true)
 
 -- the end of a round takes no slot from a link: what it could write and read it still can, until it gives the slot back
 abbrev pub ServedUntilDone : Type 0
-ServedUntilDone = (l : Lender) (link : Link) (lease : Lease) (place : ℕ) → may_reach (settle l).lender link lease place ≡ may_reach l link lease place
+ServedUntilDone =
+    (l : Lender) (link : Link) (lease : Lease) (place : ℕ)
+    → may_reach (settle l).lender link lease place ≡ may_reach l link lease place
 
 -- a lender may be made of every spec that was checked
 abbrev pub CheckedSpecsFit : Type 0

@@ -12,7 +12,8 @@ use Rattle.swap_lender.specs.declared.SlotState.TheVariants.{Free, Held}
 use Rattle.swap_lender.specs.declared.Peer.{Peer}
 use Rattle.swap_lender.specs.declared.TheConstants.{LEASES}
 
--- the slots by their numbers, each slot's pages by their places, the links that stand in the order in which they came, the host's average usage in units of 1 / 65,536, the next lease, and the round that is open
+-- the slots by their numbers, each slot's pages by their places, the links that stand in the order in which they came,
+-- the host's average usage in units of 1 / 65,536, the next lease, and the round that is open
 pub record Lender : Type 0 where
   pub lending : Lending
   pub slots : List SlotState
@@ -27,7 +28,16 @@ abbrev pub blank : Lending → List (List ℕ)
 blank s = replicate s.pages_per_slab (replicate s.page_bytes 0)
 
 abbrev pub fresh : Lending → Lender
-fresh s = record { lending = s; slots = replicate s.spec.slots Free; contents = replicate s.spec.slots (blank s); peers = []; usage = 0; next_lease = 0; round = None }
+fresh s =
+    record {
+      lending = s;
+      slots = replicate s.spec.slots Free;
+      contents = replicate s.spec.slots (blank s);
+      peers = [];
+      usage = 0;
+      next_lease = 0;
+      round = None;
+    }
 
 -- slots
 
@@ -72,7 +82,8 @@ first_where test states = position_or_len test states
 -- the numbers of the slots of which a test holds, ascending; the first slot is numbered `from`
 abbrev pub numbers_where : (SlotState → Bool) → ℕ → List SlotState → List ℕ
 numbers_where test from [] = []
-numbers_where test from (state ∷ states) = if test state then from ∷ numbers_where test (from + 1) states else numbers_where test (from + 1) states
+numbers_where test from (state ∷ states) =
+    if test state then from ∷ numbers_where test (from + 1) states else numbers_where test (from + 1) states
 
 -- the slot that a link has by a lease, if it has one
 abbrev pub slot_of : Lender → Link → Lease → ℕ

@@ -5,7 +5,8 @@ use Rattle.swap_wire.specs.declared.Msg.{Msg}
 use Rattle.swap_wire.specs.Fabric.{Parcel, carries_page}
 use Rattle.swap_lender.specs.declared.Lending.{Lending}
 
--- the messages with their pages, the set of slots that the last call told to go, how many messages it has room for, and the length of a page
+-- the messages with their pages, the set of slots that the last call told to go, how many messages it has room for, and
+-- the length of a page
 pub record Outgoing : Type 0 where
   pub parcels : List (Link × Parcel)
   pub evicted : ℕ

@@ -17,7 +17,13 @@ sent l (call ∷ calls) = map (λ (p : Link × Parcel). p.1) (step l call).parce
 
 -- pages of one byte, slabs of two pages, one link
 abbrev pub small : ℕ → ℕ → ℕ → Lending
-small slots headroom extra = record { spec = record { slots = slots; headroom = headroom; extra = extra }; page_bytes = 1; pages_per_slab = 2; links = 1 }
+small slots headroom extra =
+    record {
+      spec = record { slots = slots; headroom = headroom; extra = extra };
+      page_bytes = 1;
+      pages_per_slab = 2;
+      links = 1;
+    }
 
 abbrev pub link : Link
 link = record { 0 = 0 }
@@ -40,17 +46,26 @@ greeted = Arrive link ∷ say (Hello 1 1 2) ∷ []
 -- a page that is written is read, and another place has zeros
 abbrev pub PageIn : Type 0
 PageIn =
-    sent (fresh (small 1 0 0)) (greeted ++ say (Borrow (slab 5)) ∷ Took link (Write (lease 0) 1) (7 ∷ []) ∷ say (Read (lease 0) 1) ∷ say (Read (lease 0) 0) ∷ [])
-    ≡ plain (Lent (slab 5) (lease 0)) ∷ plain (Wrote (lease 0) 1) ∷ record { msg = PageIs (lease 0) 1; page = 7 ∷ [] } ∷ record { msg = PageIs (lease 0) 0; page = 0 ∷ [] } ∷ []
+    sent (fresh (small 1 0 0))
+    (greeted ++ say (Borrow (slab 5)) ∷ Took link (Write (lease 0) 1) (7 ∷ []) ∷ say (Read (lease 0) 1)
+    ∷ say (Read (lease 0) 0) ∷ [])
+    ≡ plain (Lent (slab 5) (lease 0)) ∷ plain (Wrote (lease 0) 1) ∷ record { msg = PageIs (lease 0) 1; page = 7 ∷ [] }
+    ∷ record { msg = PageIs (lease 0) 0; page = 0 ∷ [] } ∷ []
 
 -- with four slots, one of headroom and a host that uses one, two are lent
 abbrev pub LendsWithRoom : Type 0
 LendsWithRoom =
-    sent (fresh (small 4 1 0)) (greeted ++ Host 1 0 ∷ say (Query (slab 0)) ∷ say (Borrow (slab 0)) ∷ say (Borrow (slab 1)) ∷ say (Borrow (slab 2)) ∷ [])
-    ≡ plain (Room (slab 0) 2) ∷ plain (Lent (slab 0) (lease 0)) ∷ plain (Lent (slab 1) (lease 1)) ∷ plain (Refused (slab 2)) ∷ []
+    sent (fresh (small 4 1 0))
+    (greeted ++ Host 1 0 ∷ say (Query (slab 0)) ∷ say (Borrow (slab 0)) ∷ say (Borrow (slab 1))
+    ∷ say (Borrow (slab 2)) ∷ [])
+    ≡ plain (Room (slab 0) 2) ∷ plain (Lent (slab 0) (lease 0)) ∷ plain (Lent (slab 1) (lease 1))
+    ∷ plain (Refused (slab 2)) ∷ []
 
 -- a slot is told to go, is served until it is given back, and is lent again with zeros
 abbrev pub Revoked : Type 0
 Revoked =
-    sent (fresh (small 1 0 0)) (greeted ++ say (Borrow (slab 5)) ∷ Took link (Write (lease 0) 1) (7 ∷ []) ∷ Host 1 0 ∷ say (Rates (lease 0) 9) ∷ say (Read (lease 0) 1) ∷ say (Done (lease 0)) ∷ say (Read (lease 0) 1) ∷ [])
-    ≡ plain (Lent (slab 5) (lease 0)) ∷ plain (Wrote (lease 0) 1) ∷ plain (AskRates (lease 0)) ∷ plain (Evict (lease 0)) ∷ record { msg = PageIs (lease 0) 1; page = 7 ∷ [] } ∷ []
+    sent (fresh (small 1 0 0))
+    (greeted ++ say (Borrow (slab 5)) ∷ Took link (Write (lease 0) 1) (7 ∷ []) ∷ Host 1 0 ∷ say (Rates (lease 0) 9)
+    ∷ say (Read (lease 0) 1) ∷ say (Done (lease 0)) ∷ say (Read (lease 0) 1) ∷ [])
+    ≡ plain (Lent (slab 5) (lease 0)) ∷ plain (Wrote (lease 0) 1) ∷ plain (AskRates (lease 0)) ∷ plain (Evict (lease 0))
+    ∷ record { msg = PageIs (lease 0) 1; page = 7 ∷ [] } ∷ []

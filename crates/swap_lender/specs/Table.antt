@@ -21,7 +21,8 @@ use Rattle.swap_lender.specs.declared.Notice.{Notice}
 use Rattle.swap_lender.specs.declared.Notice.TheVariants as notice
 use Rattle.swap_lender.specs.Lender.{Lender, fresh, slot_in, is_free, is_staying, is_evicting, is_of, is_for, first_where, numbers_where, holds, slot_of, page_in, with_page, blank, is_peer, has_greeted, used, lends, free}
 
--- what a call makes of a lender: the lender after it, the messages in their order with the links they go to, the set of slots told to go, and the round that it closed
+-- what a call makes of a lender: the lender after it, the messages in their order with the links they go to, the set of
+-- slots told to go, and the round that it closed
 pub record Turn : Type 0 where
   pub lender : Lender
   pub parcels : List (Link × Parcel)
@@ -68,7 +69,13 @@ due (Some r) = ready r
 -- the round is closed as soon as it is ready: each slot that it gives is marked and told to go
 abbrev pub settle_with : Lender → Option ℕ → Turn
 settle_with l None = quiet l
-settle_with l (Some set) = record { lender = record l { slots = marked set 0 l.slots; round = None }; parcels = told notice.Evict set 0 l.slots; evicted = set; closed = l.round }
+settle_with l (Some set) =
+    record {
+      lender = record l { slots = marked set 0 l.slots; round = None };
+      parcels = told notice.Evict set 0 l.slots;
+      evicted = set;
+      closed = l.round;
+    }
 
 abbrev pub settle : Lender → Turn
 settle l = settle_with l (due l.round)
@@ -76,7 +83,8 @@ settle l = settle_with l (due l.round)
 -- Hello: from a link that hasn't greeted, of version 1 and with the lender's sizes; it has greeted
 abbrev pub may_hello : Lender → Link → ℕ → ℕ → ℕ → Bool
 may_hello l link version page_bytes pages_per_slab =
-    not (has_greeted l link) && (version == 1) && (page_bytes == l.lending.page_bytes) && (pages_per_slab == l.lending.pages_per_slab)
+    not (has_greeted l link) && (version == 1) && (page_bytes == l.lending.page_bytes)
+    && (pages_per_slab == l.lending.pages_per_slab)
 
 abbrev pub greet_peer : Link → Peer → Peer
 greet_peer link peer = if is_peer link peer then record { link = peer.link; greeted = true } else peer
@@ -88,13 +96,21 @@ hello l link = quiet (record l { peers = map (greet_peer link) l.peers })
 abbrev pub query : Lender → Link → Slab → Turn
 query l link slab = replying l link (msg.Room slab (free l)) []
 
--- Borrow: from a link that has greeted and holds no slot for the slab; where the lender lends, the lowest free slot is held by the next lease, all zeros
+-- Borrow: from a link that has greeted and holds no slot for the slab; where the lender lends, the lowest free slot is
+-- held by the next lease, all zeros
 abbrev pub may_borrow : Lender → Link → Slab → Bool
 may_borrow l link slab = has_greeted l link && not (list_any (is_for link slab) l.slots)
 
 abbrev pub lend : Lender → Link → Slab → ℕ → Turn
 lend l link slab slot =
-    replying (record l { slots = slice_set l.slots slot (Held link slab (record { 0 = l.next_lease }) false); contents = slice_set l.contents slot (blank l.lending); next_lease = l.next_lease + 1 }) link (msg.Lent slab (record { 0 = l.next_lease })) []
+    replying
+    (record l {
+      slots = slice_set l.slots slot (Held link slab (record { 0 = l.next_lease }) false);
+      contents = slice_set l.contents slot (blank l.lending);
+      next_lease = l.next_lease + 1;
+    })
+    link
+    (msg.Lent slab (record { 0 = l.next_lease })) []
 
 abbrev pub borrow : Lender → Link → Slab → Turn
 borrow l link slab =
@@ -106,7 +122,8 @@ may_reach l link lease place = holds l link lease && nat_lt place l.lending.page
 
 abbrev pub write : Lender → Link → Lease → ℕ → List ℕ → Turn
 write l link lease place page =
-    replying (record l { contents = with_page l.contents (slot_of l link lease) place page }) link (msg.Wrote lease place) []
+    replying (record l { contents = with_page l.contents (slot_of l link lease) place page }) link
+    (msg.Wrote lease place) []
 
 abbrev pub read : Lender → Link → Lease → ℕ → Turn
 read l link lease place = replying l link (msg.PageIs lease place) (page_in l.contents (slot_of l link lease) place)
@@ -158,7 +175,8 @@ took l link m page = if may_send l link m then serve l link m page else quiet l
 abbrev pub answered : Bool → Served
 answered may = if may then served.Fine else served.End
 
--- the host's use is measured; where no round is open and slots are missing, the held slots that the word picks are asked, and some more than have to go
+-- the host's use is measured; where no round is open and slots are missing, the held slots that the word picks are
+-- asked, and some more than have to go
 
 abbrev pub measured : Lender → ℕ → Lender
 measured l usage = record l { usage = average l.usage usage }
@@ -183,7 +201,12 @@ opens l = is_none l.round && nat_lt 0 (to_evict l)
 
 abbrev pub open_round : Lender → ℕ → Turn
 open_round l set =
-    record { lender = record l { round = Some (opened set (to_evict l)) }; parcels = told notice.AskRates set 0 l.slots; evicted = 0; closed = None }
+    record {
+      lender = record l { round = Some (opened set (to_evict l)) };
+      parcels = told notice.AskRates set 0 l.slots;
+      evicted = 0;
+      closed = None;
+    }
 
 abbrev pub host_after : Lender → ℕ → Turn
 host_after l word = if opens l then open_round l (asked l word) else quiet l
@@ -217,7 +240,12 @@ without_peer link peers = filter (λ peer. not (is_peer link peer)) peers
 
 abbrev pub gone : Lender → Link → Turn
 gone l link =
-    settle (record l { slots = map (freed link) l.slots; peers = without_peer link l.peers; round = option_map (left link l.slots) l.round })
+    settle
+    (record l {
+      slots = map (freed link) l.slots;
+      peers = without_peer link l.peers;
+      round = option_map (left link l.slots) l.round;
+    })
 
 -- a lender that crashed is as it was made
 abbrev pub restart : Lender → Lender

@@ -43,9 +43,19 @@ impl Model for LenderCore {
 
     ghost Value = { Lender };
 
-    ghost view = { λ l. record { lending = l.lending; slots = l.slots.items; contents = l.contents.slabs; peers = l.peers.items; usage = l.usage; next_lease = l.next_lease; round = l.round } };
+    ghost view = { λ l.
+        record {
+          lending = l.lending;
+          slots = l.slots.items;
+          contents = l.contents.slabs;
+          peers = l.peers.items;
+          usage = l.usage;
+          next_lease = l.next_lease;
+          round = l.round;
+        } };
 
-    ghost invariant = { λ l. SlotsFit l.lending l.slots.items × ContentsFit l.lending l.contents × PeersFit l.lending l.peers.items (vec_capacity l.peers) × (l.usage ≤ greatest) };
+    ghost invariant = { λ l. SlotsFit l.lending l.slots.items × ContentsFit l.lending l.contents
+        × PeersFit l.lending l.peers.items (vec_capacity l.peers) × (l.usage ≤ greatest) };
 }
 
 /// A usage as whole slots, rounded up.
@@ -56,8 +66,8 @@ fn whole(usage: u64) -> u64
 }
 
 impl LenderCore {
-    /// A lender that lends nothing yet, with no links. It has 1 to 64 slots, and at most 64 of headroom and of extra;
-    /// the bytes of all its slots are below 2^64.
+    /// A lender that lends nothing yet, with no links. It has 1 to 64 slots, and at most 64 of
+    /// headroom and of extra; the bytes of all its slots are below 2^64.
     pub fn make(
         alloc: Global,
         spec: LenderSpec,
@@ -65,9 +75,23 @@ impl LenderCore {
         pages_per_slab: u32,
         links: u32,
     ) -> Result<LenderCore, NoMemory>
-        requires limits { IsLending (record { spec = spec; page_bytes = page_bytes; pages_per_slab = pages_per_slab; links = links }) }
+        requires limits { IsLending
+            (record {
+              spec = spec;
+              page_bytes = page_bytes;
+              pages_per_slab = pages_per_slab;
+              links = links;
+            }) }
         requires bytes { spec.slots * (pages_per_slab * page_bytes) < 2 ^ 64 }
-        ensures { IfOk result (λ l. l ≡ fresh (record { spec = spec; page_bytes = page_bytes; pages_per_slab = pages_per_slab; links = links })) }
+        ensures { IfOk result
+            (λ l. l
+            ≡ fresh
+            (record {
+              spec = spec;
+              page_bytes = page_bytes;
+              pages_per_slab = pages_per_slab;
+              links = links;
+            })) }
     {
         let Ok(slots) = vec![in alloc; SlotState::Free; spec.slots as usize] else {
             return Err(NoMemory);
@@ -118,7 +142,9 @@ impl LenderCore {
 
     /// How many slots are free to be lent, as long as leases are left.
     fn vacancies(&self) -> u32
-        ensures { result ≡ self.now.lending.spec.slots - (used self.now + held self.now + self.now.lending.spec.headroom) }
+        ensures { result
+            ≡ self.now.lending.spec.slots
+            - (used self.now + held self.now + self.now.lending.spec.headroom) }
     {
         let slots = u64::from(self.lending.spec.slots);
         let taken = whole(self.usage)
@@ -159,9 +185,10 @@ impl LenderCore {
         true
     }
 
-    /// A message comes from a standing link. `End` exactly where the table doesn't let that link send it now: nothing
-    /// changes, and the caller then tells that the link is `gone`. A reply and, where a round of eviction is over, what
-    /// goes to the links of its slots are left in the outbox.
+    /// A message comes from a standing link. `End` exactly where the table doesn't let that link
+    /// send it now: nothing changes, and the caller then tells that the link is `gone`. A reply
+    /// and, where a round of eviction is over, what goes to the links of its slots are left in the
+    /// outbox.
     pub fn took(&mut self, link: Link, msg: &Msg, page: &[u8], out: &mut Outbox) -> Served
         requires link { IsTrue (stands self.old link) }
         requires page { length page.now ≡ self.old.lending.page_bytes }
@@ -170,8 +197,11 @@ impl LenderCore {
         ensures state { self.new ≡ (took self.old link msg.now page.now).lender }
         ensures lending { self.new.lending ≡ self.old.lending }
         ensures waits { IsWaiting self.old.round → IsWaiting self.new.round }
-        ensures outbox { out.new ≡ leaving out.old (took self.old link msg.now page.now).parcels (took self.old link msg.now page.now).evicted }
-        ensures batch { IsBatch (took self.old link msg.now page.now).closed (took self.old link msg.now page.now).evicted }
+        ensures outbox { out.new
+            ≡ leaving out.old (took self.old link msg.now page.now).parcels
+            (took self.old link msg.now page.now).evicted }
+        ensures batch { IsBatch (took self.old link msg.now page.now).closed
+            (took self.old link msg.now page.now).evicted }
     {
         out.begin();
         match *msg {
@@ -192,8 +222,11 @@ impl LenderCore {
 
     /// The link greets.
     fn hello(&mut self, link: Link, version: u32, page_bytes: u32, pages_per_slab: u32) -> Served
-        ensures served { result ≡ answered (may_hello self.old link version page_bytes pages_per_slab) }
-        ensures state { self.new ≡ (if may_hello self.old link version page_bytes pages_per_slab then hello self.old link else quiet self.old).lender }
+        ensures served { result
+            ≡ answered (may_hello self.old link version page_bytes pages_per_slab) }
+        ensures state { self.new
+            ≡ (if may_hello self.old link version page_bytes pages_per_slab
+            then hello self.old link else quiet self.old).lender }
         ensures lending { self.new.lending ≡ self.old.lending }
         ensures round { self.new.round ≡ self.old.round }
     {
@@ -212,10 +245,16 @@ impl LenderCore {
     fn query(&mut self, link: Link, slab: Slab, out: &mut Outbox) -> Served
         requires out { IsReady out.old self.old.lending }
         ensures served { result ≡ answered (has_greeted self.old link) }
-        ensures state { self.new ≡ (if has_greeted self.old link then query self.old link slab else quiet self.old).lender }
+        ensures state { self.new
+            ≡ (if has_greeted self.old link then query self.old link slab
+            else quiet self.old).lender }
         ensures lending { self.new.lending ≡ self.old.lending }
         ensures round { self.new.round ≡ self.old.round }
-        ensures outbox { out.new ≡ leaving out.old (if has_greeted self.old link then query self.old link slab else quiet self.old).parcels out.old.evicted }
+        ensures outbox { out.new
+            ≡ leaving out.old
+            (if has_greeted self.old link then query self.old link slab
+            else quiet self.old).parcels
+            out.old.evicted }
     {
         if !has_greeted(&self.peers, link) {
             return Served::End;
@@ -229,10 +268,16 @@ impl LenderCore {
     fn borrow(&mut self, link: Link, slab: Slab, out: &mut Outbox) -> Served
         requires out { IsReady out.old self.old.lending }
         ensures served { result ≡ answered (may_borrow self.old link slab) }
-        ensures state { self.new ≡ (if may_borrow self.old link slab then borrow self.old link slab else quiet self.old).lender }
+        ensures state { self.new
+            ≡ (if may_borrow self.old link slab then borrow self.old link slab
+            else quiet self.old).lender }
         ensures lending { self.new.lending ≡ self.old.lending }
         ensures round { self.new.round ≡ self.old.round }
-        ensures outbox { out.new ≡ leaving out.old (if may_borrow self.old link slab then borrow self.old link slab else quiet self.old).parcels out.old.evicted }
+        ensures outbox { out.new
+            ≡ leaving out.old
+            (if may_borrow self.old link slab then borrow self.old link slab
+            else quiet self.old).parcels
+            out.old.evicted }
     {
         if !has_greeted(&self.peers, link) || has_slab(&self.slots, link, slab) {
             return Served::End;
@@ -250,7 +295,8 @@ impl LenderCore {
     fn lend(&mut self, link: Link, slab: Slab) -> Lease
         requires { IsTrue (lends self.old) }
         ensures lease { result ≡ record { 0 = self.old.next_lease } }
-        ensures state { self.new ≡ (lend self.old link slab (first_where is_free self.old.slots)).lender }
+        ensures state { self.new
+            ≡ (lend self.old link slab (first_where is_free self.old.slots)).lender }
         ensures lending { self.new.lending ≡ self.old.lending }
     {
         let slot = lowest_free(&self.slots).unwrap();
@@ -278,10 +324,16 @@ impl LenderCore {
         requires page { length page.now ≡ self.old.lending.page_bytes }
         requires out { IsReady out.old self.old.lending }
         ensures served { result ≡ answered (may_reach self.old link lease place) }
-        ensures state { self.new ≡ (if may_reach self.old link lease place then write self.old link lease place page.now else quiet self.old).lender }
+        ensures state { self.new
+            ≡ (if may_reach self.old link lease place
+            then write self.old link lease place page.now else quiet self.old).lender }
         ensures lending { self.new.lending ≡ self.old.lending }
         ensures round { self.new.round ≡ self.old.round }
-        ensures outbox { out.new ≡ leaving out.old (if may_reach self.old link lease place then write self.old link lease place page.now else quiet self.old).parcels out.old.evicted }
+        ensures outbox { out.new
+            ≡ leaving out.old
+            (if may_reach self.old link lease place
+            then write self.old link lease place page.now else quiet self.old).parcels
+            out.old.evicted }
     {
         let Some(slot) = slot_by_lease(&self.slots, link, lease) else {
             return Served::End;
@@ -298,10 +350,16 @@ impl LenderCore {
     fn read(&mut self, link: Link, lease: Lease, place: u32, out: &mut Outbox) -> Served
         requires out { IsReady out.old self.old.lending }
         ensures served { result ≡ answered (may_reach self.old link lease place) }
-        ensures state { self.new ≡ (if may_reach self.old link lease place then read self.old link lease place else quiet self.old).lender }
+        ensures state { self.new
+            ≡ (if may_reach self.old link lease place then read self.old link lease place
+            else quiet self.old).lender }
         ensures lending { self.new.lending ≡ self.old.lending }
         ensures round { self.new.round ≡ self.old.round }
-        ensures outbox { out.new ≡ leaving out.old (if may_reach self.old link lease place then read self.old link lease place else quiet self.old).parcels out.old.evicted }
+        ensures outbox { out.new
+            ≡ leaving out.old
+            (if may_reach self.old link lease place then read self.old link lease place
+            else quiet self.old).parcels
+            out.old.evicted }
     {
         let Some(slot) = slot_by_lease(&self.slots, link, lease) else {
             return Served::End;
@@ -318,11 +376,22 @@ impl LenderCore {
         requires out { IsReady out.old self.old.lending }
         requires none { out.old.evicted ≡ 0 }
         ensures served { result ≡ answered (may_rates self.old link lease) }
-        ensures state { self.new ≡ (if may_rates self.old link lease then rates self.old link lease value else quiet self.old).lender }
+        ensures state { self.new
+            ≡ (if may_rates self.old link lease then rates self.old link lease value
+            else quiet self.old).lender }
         ensures lending { self.new.lending ≡ self.old.lending }
         ensures waits { IsWaiting self.old.round → IsWaiting self.new.round }
-        ensures outbox { out.new ≡ leaving out.old (if may_rates self.old link lease then rates self.old link lease value else quiet self.old).parcels (if may_rates self.old link lease then rates self.old link lease value else quiet self.old).evicted }
-        ensures batch { IsBatch (if may_rates self.old link lease then rates self.old link lease value else quiet self.old).closed (if may_rates self.old link lease then rates self.old link lease value else quiet self.old).evicted }
+        ensures outbox { out.new
+            ≡ leaving out.old
+            (if may_rates self.old link lease then rates self.old link lease value
+            else quiet self.old).parcels
+            (if may_rates self.old link lease then rates self.old link lease value
+            else quiet self.old).evicted }
+        ensures batch { IsBatch
+            (if may_rates self.old link lease then rates self.old link lease value
+            else quiet self.old).closed
+            (if may_rates self.old link lease then rates self.old link lease value
+            else quiet self.old).evicted }
     {
         let Some(slot) = slot_by_lease(&self.slots, link, lease) else {
             return Served::End;
@@ -338,7 +407,10 @@ impl LenderCore {
     fn note_rate(&mut self, slot: usize, value: u64) -> bool
         requires { slot < length self.old.slots }
         ensures waits { result ≡ awaits self.old.round slot }
-        ensures state { self.new ≡ (if awaits self.old.round slot then record self.old { round = option_map (answer slot value) self.old.round } else self.old) }
+        ensures state { self.new
+            ≡ (if awaits self.old.round slot
+            then record self.old { round = option_map (answer slot value) self.old.round }
+            else self.old) }
         ensures lending { self.new.lending ≡ self.old.lending }
     {
         let Some(round) = &mut self.round else {
@@ -354,7 +426,9 @@ impl LenderCore {
     /// The link gives back a slot that it was told to.
     fn done(&mut self, link: Link, lease: Lease) -> Served
         ensures served { result ≡ answered (may_done self.old link lease) }
-        ensures state { self.new ≡ (if may_done self.old link lease then done self.old link lease else quiet self.old).lender }
+        ensures state { self.new
+            ≡ (if may_done self.old link lease then done self.old link lease
+            else quiet self.old).lender }
         ensures lending { self.new.lending ≡ self.old.lending }
         ensures round { self.new.round ≡ self.old.round }
     {
@@ -371,7 +445,8 @@ impl LenderCore {
     /// The slots to evict, once the open round is ready.
     fn due(&self) -> Option<u64>
         ensures value { result ≡ due self.now.round }
-        ensures batch { MatchOption result (IsWaiting self.now.round) (λ set. IsBatch self.now.round set) }
+        ensures batch { MatchOption result (IsWaiting self.now.round)
+            (λ set. IsBatch self.now.round set) }
     {
         match &self.round {
             Some(round) => round.ready(),
@@ -386,7 +461,8 @@ impl LenderCore {
         ensures state { self.new ≡ (settle self.old).lender }
         ensures lending { self.new.lending ≡ self.old.lending }
         ensures waits { IsWaiting self.new.round }
-        ensures outbox { out.new ≡ leaving out.old (settle self.old).parcels (settle self.old).evicted }
+        ensures outbox { out.new
+            ≡ leaving out.old (settle self.old).parcels (settle self.old).evicted }
         ensures batch { IsBatch (settle self.old).closed (settle self.old).evicted }
     {
         let Some(set) = self.due() else {
@@ -404,9 +480,9 @@ impl LenderCore {
         self.round = None;
     }
 
-    /// The host uses so many slots of memory itself. Where no round is open and slots are missing, a round asks the
-    /// held slots that the word picks, some more than have to go. The answer is the host's average, rounded up, and the
-    /// asked slots.
+    /// The host uses so many slots of memory itself. Where no round is open and slots are missing,
+    /// a round asks the held slots that the word picks, some more than have to go. The answer is
+    /// the host's average, rounded up, and the asked slots.
     pub fn host(&mut self, used: u32, word: u64, out: &mut Outbox) -> Hosted
         requires out { IsReady out.old self.old.lending }
         ensures answer { result ≡ hosted self.old used word }
@@ -464,14 +540,15 @@ impl LenderCore {
         Hosted { mean, asked }
     }
 
-    /// A link is gone, and its slots are free. The open round waits for none of them any more; where it is over, what goes
-    /// to the links of its slots is left in the outbox.
+    /// A link is gone, and its slots are free. The open round waits for none of them any more;
+    /// where it is over, what goes to the links of its slots is left in the outbox.
     pub fn gone(&mut self, link: Link, out: &mut Outbox)
         requires out { IsReady out.old self.old.lending }
         ensures state { self.new ≡ (gone self.old link).lender }
         ensures lending { self.new.lending ≡ self.old.lending }
         ensures waits { IsWaiting self.new.round }
-        ensures outbox { out.new ≡ leaving out.old (gone self.old link).parcels (gone self.old link).evicted }
+        ensures outbox { out.new
+            ≡ leaving out.old (gone self.old link).parcels (gone self.old link).evicted }
         ensures batch { IsBatch (gone self.old link).closed (gone self.old link).evicted }
     {
         out.begin();
@@ -482,7 +559,8 @@ impl LenderCore {
     }
 
     fn leave_round(&mut self, link: Link)
-        ensures { self.new ≡ record self.old { round = option_map (left link self.old.slots) self.old.round } }
+        ensures { self.new
+            ≡ record self.old { round = option_map (left link self.old.slots) self.old.round } }
     {
         if let Some(round) = &mut self.round {
             leave(round, &self.slots, link);
@@ -490,7 +568,8 @@ impl LenderCore {
     }
 
     fn free_slots(&mut self, link: Link)
-        ensures { self.new ≡ record self.old { slots = map (λ state. freed link state) self.old.slots } }
+        ensures { self.new
+            ≡ record self.old { slots = map (λ state. freed link state) self.old.slots } }
     {
         free_all(&mut self.slots, link);
     }

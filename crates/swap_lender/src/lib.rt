@@ -1,4 +1,5 @@
-//! A lender: its slots, whom they are lent to, and which of them it takes back when its host wants the memory.
+//! A lender: its slots, whom they are lent to, and which of them it takes back when its host wants
+//! the memory.
 #![tactic(auto)]
 
 ghost use Rattle.swap_lender.specs.Calls.{AlwaysOwned, LeasesInOrder, SizesStay, LendsFreeSlots, ServedUntilDone, CheckedSpecsFit, LiveRounds};
@@ -19,7 +20,8 @@ use swap_base::{Lease, LenderSpec, Link, Slab};
 /// How many leases a lender gives: the last one is the number before it.
 pub const LEASES: u32 = 4_294_967_295;
 
-/// Whether a message was one that its link may send now. After `End` the caller tells that the link is gone.
+/// Whether a message was one that its link may send now. After `End` the caller tells that the link
+/// is gone.
 #[derive(Clone, Copy, Debug, PartialEq, Eq)]
 pub enum Served {
     Fine,
@@ -45,7 +47,8 @@ pub struct Peer {
     pub greeted: bool,
 }
 
-/// What a lender is made for: its slots, the bytes of a page, the pages of a slab, and how many links may stand.
+/// What a lender is made for: its slots, the bytes of a page, the pages of a slab, and how many
+/// links may stand.
 #[derive(Clone, Copy, Debug, PartialEq, Eq)]
 pub struct Lending {
     pub spec: LenderSpec,
@@ -54,17 +57,18 @@ pub struct Lending {
     pub links: u32,
 }
 
-/// What a lender tells the links of some slots: that it asks for their rates, or that it takes them back.
+/// What a lender tells the links of some slots: that it asks for their rates, or that it takes them
+/// back.
 #[derive(Clone, Copy, Debug, PartialEq, Eq)]
 pub enum Notice {
     AskRates,
     Evict,
 }
 
-/// Of every list of calls: no two held slots have one lease, or one link and slab, and leases never repeat until a
-/// restart. No call changes what a lender is made for. A slot that is lent was free, and the end of a round takes no slot
-/// from a link. A lender may be made of every spec that was checked. An open round waits only for slots that are held
-/// and not being evicted.
+/// Of every list of calls: no two held slots have one lease, or one link and slab, and leases never
+/// repeat until a restart. No call changes what a lender is made for. A slot that is lent was free,
+/// and the end of a round takes no slot from a link. A lender may be made of every spec that was
+/// checked. An open round waits only for slots that are held and not being evicted.
 pub fn laws()
     ensures owned { AlwaysOwned }
     ensures leases { LeasesInOrder }

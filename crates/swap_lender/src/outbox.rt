@@ -36,7 +36,13 @@ impl Model for Outbox {
 
     ghost Value = { Outgoing };
 
-    ghost view = { λ o. record { parcels = parcels_in o.page.items o.letters.items; evicted = o.evicted; room = o.room; page_bytes = length o.page.items } };
+    ghost view = { λ o.
+        record {
+          parcels = parcels_in o.page.items o.letters.items;
+          evicted = o.evicted;
+          room = o.room;
+          page_bytes = length o.page.items;
+        } };
 
     ghost invariant = { λ o. o.room ≤ vec_capacity o.letters };
 }
@@ -70,8 +76,8 @@ impl Outbox {
         })
     }
 
-    /// Takes out the first message with the link it goes to, and copies the page that it carries, if any. None exactly
-    /// where the outbox is empty.
+    /// Takes out the first message with the link it goes to, and copies the page that it carries,
+    /// if any. None exactly where the outbox is empty.
     pub fn pop(&mut self, page: &mut [u8]) -> Option<(Link, Msg)>
         requires { length page.old ≡ self.old.page_bytes }
         ensures message { result ≡ first_message self.old.parcels }
@@ -104,7 +110,9 @@ impl Outbox {
     pub(crate) fn put(&mut self, link: Link, msg: Msg)
         requires room { length self.old.parcels < self.old.room }
         requires plain { carries_page msg ≡ false }
-        ensures { self.new ≡ leaving self.old (self.old.parcels ++ (link, parcel_of msg []) ∷ []) self.old.evicted }
+        ensures { self.new
+            ≡ leaving self.old
+            (self.old.parcels ++ (link, parcel_of msg []) ∷ []) self.old.evicted }
     {
         self.letters.push_reserved(Letter { link, msg });
     }
@@ -114,7 +122,9 @@ impl Outbox {
         requires room { 1 ≤ self.old.room }
         requires empty { self.old.parcels ≡ [] }
         requires page { length page.now ≡ self.old.page_bytes }
-        ensures { self.new ≡ leaving self.old ((link, parcel_of (msg.PageIs lease place) page.now) ∷ []) self.old.evicted }
+        ensures { self.new
+            ≡ leaving self.old
+            ((link, parcel_of (msg.PageIs lease place) page.now) ∷ []) self.old.evicted }
     {
         self.page.as_mut_slice().copy_from_slice(page);
         self.letters.push_reserved(Letter {
@@ -125,7 +135,8 @@ impl Outbox {
 
     fn tell_slot(&mut self, notice: Notice, has: bool, state: SlotState)
         requires { length self.old.parcels < self.old.room }
-        ensures { self.new ≡ leaving self.old (self.old.parcels ++ tell_slot notice has state) self.old.evicted }
+        ensures { self.new
+            ≡ leaving self.old (self.old.parcels ++ tell_slot notice has state) self.old.evicted }
     {
         if let SlotState::Held { link, lease, .. } = state {
             if has {

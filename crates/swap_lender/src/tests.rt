@@ -19,8 +19,8 @@ enum Call {
     Restart,
 }
 
-/// What a call makes: how it was taken, the first messages with their links, the byte that fills the page given, and
-/// the slots told to go.
+/// What a call makes: how it was taken, the first messages with their links, the byte that fills
+/// the page given, and the slots told to go.
 #[derive(Clone, Copy, Debug, PartialEq, Eq)]
 struct Made {
     fine: bool,
@@ -410,7 +410,8 @@ fn revocation_with_read_and_write_in_flight(rt: HostRuntime) {
     );
 }
 
-/// Of five held slots two have to go and four are asked; the one of a link that is gone isn't waited for.
+/// Of five held slots two have to go and four are asked; the one of a link that is gone isn't
+/// waited for.
 #[test]
 fn a_slot_goes_while_a_round_is_open(rt: HostRuntime) {
     let mut core = lender(rt.alloc(), 6, 0, 2, 4, 2).expect(&rt, "memory");

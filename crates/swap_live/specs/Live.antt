@@ -52,7 +52,8 @@ ending_of end.WriteFailed = ending.WriteFailed
 ending_of end.HostFailed = ending.HostFailed
 ending_of end.NoMemory = ending.NoMemory
 
--- a host over a call: the disks, the links and the doors that it was asked for, gave and got back, and its count of faults
+-- a host over a call: the disks, the links and the doors that it was asked for, gave and got back, and its count of
+-- faults
 pub record Dealt (D F E : Type 0) : Type 0 where
   pub disks : Deals (List ℕ) D
   pub nets : Deals (List Address) F
@@ -118,7 +119,8 @@ module _ {D F : Type 0} (disk : DiskMeaning D) (net : FabricMeaning F) {E S K : 
       → LiveEndsWith (Some (Command.lends options)) source out err host status → ¬ Failed out → ¬ HasFailed host
       → (status ≡ 0) ⊎ (status ≡ 6)
 
-  -- where the words play, a trace for so many addresses is told and keeps the limit, and neither source, output nor host
+  -- where the words play, a trace for so many addresses is told and keeps the limit, and neither source, output nor
+  -- host
   -- fails, the status is 0, 1 where a call failed, or 6 for want of memory
   abbrev pub PlaysComplete : Type 0
   PlaysComplete =

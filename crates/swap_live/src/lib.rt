@@ -1,4 +1,5 @@
-//! The commands that may wait. Lending over a host: a door is opened, so many links are served, and the door goes back.
+//! The commands that may wait. Lending over a host: a door is opened, so many links are served, and
+//! the door goes back.
 #![tactic(auto)]
 
 ghost use Rattle.std.specs.Prelude.{◌≡◌, ◌<◌, ◌≤◌, ◌*◌, ◌^◌, ◌++◌, length, decimal};
@@ -18,8 +19,8 @@ mod live;
 
 pub use live::{LiveCommand, live_completes, run_live};
 
-/// How lending ended: the links were served and that was written, it couldn't be written, the host or its door failed, or
-/// memory was wanted.
+/// How lending ended: the links were served and that was written, it couldn't be written, the host
+/// or its door failed, or memory was wanted.
 #[derive(Clone, Copy, Debug, PartialEq, Eq)]
 pub enum LendEnd {
     Served,
@@ -28,8 +29,8 @@ pub enum LendEnd {
     NoMemory,
 }
 
-/// What a lender lends: its slots, how many bytes a page and how many pages a slab has, how many links it serves, and how
-/// many slots its host uses itself.
+/// What a lender lends: its slots, how many bytes a page and how many pages a slab has, how many
+/// links it serves, and how many slots its host uses itself.
 #[derive(Clone, Copy, Debug, PartialEq, Eq)]
 pub struct Offer {
     pub spec: LenderSpec,
@@ -49,11 +50,13 @@ fn put_line(number: usize, line: &mut LineBuf)
     line.text(b" links\n");
 }
 
-/// Lends at an address of the host: its door's links are served, the door goes back, and `served N links` is written.
+/// Lends at an address of the host: its door's links are served, the door goes back, and `served N
+/// links` is written.
 ///
-/// `HostFailed` comes only where the host's count of faults rose in this call, which it does where its door's did, and
-/// `WriteFailed` only where that of `out` did. Before either, and for want of memory, nothing is written. Nothing else is
-/// asked of the host, and a door that it gave goes back to it however lending ends.
+/// `HostFailed` comes only where the host's count of faults rose in this call, which it does where
+/// its door's did, and `WriteFailed` only where that of `out` did. Before either, and for want of
+/// memory, nothing is written. Nothing else is asked of the host, and a door that it gave goes back
+/// to it however lending ends.
 pub fn lend<R, H, K>(
     rt: R,
     alloc: Global,
@@ -68,9 +71,18 @@ where
     K: Sink,
     requires least { 8 ≤ offer.now.page_bytes }
     requires most { offer.now.page_bytes ≤ 4096 }
-    requires limits { IsLending (record { spec = offer.now.spec; page_bytes = offer.now.page_bytes; pages_per_slab = offer.now.pages_per_slab; links = offer.now.links }) }
-    requires bytes { offer.now.spec.slots * (offer.now.pages_per_slab * offer.now.page_bytes) < 2 ^ 64 }
-    ensures ends { LendEnds H.Entrance.links H.Entrance.Reader.left H.Entrance.Reader.faults H.Entrance.Writer.faults address.now offer.now.page_bytes offer.now.links (hosting H.Host host.old host.new) (written_to K.Sink out.old out.new) result }
+    requires limits { IsLending
+        (record {
+          spec = offer.now.spec;
+          page_bytes = offer.now.page_bytes;
+          pages_per_slab = offer.now.pages_per_slab;
+          links = offer.now.links;
+        }) }
+    requires bytes { offer.now.spec.slots * (offer.now.pages_per_slab * offer.now.page_bytes)
+        < 2 ^ 64 }
+    ensures ends { LendEnds H.Entrance.links H.Entrance.Reader.left H.Entrance.Reader.faults
+        H.Entrance.Writer.faults address.now offer.now.page_bytes offer.now.links
+        (hosting H.Host host.old host.new) (written_to K.Sink out.old out.new) result }
     ensures disks { H.disks host.new ≡ H.disks host.old }
     ensures nets { H.nets host.new ≡ H.nets host.old }
     ensures later { H.faults host.old ≤ H.faults host.new }

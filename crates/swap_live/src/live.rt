@@ -27,9 +27,12 @@ pub enum LiveCommand<'w> {
 
 /// What the words ask for.
 fn command_of<'w>(alloc: Global, words: &'w [&'w str]) -> Result<LiveCommand<'w>, OptionsRefused>
-    ensures command { IfOk result (λ command. command_of (map (λ word. word.now) words.now) ≡ Some (command_is command)) }
+    ensures command { IfOk result
+        (λ command. command_of (map (λ word. word.now) words.now) ≡ Some (command_is command)) }
     ensures limits { IfOk result KeepsLimits }
-    ensures usage { IfErr result (λ why. why ≡ OptionsRefused.Usage → command_of (map (λ word. word.now) words.now) ≡ None) }
+    ensures usage { IfErr result
+        (λ why. why ≡ OptionsRefused.Usage
+        → command_of (map (λ word. word.now) words.now) ≡ None) }
 {
     let Some((word, options)) = words.split_first() else {
         return Err(OptionsRefused::Usage);
@@ -72,7 +75,10 @@ where
     K: Sink,
     H: Host,
     requires { keeps_limits options.now ≡ true }
-    ensures ends { EndsAsLending H.Disk.DiskPort H.Net.Fabric H.Entrance.links H.Entrance.Reader.left H.Entrance.Reader.faults H.Entrance.Writer.faults options.now (written_to K.Sink out.old out.new) (dealt H.Host host.old host.new) result }
+    ensures ends { EndsAsLending H.Disk.DiskPort H.Net.Fabric H.Entrance.links
+        H.Entrance.Reader.left
+        H.Entrance.Reader.faults H.Entrance.Writer.faults options.now
+        (written_to K.Sink out.old out.new) (dealt H.Host host.old host.new) result }
 {
     limits_let_lend();
     let offer = Offer {
@@ -85,7 +91,8 @@ where
     ending_of(lend(rt, alloc, host, &options.listen, &offer, out))
 }
 
-/// Plays by these options: in memory where they give neither a file for the disk nor addresses of lenders.
+/// Plays by these options: in memory where they give neither a file for the disk nor addresses of
+/// lenders.
 fn run_play<R, S, K, H, G>(
     rt: &R,
     alloc: Global,
@@ -104,7 +111,9 @@ where
     H::Net: Send,
     G: Gate,
     requires lenders { IfSome options.now.tcp (λ lenders. length lenders.items ≤ 8) }
-    ensures ends { EndsAsPlaying H.Disk.DiskPort H.Net.Fabric (asked options.now) (read_of S.Source source.old source.new) (written_to K.Sink out.old out.new) (dealt H.Host host.old host.new) result }
+    ensures ends { EndsAsPlaying H.Disk.DiskPort H.Net.Fabric (asked options.now)
+        (read_of S.Source source.old source.new) (written_to K.Sink out.old out.new)
+        (dealt H.Host host.old host.new) result }
 {
     match (options.disk, &options.tcp) {
         (None, None) => play_source(rt, alloc, options.number, source, out, gate),
@@ -132,7 +141,10 @@ where
     H::Disk: Send,
     H::Net: Send,
     G: Gate,
-    ensures ends { LiveEnds H.Disk.DiskPort H.Net.Fabric H.Entrance.links H.Entrance.Reader.left H.Entrance.Reader.faults H.Entrance.Writer.faults (command_of (map (λ word. word.now) words.now)) (read_of S.Source source.old source.new) (written_to K.Sink out.old out.new) (dealt H.Host host.old host.new) result }
+    ensures ends { LiveEnds H.Disk.DiskPort H.Net.Fabric H.Entrance.links H.Entrance.Reader.left
+        H.Entrance.Reader.faults H.Entrance.Writer.faults
+        (command_of (map (λ word. word.now) words.now)) (read_of S.Source source.old source.new)
+        (written_to K.Sink out.old out.new) (dealt H.Host host.old host.new) result }
 {
     match command_of(alloc, words) {
         Ok(LiveCommand::Lend(options)) => run_lend(rt, alloc, &options, out, host),
@@ -144,13 +156,15 @@ where
     }
 }
 
-/// The top call for the commands that may wait; its promise holds if it returns. `lend` reads nothing, opens a door at an
-/// address of the host, serves so many links, gives the door back and writes `served N links` to `out`. `play` reads a
-/// trace from `source`, plays it, each caller in a thread of its own, and writes the transcript of what was made to `out`.
-/// Its disk is the host's at a path where one is given, and its lenders are reached at addresses over the host where they
-/// are given; what isn't given is in memory, and the host isn't asked for it. What the host gave goes back to it as the run
-/// left it, or is dropped where memory runs out. `gate` lets the pumps pass and hears of the answers. Words of any other
-/// form are status 2. The answer is the program's status; what went wrong is told to `err`, whose own failures change
+/// The top call for the commands that may wait; its promise holds if it returns. `lend` reads
+/// nothing, opens a door at an address of the host, serves so many links, gives the door back and
+/// writes `served N links` to `out`. `play` reads a trace from `source`, plays it, each caller in a
+/// thread of its own, and writes the transcript of what was made to `out`.
+/// Its disk is the host's at a path where one is given, and its lenders are reached at addresses
+/// over the host where they are given; what isn't given is in memory, and the host isn't asked for
+/// it. What the host gave goes back to it as the run left it, or is dropped where memory runs out.
+/// `gate` lets the pumps pass and hears of the answers. Words of any other form are status 2. The
+/// answer is the program's status; what went wrong is told to `err`, whose own failures change
 /// nothing. Each status has its cause in the clause.
 pub fn run_live<R, S, K, E, H, G>(
     rt: R,
@@ -171,19 +185,28 @@ where
     H::Disk: Send,
     H::Net: Send,
     G: Gate,
-    ensures ends { LiveEndsWith H.Disk.DiskPort H.Net.Fabric H.Entrance.links H.Entrance.Reader.left H.Entrance.Reader.faults H.Entrance.Writer.faults (command_of (map (λ word. word.now) words.now)) (read_of S.Source source.old source.new) (written_to K.Sink out.old out.new) (written_to E.Sink err.old err.new) (dealt H.Host host.old host.new) result }
+    ensures ends { LiveEndsWith H.Disk.DiskPort H.Net.Fabric H.Entrance.links H.Entrance.Reader.left
+        H.Entrance.Reader.faults H.Entrance.Writer.faults
+        (command_of (map (λ word. word.now) words.now)) (read_of S.Source source.old source.new)
+        (written_to K.Sink out.old out.new) (written_to E.Sink err.old err.new)
+        (dealt H.Host host.old host.new) result }
 {
     let ending = run_words(rt, alloc, words, source, out, host, gate);
     tell_ending(ending, err);
     status_of(ending)
 }
 
-/// A call that lends, of which neither `out` nor the host fails, and so no door of its, ends by 0, or by 6 for want of
-/// memory. One that plays a trace that is told and within the limit, for as many lenders as addresses are given, of which
-/// neither `source`, `out` nor the host fails, ends by 0, by 1 where a call failed, or by 6.
+/// A call that lends, of which neither `out` nor the host fails, and so no door of its, ends by 0,
+/// or by 6 for want of memory. One that plays a trace that is told and within the limit, for as
+/// many lenders as addresses are given, of which neither `source`, `out` nor the host fails, ends
+/// by 0, by 1 where a call failed, or by 6.
 pub fn live_completes<H: Host>()
-    ensures lends { LendsComplete H.Disk.DiskPort H.Net.Fabric H.Entrance.links H.Entrance.Reader.left H.Entrance.Reader.faults H.Entrance.Writer.faults }
-    ensures plays { PlaysComplete H.Disk.DiskPort H.Net.Fabric H.Entrance.links H.Entrance.Reader.left H.Entrance.Reader.faults H.Entrance.Writer.faults }
+    ensures lends { LendsComplete H.Disk.DiskPort H.Net.Fabric H.Entrance.links
+        H.Entrance.Reader.left
+        H.Entrance.Reader.faults H.Entrance.Writer.faults }
+    ensures plays { PlaysComplete H.Disk.DiskPort H.Net.Fabric H.Entrance.links
+        H.Entrance.Reader.left
+        H.Entrance.Reader.faults H.Entrance.Writer.faults }
 {
     shows_complete();
     hosted_completes::<H::Disk, H::Net>();

@@ -1,6 +1,6 @@
-//! `remswap`, the program: its words, its streams and its status. What a call promises stands in the contracts of
-//! `run_lab_in_blocks` and, for the commands that may wait, of `run_live`; here the streams of the process, and the host of
-//! this machine, are passed to them.
+//! `remswap`, the program: its words, its streams and its status. What a call promises stands in
+//! the contracts of `run_lab_in_blocks` and, for the commands that may wait, of `run_live`; here
+//! the streams of the process, and the host of this machine, are passed to them.
 #![tactic(auto)]
 
 use std::alloc::Global;
@@ -71,7 +71,8 @@ fn run<E: Sink>(rt: &HostRuntime, owned: &[String], err: &mut E) -> Result<u8, N
     Ok(run_lab_in_blocks(rt.alloc(), &words, &mut source, &mut out, err))
 }
 
-// The same of a command that may wait, over the host of this machine. What is written goes out at once.
+// The same of a command that may wait, over the host of this machine. What is written goes out at
+// once.
 fn run_over_host<R, S, K, E>(
     rt: R,
     alloc: Global,

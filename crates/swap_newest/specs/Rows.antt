@@ -55,7 +55,9 @@ first = start sizes (record { slots = 4; headroom = 1; extra = 1 } ∷ [])
 
 -- a slab is borrowed, and a page goes out to its lender
 abbrev lent_events : List Input
-lent_events = by (event.Connect lender) ∷ by (event.Map slab lender) ∷ by (event.Give lender) ∷ by (event.Give lender) ∷ by (event.Take lender) ∷ out 170 ∷ by (event.Give lender) ∷ by (event.Take lender) ∷ []
+lent_events =
+    by (event.Connect lender) ∷ by (event.Map slab lender) ∷ by (event.Give lender) ∷ by (event.Give lender)
+    ∷ by (event.Take lender) ∷ out 170 ∷ by (event.Give lender) ∷ by (event.Take lender) ∷ []
 
 abbrev lent_world : World
 lent_world = reach first lent_events
@@ -86,12 +88,15 @@ SlotHoldsWhatWasCut =
 
 -- a bit over an older page in the slot, and a write under way with the bit set
 abbrev stale : Device
-stale = record lent_world.device { history = pushed lent_world.device.history (record { 0 = 1 }) page op.PageOut (replicate 8 187) }
+stale =
+    record lent_world.device
+    { history = pushed lent_world.device.history (record { 0 = 1 }) page op.PageOut (replicate 8 187) }
 
 abbrev overwritten : Harbor
 overwritten =
     let c : Channel = channel_of lent_world.harbor lender in
-    with_channel lent_world.harbor lender (record c { to_lender = record c.to_lender { parcels = write_parcel lease 3 (replicate 8 187) ∷ [] } })
+    with_channel lent_world.harbor lender
+    (record c { to_lender = record c.to_lender { parcels = write_parcel lease 3 (replicate 8 187) ∷ [] } })
 
 abbrev pub NewestCanFail : Type 0
 NewestCanFail = (IsNewest stale lent_world.harbor → ⊥) × (IsNewest lent_world.device overwritten → ⊥)
@@ -106,14 +111,19 @@ abbrev held : ℕ → SlotState
 held k = Held (record { 0 = 0 }) slab (record { 0 = k }) false
 
 abbrev pub OwnedCanFail : Type 0
-OwnedCanFail = (IsOwned lent_world.device (with_slots (held 0 ∷ held 1 ∷ [])) → ⊥) × (IsOwned lent_world.device (with_slots (Free ∷ [])) → ⊥)
+OwnedCanFail =
+    (IsOwned lent_world.device (with_slots (held 0 ∷ held 1 ∷ [])) → ⊥)
+    × (IsOwned lent_world.device (with_slots (Free ∷ [])) → ⊥)
 
--- events, after each of which a set bit means that the remote copy is the newest and a lent slab has one owner, with the
+-- events, after each of which a set bit means that the remote copy is the newest and a lent slab has one owner, with
+-- the
 -- bit of a page after each front of them
 pub record IsRow (specs : List LenderSpec) (is : List Input) (p : Page) (bits : List Bool) : Type 0 where
   pub inputs : AreInputs sizes specs is
   pub lent : (n : ℕ) → let w : World = reach (start sizes specs) (take n is) in IsLent w.device w.harbor
-  pub bit : map (λ n. has_page (reach (start sizes specs) (take n is)).device.remote p) (range_with_len 0 (length is + 1)) ≡ bits
+  pub bit : map (λ n. has_page (reach (start sizes specs) (take n is)).device.remote p)
+      (range_with_len 0 (length is + 1))
+      ≡ bits
 
 abbrev pub spec : ℕ → ℕ → ℕ → LenderSpec
 spec slots headroom extra = record { slots = slots; headroom = headroom; extra = extra }
@@ -147,12 +157,16 @@ cuts to_lender to_device = by (event.Cut lender to_lender to_device)
 
 -- a page goes out to its lender, and to the disk
 abbrev stored : ℕ → List Input
-stored p = by (event.Connect lender) ∷ by (event.Map slab lender) ∷ give ∷ give ∷ get ∷ paged 0 p 170 ∷ give ∷ get ∷ by event.Start ∷ by (event.Disk (which.Write (record { 0 = p })) true) ∷ []
+stored p =
+    by (event.Connect lender) ∷ by (event.Map slab lender) ∷ give ∷ give ∷ get ∷ paged 0 p 170 ∷ give ∷ get
+    ∷ by event.Start ∷ by (event.Disk (which.Write (record { 0 = p })) true) ∷ []
 
 -- the slab is taken back with a read and a write in flight
 abbrev pub revoked : List Input
 revoked =
-    stored 3 ++ hosts 10 ∷ get ∷ give ∷ reads 0 3 ∷ paged 1 2 187 ∷ get ∷ give ∷ give ∷ give ∷ get ∷ give ∷ get ∷ give ∷ ends 0 ∷ reads 0 3 ∷ read_ends 0 ∷ ends 0 ∷ hosts 0 ∷ hosts 0 ∷ hosts 0 ∷ hosts 0 ∷ by (event.Map slab lender) ∷ give ∷ get ∷ []
+    stored 3 ++ hosts 10 ∷ get ∷ give ∷ reads 0 3 ∷ paged 1 2 187 ∷ get ∷ give ∷ give ∷ give ∷ get ∷ give ∷ get ∷ give
+    ∷ ends 0 ∷ reads 0 3 ∷ read_ends 0 ∷ ends 0 ∷ hosts 0 ∷ hosts 0 ∷ hosts 0 ∷ hosts 0 ∷ by (event.Map slab lender)
+    ∷ give ∷ get ∷ []
 
 abbrev pub RevocationInFlight : Type 0
 RevocationInFlight = IsRow (spec 3 1 0 ∷ []) revoked page (replicate 8 false ++ replicate 8 true ++ replicate 19 false)
@@ -166,7 +180,9 @@ ReplyLost = IsRow (spec 4 1 1 ∷ []) lost_events page (replicate 8 false ++ rep
 
 -- the lender crashes, and the device makes a new link before it has read the old one's end
 abbrev pub unread_events : List Input
-unread_events = stored 3 ++ by (event.Crash lender) ∷ reads 0 3 ∷ by (event.Connect lender) ∷ ends 0 ∷ by (event.Map slab lender) ∷ give ∷ give ∷ get ∷ read_ends 0 ∷ ends 0 ∷ []
+unread_events =
+    stored 3 ++ by (event.Crash lender) ∷ reads 0 3 ∷ by (event.Connect lender) ∷ ends 0 ∷ by (event.Map slab lender)
+    ∷ give ∷ give ∷ get ∷ read_ends 0 ∷ ends 0 ∷ []
 
 abbrev pub LossUnread : Type 0
 LossUnread = IsRow (spec 4 1 1 ∷ []) unread_events page (replicate 8 false ++ replicate 5 true ++ replicate 8 false)

@@ -20,7 +20,9 @@ module _ {K : Type 0} where
   pub fits_both : (b : Board K) (link : Link) (o : Outlet K) → fits_line b link o ≡ true → (link.0 < length b.lines) × (o.page_bytes ≡ b.page_bytes)
   fits_both b link o fits = (grind (arith, fits), grind (arith, fits))
 
-  pub all_fit : (xs : List (Option (Outlet K))) (i : ℕ) (y : Option (Outlet K)) {m : ℕ} (n : ℕ) → m ≡ n → IsFor m y → All (λ o. IsFor n o) xs → All (λ o. IsFor n o) (set xs i y)
+  pub all_fit :
+      (xs : List (Option (Outlet K))) (i : ℕ) (y : Option (Outlet K)) {m : ℕ} (n : ℕ) → m ≡ n → IsFor m y → All (λ o. IsFor n o) xs
+      → All (λ o. IsFor n o) (set xs i y)
   all_fit xs i y n e fits all = All-set (λ o. IsFor n o) xs i y (subst (λ n. IsFor n y) e fits) all
 
   pub weight_small : (o : Option (Outlet K)) → weight o ≤ 1
@@ -35,13 +37,16 @@ module _ {K : Type 0} where
   weights_few [] = omega arith
   weights_few (x ∷ xs) = omega (arith, weight_small x, weights_few xs, sum_by-cons (λ o. weight o) x xs)
 
-  pub one_less : (xs : List (Option (Outlet K))) (i : ℕ) (y line : Option (Outlet K)) (n : ℕ) → i < length xs → line ≡ get_or xs i line → weight y + n ≡ weight line
+  pub one_less :
+      (xs : List (Option (Outlet K))) (i : ℕ) (y line : Option (Outlet K)) (n : ℕ) → i < length xs → line ≡ get_or xs i line → weight y + n ≡ weight line
       → sum_by (λ o. weight o) (set xs i y) + n ≡ sum_by (λ o. weight o) xs
   one_less xs i y line n lt is w =
       let e : weight (get_or xs i line) ≡ weight line = ap (λ o. weight o) (sym is) in
       omega (arith, sum_by-set (λ o. weight o) xs i y line lt, e, w)
 
-  pub with_failed : (xs : List (Option (Outlet K))) (i : ℕ) (y line : Option (Outlet K)) (fails : Bool) (f : List Link) (link : Link) (failed : List Link) → i < length xs → line ≡ get_or xs i line
+  pub with_failed :
+      (xs : List (Option (Outlet K))) (i : ℕ) (y line : Option (Outlet K)) (fails : Bool) (f : List Link) (link : Link) (failed : List Link) → i < length xs
+      → line ≡ get_or xs i line
       → weight y + cond fails 1 0 ≡ weight line
       → fails ≡ true
       → failed ≡ f ++ link ∷ []
@@ -50,13 +55,18 @@ module _ {K : Type 0} where
       let w' : weight y + 1 ≡ weight line = subst (λ (b : Bool). weight y + cond b 1 0 ≡ weight line) true_is w in
       omega (arith, one_less xs i y line 1 lt is w', ap length e, length-append f (link ∷ []))
 
-  pub without_failed : (xs : List (Option (Outlet K))) (i : ℕ) (y line : Option (Outlet K)) (fails : Bool) (f : List Link) → i < length xs → line ≡ get_or xs i line → weight y + cond fails 1 0 ≡ weight line → fails ≡ false
+  pub without_failed :
+      (xs : List (Option (Outlet K))) (i : ℕ) (y line : Option (Outlet K)) (fails : Bool) (f : List Link) → i < length xs → line ≡ get_or xs i line
+      → weight y + cond fails 1 0 ≡ weight line → fails ≡ false
       → sum_by (λ o. weight o) (set xs i y) + length f ≡ sum_by (λ o. weight o) xs + length f
   without_failed xs i y line fails f lt is w false_is =
-      let w' : weight y + 0 ≡ weight line = subst (λ (b : Bool). weight y + cond b 1 0 ≡ weight line) false_is w in omega (arith, one_less xs i y line 0 lt is w')
+      let w' : weight y + 0 ≡ weight line = subst (λ (b : Bool). weight y + cond b 1 0 ≡ weight line) false_is w in
+      omega (arith, one_less xs i y line 0 lt is w')
 
   module _ (taken : K → Option (List ℕ)) (faults : K → ℕ) where
-    pub puts_at : (before : Board K) (link : Link) (p : List ℕ) (line next : Option (Outlet K)) (fails : Bool) (failed : List Link) → link.0 < length before.lines → line ≡ get_or before.lines link.0 line
+    pub puts_at :
+        (before : Board K) (link : Link) (p : List ℕ) (line next : Option (Outlet K)) (fails : Bool) (failed : List Link) → link.0 < length before.lines
+        → line ≡ get_or before.lines link.0 line
         → PutsLine taken faults line p next fails
         → failed ≡ cond fails (before.failed ++ link ∷ []) before.failed
         → PutsOn taken faults before link p (record { lines = set before.lines link.0 next; failed = failed; page_bytes = before.page_bytes })

@@ -34,7 +34,9 @@ none_left [] e = refl
 none_left (p ∷ ps) e = cc
 
 module _ {K : Type 0} (taken : K → Option (List ℕ)) (faults : K → ℕ) where
-  pub puts_step : (b mid b' : Board K) (parcels : List (Link × Parcel)) (link : Link) (m : Msg) (page buffer : List ℕ) → first_message parcels ≡ Some (link, m) → page ≡ first_page parcels buffer
+  pub puts_step :
+      (b mid b' : Board K) (parcels : List (Link × Parcel)) (link : Link) (m : Msg) (page buffer : List ℕ) → first_message parcels ≡ Some (link, m)
+      → page ≡ first_page parcels buffer
       → PutsOn taken faults b link (frame m (page_with m page)) mid
       → PutsAll taken faults mid (drop 1 parcels) b'
       → PutsAll taken faults b parcels b'
@@ -43,6 +45,8 @@ module _ {K : Type 0} (taken : K → Option (List ℕ)) (faults : K → ℕ) whe
       let both : (p.0, p.1.msg) ≡ (link, m) = some_is e in
       let a : p.0 ≡ link = ap (λ x. x.0) both in
       let c : p.1.msg ≡ m = ap (λ x. x.1) both in
-      let q : page_with m page ≡ page_with p.1.msg p.1.page = ap (λ x. page_with m x) is ∙ (subst (λ n. page_with n (cond (carries_page p.1.msg) p.1.page buffer) ≡ page_with p.1.msg p.1.page) c (page_kept p.1.msg p.1.page buffer)) in
+      let q : page_with m page ≡ page_with p.1.msg p.1.page =
+      ap (λ x. page_with m x) is
+      ∙ (subst (λ n. page_with n (cond (carries_page p.1.msg) p.1.page buffer) ≡ page_with p.1.msg p.1.page) c (page_kept p.1.msg p.1.page buffer)) in
       let f : frame m (page_with m page) ≡ frame_of p.1 = ap (λ x. frame m x) q ∙ ap (λ n. frame n (page_with p.1.msg p.1.page)) (sym c) in
       (mid, subst (λ l. PutsOn taken faults b l (frame_of p.1) mid) (sym a) (subst (λ x. PutsOn taken faults b link x mid) f on), all)

@@ -8,7 +8,9 @@ use Rattle.swap_node.specs.Boards.{Board, PutsAll}
 use Rattle.swap_node.specs.Office.{Told, AllTold, Gone}
 
 module _ {K : Type 0} (taken : K → Option (List ℕ)) (faults : K → ℕ) where
-  pub tell_one : (l l1 m : Lender) (b b1 mid b' : Board K) (link : Link) (parcels : List (Link × Parcel)) → b.failed ≡ link ∷ b1.failed → b1 ≡ record b { failed = b1.failed } → l1 ≡ (gone l link).lender → parcels ≡ (gone l link).parcels
+  pub tell_one :
+      (l l1 m : Lender) (b b1 mid b' : Board K) (link : Link) (parcels : List (Link × Parcel)) → b.failed ≡ link ∷ b1.failed
+      → b1 ≡ record b { failed = b1.failed } → l1 ≡ (gone l link).lender → parcels ≡ (gone l link).parcels
       → PutsAll taken faults b1 parcels mid
       → Told taken faults l1 mid m b'
       → Told taken faults l b m b'

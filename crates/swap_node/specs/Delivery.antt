@@ -10,12 +10,19 @@ use Rattle.swap_node.specs.Boards.{line_at, with_line, is_down}
 use Rattle.swap_node.specs.Office.{Office, is_welcome, Departs, Serves}
 
 module _ {K : Type 0} (taken : K → Option (List ℕ)) (faults : K → ℕ) where
-  -- the outlet of a link is given up where a put on it failed; else a message that the link may not send ends it, and one
+  -- the outlet of a link is given up where a put on it failed; else a message that the link may not send ends it, and
+  -- one
   -- that it may send is served
   abbrev pub Delivers : Office K → Link → Msg → List ℕ → Delivered K → Office K → Type 0
-  Delivers o link m page (Down outlet) now = (line_at o.board link ≡ Some outlet) × (outlet.failed ≡ true) × (now ≡ record o { board = with_line o.board link None })
-  Delivers o link m page End now = (is_down (line_at o.board link) ≡ false) × (is_welcome o.core link m page ≡ false) × Departs taken faults o link now
-  Delivers o link m page Fine now = (is_down (line_at o.board link) ≡ false) × (is_welcome o.core link m page ≡ true) × Serves taken faults o link m page now
+  Delivers o link m page (Down outlet) now =
+      (line_at o.board link ≡ Some outlet) × (outlet.failed ≡ true)
+      × (now ≡ record o { board = with_line o.board link None })
+  Delivers o link m page End now =
+      (is_down (line_at o.board link) ≡ false) × (is_welcome o.core link m page ≡ false)
+      × Departs taken faults o link now
+  Delivers o link m page Fine now =
+      (is_down (line_at o.board link) ≡ false) × (is_welcome o.core link m page ≡ true)
+      × Serves taken faults o link m page now
 
 -- one message more was delivered with it
 abbrev pub heard_one : {K : Type 0} → Delivered K → Ear → Ear

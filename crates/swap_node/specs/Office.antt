@@ -11,7 +11,8 @@ use Rattle.rand_pcg.specs.Pcg.{pcg32}
 use Rattle.swap_node.specs.Outlets.{Outlet}
 use Rattle.swap_node.specs.Boards.{Board, empty_board, with_line, fits_line, PutsAll}
 
--- how much memory the host uses itself, in slots, how many messages were taken since the last look at it, and the words to choose from
+-- how much memory the host uses itself, in slots, how many messages were taken since the last look at it, and the words
+-- to choose from
 pub record Office (K : Type 0) : Type 0 where
   pub core : Lender
   pub board : Board K
@@ -24,7 +25,8 @@ abbrev pub PERIOD : ℕ
 PERIOD = 64
 
 abbrev pub opened : {K : Type 0} → Lending → ℕ → Lcg → Office K
-opened s used words = record { core = fresh s; board = empty_board s.links s.page_bytes; used = used; since = 0; words = words }
+opened s used words =
+    record { core = fresh s; board = empty_board s.links s.page_bytes; used = used; since = 0; words = words }
 
 -- whether the page is one of the lender's, the link is there, and the lender's table lets it send this message now
 abbrev pub is_welcome : Lender → Link → Msg → List ℕ → Bool
@@ -44,24 +46,31 @@ module _ {K : Type 0} (taken : K → Option (List ℕ)) (faults : K → ℕ) whe
   -- the lender is told of each link whose put failed, one after another, and what it then sends is put likewise
   pub data Told : Lender → Board K → Lender → Board K → Type 0 where
     AllTold : (l : Lender) (b : Board K) → b.failed ≡ [] → Told l b l b
-    Gone : (l : Lender) (b : Board K) (link : Link) (rest : List Link) (mid : Board K) (l' : Lender) (b' : Board K) → b.failed ≡ link ∷ rest → PutsAll taken faults (record b { failed = rest }) (gone l link).parcels mid → Told (gone l link).lender mid l' b' → Told l b l' b'
+    Gone :
+        (l : Lender) (b : Board K) (link : Link) (rest : List Link) (mid : Board K) (l' : Lender) (b' : Board K)
+        → b.failed ≡ link ∷ rest → PutsAll taken faults (record b { failed = rest }) (gone l link).parcels mid
+        → Told (gone l link).lender mid l' b' → Told l b l' b'
 
   -- what the lender sends is put, and it is told of the links on which that failed
-  pub record Sends (l : Lender) (b : Board K) (parcels : List (Link × Parcel)) (l' : Lender) (b' : Board K) : Type 0 where
+  pub record Sends (l : Lender) (b : Board K) (parcels : List (Link × Parcel)) (l' : Lender)
+      (b' : Board K) : Type 0 where
     pub mid : Board K
     pub puts : PutsAll taken faults b parcels mid
     pub told : Told l mid l' b'
 
   -- a link is gone, and its outlet with it
   pub record Departs (o : Office K) (link : Link) (now : Office K) : Type 0 where
-    pub sends : Sends (gone o.core link).lender (with_line o.board link None) (gone o.core link).parcels now.core now.board
+    pub sends : Sends (gone o.core link).lender (with_line o.board link None)
+        (gone o.core link).parcels now.core now.board
     pub beside : IsBeside o now
 
   -- a link arrives with its outlet where that fits; an older one of its number is gone first
   pub record Arrives (o : Office K) (link : Link) (outlet : Outlet K) (now : Office K) : Type 0 where
     pub mid : Office K
     pub departs : Departs o link mid
-    pub is : now ≡ (if fits_line mid.board link outlet then record mid { core = arrived mid.core link; board = with_line mid.board link (Some outlet) } else mid)
+    pub is : now
+        ≡ (if fits_line mid.board link outlet
+        then record mid { core = arrived mid.core link; board = with_line mid.board link (Some outlet) } else mid)
 
   -- a message that the link may send is taken, and what is sent in answer is put
   pub record Takes (o : Office K) (link : Link) (m : Msg) (page : List ℕ) (now : Office K) : Type 0 where
@@ -70,7 +79,8 @@ module _ {K : Type 0} (taken : K → Option (List ℕ)) (faults : K → ℕ) whe
 
   -- the host is looked at after each 64th message
   pub record Looks (o now : Office K) : Type 0 where
-    pub sends : Sends (host o.core o.used (pcg32 o.words).0).lender o.board (host o.core o.used (pcg32 o.words).0).parcels now.core now.board
+    pub sends : Sends (host o.core o.used (pcg32 o.words).0).lender o.board
+        (host o.core o.used (pcg32 o.words).0).parcels now.core now.board
     pub used : now.used ≡ o.used
     pub since : now.since ≡ 0
     pub words : now.words ≡ (pcg32 o.words).1

@@ -29,7 +29,8 @@ impl<K: Sink + Drop> Line<K> {
     #[tactic(auto, using(crate::proofs::Puts::line_failed, crate::proofs::Puts::line_open))]
     fn put(&mut self, msg: &Msg, page: &[u8]) -> bool
         requires { IsFor (length page.now) self.old }
-        ensures puts { PutsLine K.taken K.faults self.old (frame msg.now (page_with msg.now page.now)) self.new result }
+        ensures puts { PutsLine K.taken K.faults self.old
+            (frame msg.now (page_with msg.now page.now)) self.new result }
         ensures weight { weight self.new + (if result then 1 else 0) ≡ weight self.old }
         ensures page { IsFor (length page.now) self.new }
     {
@@ -52,8 +53,8 @@ impl<K: Sink + Drop> Line<K> {
     }
 }
 
-/// The replies of each link that arrived and isn't gone, and the links on which a put failed and of which the lender wasn't
-/// told yet. All memory is taken at `make`.
+/// The replies of each link that arrived and isn't gone, and the links on which a put failed and of
+/// which the lender wasn't told yet. All memory is taken at `make`.
 #[derive(Drop)]
 pub(crate) struct Lines<K: Sink + Drop> {
     list: Vec<Line<K>>,
@@ -67,9 +68,12 @@ impl<K: Sink + Drop> Model for Lines<K> {
 
     ghost Value = { Board K };
 
-    ghost view = { λ l. record { lines = l.list.items; failed = l.failed.items; page_bytes = l.page_bytes } };
+    ghost view = { λ l.
+        record { lines = l.list.items; failed = l.failed.items; page_bytes = l.page_bytes } };
 
-    ghost invariant = { λ l. All (λ o. IsFor l.page_bytes o) l.list.items × (sum_by (λ o. weight o) l.list.items + length l.failed.items ≤ vec_capacity l.failed) × (length l.list.items ≤ vec_capacity l.failed) };
+    ghost invariant = { λ l. All (λ o. IsFor l.page_bytes o) l.list.items
+        × (sum_by (λ o. weight o) l.list.items + length l.failed.items ≤ vec_capacity l.failed)
+        × (length l.list.items ≤ vec_capacity l.failed) };
 }
 
 /// So many links without replies.
@@ -101,10 +105,12 @@ impl<K: Sink + Drop> Lines<K> {
         })
     }
 
-    /// Puts a message on a link's replies; it is dropped where the link has none or an earlier put failed.
+    /// Puts a message on a link's replies; it is dropped where the link has none or an earlier put
+    /// failed.
     pub(crate) fn put(&mut self, link: Link, msg: &Msg, page: &[u8])
         requires { length page.now ≡ self.old.page_bytes }
-        ensures puts { PutsOn K.taken K.faults self.old link (frame msg.now (page_with msg.now page.now)) self.new }
+        ensures puts { PutsOn K.taken K.faults self.old link
+            (frame msg.now (page_with msg.now page.now)) self.new }
         ensures unsettled { unsettled self.new ≡ unsettled self.old }
         ensures page_bytes { self.new.page_bytes ≡ self.old.page_bytes }
         ensures number { length self.new.lines ≡ length self.old.lines }
@@ -120,7 +126,8 @@ impl<K: Sink + Drop> Lines<K> {
 
     /// The first of the links on which a put failed.
     pub(crate) fn next_failed(&mut self) -> Option<Link>
-        ensures first { MatchOption result ((self.old.failed ≡ []) × (self.new ≡ self.old)) (λ link. self.old.failed ≡ link ∷ self.new.failed) }
+        ensures first { MatchOption result ((self.old.failed ≡ []) × (self.new ≡ self.old))
+            (λ link. self.old.failed ≡ link ∷ self.new.failed) }
         ensures rest { self.new ≡ record self.old { failed = self.new.failed } }
     {
         if self.failed.is_empty() {
@@ -132,8 +139,10 @@ impl<K: Sink + Drop> Lines<K> {
     /// Takes a link's replies out where a put on them failed.
     #[tactic(auto, using(crate::proofs::Rows::past_none, crate::proofs::Rows::past_same))]
     pub(crate) fn take_down(&mut self, link: Link) -> Option<Replies<K>>
-        ensures down { MatchOption result (is_down (line_at self.old link) ≡ false) (λ r. is_down (line_at self.old link) ≡ true) }
-        ensures replies { MatchOption result (self.new ≡ self.old) (λ r. (line_at self.old link ≡ Some r) × (self.new ≡ with_line self.old link None)) }
+        ensures down { MatchOption result (is_down (line_at self.old link) ≡ false)
+            (λ r. is_down (line_at self.old link) ≡ true) }
+        ensures replies { MatchOption result (self.new ≡ self.old)
+            (λ r. (line_at self.old link ≡ Some r) × (self.new ≡ with_line self.old link None)) }
     {
         let place = link.0 as usize;
         if place >= self.list.len() {
@@ -158,7 +167,8 @@ impl<K: Sink + Drop> Lines<K> {
         self.list[place].replies.take()
     }
 
-    /// Whether a link may have these replies: its number is one of those that there may be, and the pages fit.
+    /// Whether a link may have these replies: its number is one of those that there may be, and the
+    /// pages fit.
     pub(crate) fn fits(&self, link: Link, replies: &Replies<K>) -> bool
         ensures { result ≡ fits_line self.now link replies.now }
     {

@@ -19,7 +19,8 @@ use swap_io::Sink;
 use swap_lender::{LenderCore, Outbox, Served};
 use swap_wire::Msg;
 
-/// What has been delivered of a link: how many messages, and whether the last one ended it. It is made where the link arrives.
+/// What has been delivered of a link: how many messages, and whether the last one ended it. It is
+/// made where the link arrives.
 #[derive(Debug, Drop)]
 pub struct Ear {
     link: Link,
@@ -27,7 +28,8 @@ pub struct Ear {
     ended: bool,
 }
 
-/// What became of a message: it was served, it ended its link, or its link was lost before, as a reply couldn't be written.
+/// What became of a message: it was served, it ended its link, or its link was lost before, as a
+/// reply couldn't be written.
 #[derive(Drop)]
 pub enum Delivered<K: Sink + Drop> {
     Fine,
@@ -88,17 +90,27 @@ impl<K: Sink + Drop> Model for Node<K> {
 
     ghost Value = { Office K };
 
-    ghost view = { λ n. record { core = n.core; board = n.lines; used = n.used; since = n.since; words = n.words } };
+    ghost view = { λ n.
+        record {
+          core = n.core;
+          board = n.lines;
+          used = n.used;
+          since = n.since;
+          words = n.words;
+        } };
 
-    ghost invariant = { λ n. IsReady n.out n.core.lending × (length n.page.items ≡ n.core.lending.page_bytes) × (n.lines.page_bytes ≡ n.core.lending.page_bytes) × (n.lines.failed ≡ []) × (n.since < PERIOD) };
+    ghost invariant = { λ n. IsReady n.out n.core.lending
+        × (length n.page.items ≡ n.core.lending.page_bytes)
+        × (n.lines.page_bytes ≡ n.core.lending.page_bytes) × (n.lines.failed ≡ [])
+        × (n.since < PERIOD) };
 }
 
 /// After so many messages the host is looked at.
 const PERIOD_OF_LOOKS: u32 = 64;
 
 impl<K: Sink + Drop> Node<K> {
-    /// A lender as it is made, for so many links, whose host uses so many slots itself. The words that it chooses slots by
-    /// are those of the Pcg32 of 1.
+    /// A lender as it is made, for so many links, whose host uses so many slots itself. The words
+    /// that it chooses slots by are those of the Pcg32 of 1.
     pub fn make(
         alloc: Global,
         spec: LenderSpec,
@@ -107,9 +119,25 @@ impl<K: Sink + Drop> Node<K> {
         links: u32,
         used: u32,
     ) -> Result<Node<K>, NoMemory>
-        requires limits { IsLending (record { spec = spec; page_bytes = page_bytes; pages_per_slab = pages_per_slab; links = links }) }
+        requires limits { IsLending
+            (record {
+              spec = spec;
+              page_bytes = page_bytes;
+              pages_per_slab = pages_per_slab;
+              links = links;
+            }) }
         requires bytes { spec.slots * (pages_per_slab * page_bytes) < 2 ^ 64 }
-        ensures { IfOk result (λ n. n ≡ opened (record { spec = spec; page_bytes = page_bytes; pages_per_slab = pages_per_slab; links = links }) used (pcg32_of_seed (pcg32_seed 16 1))) }
+        ensures { IfOk result
+            (λ n. n
+            ≡ opened
+            (record {
+              spec = spec;
+              page_bytes = page_bytes;
+              pages_per_slab = pages_per_slab;
+              links = links;
+            })
+            used
+            (pcg32_of_seed (pcg32_seed 16 1))) }
     {
         let core = LenderCore::make(alloc, spec, page_bytes, pages_per_slab, links)?;
         let lines = Lines::make(alloc, links, page_bytes)?;
@@ -144,8 +172,8 @@ impl<K: Sink + Drop> Node<K> {
         );
     }
 
-    /// A link arrives, with its replies. An older link of its number is gone first. One whose number isn't below the number
-    /// of links, or whose replies are for other pages, isn't there.
+    /// A link arrives, with its replies. An older link of its number is gone first. One whose
+    /// number isn't below the number of links, or whose replies are for other pages, isn't there.
     pub fn arrive(&mut self, link: Link, replies: Replies<K>) -> Ear
         ensures ear { result ≡ record { link = link; count = 0; ended = false } }
         ensures arrives { Arrives K.taken K.faults self.old link replies self.new }
@@ -162,7 +190,11 @@ impl<K: Sink + Drop> Node<K> {
     /// The lender knows of a link from now on, and it has its replies.
     fn settle_in(&mut self, link: Link, replies: Replies<K>)
         requires { fits_line self.old.board link replies ≡ true }
-        ensures state { self.new ≡ record self.old { core = arrived self.old.core link; board = with_line self.old.board link (Some replies) } }
+        ensures state { self.new
+            ≡ record self.old {
+              core = arrived self.old.core link;
+              board = with_line self.old.board link (Some replies);
+            } }
         ensures lending { self.new.core.lending ≡ self.old.core.lending }
         ensures number { length self.new.board.lines ≡ length self.old.board.lines }
     {
@@ -174,11 +206,14 @@ impl<K: Sink + Drop> Node<K> {
 
     /// A device's message comes from the ear's link, with its page where it has one.
     ///
-    /// `Down` comes exactly where a put on the link's replies failed before; they are given up. Else `End` comes exactly
-    /// where the link isn't there or may not send the message, or the page hasn't the length of a page; it is gone then. Else the message is served, what the lender
-    /// sends is put on the links that it names, and after each 64th message the lender looks at its host.
+    /// `Down` comes exactly where a put on the link's replies failed before; they are given up.
+    /// Else `End` comes exactly where the link isn't there or may not send the message, or the page
+    /// hasn't the length of a page; it is gone then. Else the message is served, what the lender
+    /// sends is put on the links that it names, and after each 64th message the lender looks at its
+    /// host.
     pub fn deliver(&mut self, ear: &mut Ear, msg: &Msg, page: &[u8]) -> Delivered<K>
-        ensures delivers { Delivers K.taken K.faults self.old ear.old.link msg.now page.now result self.new }
+        ensures delivers { Delivers K.taken K.faults self.old ear.old.link msg.now page.now
+            result self.new }
         ensures ear { ear.new ≡ heard_one result ear.old }
         ensures lending { self.new.core.lending ≡ self.old.core.lending }
         ensures number { length self.new.board.lines ≡ length self.old.board.lines }
@@ -198,10 +233,12 @@ impl<K: Sink + Drop> Node<K> {
         Delivered::Fine
     }
 
-    /// Takes a message and puts what is sent in answer; false where the link isn't there or may not send it.
+    /// Takes a message and puts what is sent in answer; false where the link isn't there or may not
+    /// send it.
     fn take(&mut self, link: Link, msg: &Msg, page: &[u8]) -> bool
         ensures welcome { result ≡ is_welcome self.old.core link msg.now page.now }
-        ensures takes { result ≡ true → Takes K.taken K.faults self.old link msg.now page.now self.new }
+        ensures takes { result ≡ true
+            → Takes K.taken K.faults self.old link msg.now page.now self.new }
         ensures refused { result ≡ false → self.new ≡ self.old }
         ensures lending { self.new.core.lending ≡ self.old.core.lending }
         ensures number { length self.new.board.lines ≡ length self.old.board.lines }

@@ -28,7 +28,9 @@ impl<K: Sink + Drop> Model for Replies<K> {
 
     ghost view = { λ r. record { sink = r.sink; page_bytes = r.page_bytes; failed = r.failed } };
 
-    ghost invariant = { λ r. (r.frame.capacity ≡ longest r.page_bytes) × (8 ≤ r.page_bytes) × (r.page_bytes ≤ 4096) × (r.failed ≡ true → 0 < K.faults r.sink) };
+    ghost invariant = { λ r. (r.frame.capacity ≡ longest r.page_bytes) × (8 ≤ r.page_bytes)
+        × (r.page_bytes ≤ 4096)
+        × (r.failed ≡ true → 0 < K.faults r.sink) };
 }
 
 impl<K: Sink + Drop> Replies<K> {
@@ -36,7 +38,8 @@ impl<K: Sink + Drop> Replies<K> {
     pub fn make(alloc: Global, sink: K, page_bytes: u32) -> Result<Replies<K>, NoMemory>
         requires least { 8 ≤ page_bytes }
         requires most { page_bytes ≤ 4096 }
-        ensures { IfOk result (λ r. r ≡ record { sink = sink; page_bytes = page_bytes; failed = false }) }
+        ensures { IfOk result
+            (λ r. r ≡ record { sink = sink; page_bytes = page_bytes; failed = false }) }
     {
         let frame = FrameBuf::make(alloc, 13 + page_bytes as usize)?;
         Ok(Replies {
@@ -47,13 +50,18 @@ impl<K: Sink + Drop> Replies<K> {
         })
     }
 
-    /// Writes the frame of a message, with the page where it has one. After a failure, which comes only where the sink's
-    /// count of faults rose, a front of the frame was taken, and nothing more may be put.
+    /// Writes the frame of a message, with the page where it has one. After a failure, which comes
+    /// only where the sink's count of faults rose, a front of the frame was taken, and nothing more
+    /// may be put.
     pub fn put(&mut self, msg: &Msg, page: &[u8]) -> Result<(), WriteFailed>
         requires before { self.old.failed ≡ false }
         requires page { length (page_with msg.now page.now) ≤ self.old.page_bytes }
-        ensures ok { OnOk result (Appends (K.taken self.old.sink) (K.taken self.new.sink) (frame msg.now (page_with msg.now page.now))) }
-        ensures err { OnErr result (AppendsFront (K.taken self.old.sink) (K.taken self.new.sink) (frame msg.now (page_with msg.now page.now))) }
+        ensures ok { OnOk result
+            (Appends (K.taken self.old.sink) (K.taken self.new.sink)
+            (frame msg.now (page_with msg.now page.now))) }
+        ensures err { OnErr result
+            (AppendsFront (K.taken self.old.sink) (K.taken self.new.sink)
+            (frame msg.now (page_with msg.now page.now))) }
         ensures cause { HasCause (K.faults self.old.sink) (K.faults self.new.sink) result }
         ensures failed { self.new.failed ≡ is_err result }
         ensures page_bytes { self.new.page_bytes ≡ self.old.page_bytes }
@@ -71,7 +79,8 @@ impl<K: Sink + Drop> Replies<K> {
     pub(crate) fn post(&mut self, msg: &Msg, page: &[u8]) -> bool
         requires before { self.old.failed ≡ false }
         requires page { length page.now ≡ self.old.page_bytes }
-        ensures puts { Puts K.taken K.faults self.old (frame msg.now (page_with msg.now page.now)) self.new }
+        ensures puts { Puts K.taken K.faults self.old
+            (frame msg.now (page_with msg.now page.now)) self.new }
         ensures failed { result ≡ self.new.failed }
     {
         match self.put(msg, page) {

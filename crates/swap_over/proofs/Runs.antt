@@ -26,9 +26,13 @@ module _ {D F : Type 0} (disk : DiskMeaning D) (fabric : FabricMeaning F) (acts_
         let R : F → Type 0 = λ f. To [] (new t.sizes (length t.lenders)) given f in
         subst P (sym is.device) (subst Q (sym is.disk_is) (subst R (sym is.fabric_is) (record { written = []; parts = tt; run = begin; logged = refl })))
 
-    more_runs : (from : WorldOf D F) (log : List (Event × Seen)) (acts : List Act) (w : WorldOf D F) → To log from.core.device from.core.disk from.core.fabric → IsActed disk.moves fabric.moves from.core.device from.core.disk from.core.fabric acts w.core.device w.core.disk w.core.fabric
+    more_runs :
+        (from : WorldOf D F) (log : List (Event × Seen)) (acts : List Act) (w : WorldOf D F) → To log from.core.device from.core.disk from.core.fabric
+        → IsActed disk.moves fabric.moves from.core.device from.core.disk from.core.fabric acts w.core.device w.core.disk w.core.fabric
         → To (log ++ lines_of acts) w.core.device w.core.disk w.core.fabric
-    more_runs from log acts w runs acted = acts_run t.sizes (length t.lenders) given net log from.core.device from.core.disk from.core.fabric acts w.core.device w.core.disk w.core.fabric began runs acted
+    more_runs from log acts w runs acted =
+        acts_run t.sizes
+        (length t.lenders) given net log from.core.device from.core.disk from.core.fabric acts w.core.device w.core.disk w.core.fabric began runs acted
 
     run_over : (w : WorldOf D F) → To w.log w.core.device w.core.disk w.core.fabric → IsRunOver disk fabric t given net w
     run_over w runs = record {
@@ -39,14 +43,17 @@ module _ {D F : Type 0} (disk : DiskMeaning D) (fabric : FabricMeaning F) (acts_
       holds = always t.sizes (length t.lenders) given net (made_of runs.written) w.core.device w.core.disk w.core.fabric began runs.run;
     }
 
-    played_over : (number : ℕ) (first w : WorldOf D F) → IsFirstOver t given net first → IsPlayedOut disk.moves fabric.moves t number first w → IsRunOver disk fabric t given net w
+    played_over :
+        (number : ℕ) (first w : WorldOf D F) → IsFirstOver t given net first → IsPlayedOut disk.moves fabric.moves t number first w
+        → IsRunOver disk fabric t given net w
     played_over number first w is played =
         let mid = played.connected in
         let connects = played.connects.works.makes in
         let carried = played.carried.acted.makes in
         let mid_log : mid.log ≡ [] ++ lines_of played.connects.acts = connects.logged ∙ ap (λ l. l ++ lines_of played.connects.acts) is.log in
         let P : List (Event × Seen) → Type 0 = λ l. To l mid.core.device mid.core.disk mid.core.fabric in
-        let connected : To mid.log mid.core.device mid.core.disk mid.core.fabric = subst P (sym mid_log) (more_runs first [] played.connects.acts mid (first_runs first is) connects.acted) in
+        let connected : To mid.log mid.core.device mid.core.disk mid.core.fabric =
+        subst P (sym mid_log) (more_runs first [] played.connects.acts mid (first_runs first is) connects.acted) in
         let Q : List (Event × Seen) → Type 0 = λ l. To l w.core.device w.core.disk w.core.fabric in
         run_over w (subst Q (sym carried.logged) (more_runs mid mid.log played.carried.acted.acts w connected carried.acted))
 

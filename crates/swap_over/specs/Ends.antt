@@ -30,7 +30,8 @@ transcript_over t w = transcript t.sizes t.lenders w.log w.core.device.history
 
 module _ {D F : Type 0} (disk : DiskMeaning D) (fabric : FabricMeaning F) (t : Script) (number : ℕ) (given : D)
     (net : F) (out : Stream) where
-  -- a trace was played and out took its transcript, and nothing else; a call failed or none did; and the ports are as the
+  -- a trace was played and out took its transcript, and nothing else; a call failed or none did; and the ports are as
+  -- the
   -- run left them
   pub record PlayedOver (with_fault : Bool) (back : D × F) : Type 0 where
     pub world : WorldOf D F
@@ -47,7 +48,8 @@ module _ {D F : Type 0} (disk : DiskMeaning D) (fabric : FabricMeaning F) (t : S
     pub wrote : AppendsFront out.before out.now (transcript_over t world)
     pub failed : Failed out
 
-  -- what holds where it ends so, with these ports; for want of memory the ports come back as they were given, or not at all
+  -- what holds where it ends so, with these ports; for want of memory the ports come back as they were given, or not at
+  -- all
   abbrev pub OverEnds : Ending → Option (D × F) → Type 0
   OverEnds ending.Done (Some back) = PlayedOver false back
   OverEnds ending.Faulted (Some back) = PlayedOver true back

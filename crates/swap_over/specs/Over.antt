@@ -16,10 +16,14 @@ pub record IsFirstOver {D F : Type 0} (t : Script) (disk : D) (fabric : F) (w : 
   pub fabric_is : w.core.fabric ≡ fabric
   pub log : w.log ≡ []
 
--- The machine's run behind a played world, from the ports as they were given to the ports as they are: what had an effect,
--- a Round by its parts, with what was seen of it. The log is its. The history is ordered; each page-in gives what it may:
--- from nowhere, the queue, and a disk that tells its blocks its page's content, from a lender what answers it; it holds each
--- caller's answered calls once, in its order; and it is exactly the entries that were seen, each failure with its cause.
+-- The machine's run behind a played world, from the ports as they were given to the ports as they are: what had an
+-- effect,
+-- a Round by its parts, with what was seen of it. The log is its. The history is ordered; each page-in gives what it
+-- may:
+-- from nowhere, the queue, and a disk that tells its blocks its page's content, from a lender what answers it; it holds
+-- each
+-- caller's answered calls once, in its order; and it is exactly the entries that were seen, each failure with its
+-- cause.
 pub record IsRunOver {D F : Type 0} (disk : DiskMeaning D) (fabric : FabricMeaning F) (t : Script) (given : D) (net : F)
     (w : WorldOf D F) : Type 0 where
   pub written : List Written

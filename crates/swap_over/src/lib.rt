@@ -11,8 +11,9 @@ use swap_play::acts_are_runs;
 use swap_wire::Fabric;
 use swap_world::over_any_ports;
 
-/// Over any disk that was blank and any links: what a trace's threads made is a run of the machine from the ports as they
-/// were given to the ports as they are, and what holds after every run holds of its history.
+/// Over any disk that was blank and any links: what a trace's threads made is a run of the machine
+/// from the ports as they were given to the ports as they are, and what holds after every run holds
+/// of its history.
 pub fn plays_are_runs<D: DiskPort, F: Fabric>()
     ensures { PlaysAreRuns D.DiskPort F.Fabric }
 {

@@ -41,11 +41,13 @@ fn show<D: DiskPort, F: Fabric, K: Sink>(
     }
 }
 
-/// Plays a trace over a disk and links of any kind, and writes the transcript of the log. The disk is one of the trace's
-/// sizes that nothing was asked of, and the links are as they are made for its lenders. They come back as the run left
-/// them; for want of memory they come back as they were given, or are dropped.
+/// Plays a trace over a disk and links of any kind, and writes the transcript of the log. The disk
+/// is one of the trace's sizes that nothing was asked of, and the links are as they are made for
+/// its lenders. They come back as the run left them; for want of memory they come back as they were
+/// given, or are dropped.
 ///
-/// It waits: its promise holds if it returns. `WriteFailed` comes only where the count of `out` rose in this call, and
+/// It waits: its promise holds if it returns. `WriteFailed` comes only where the count of `out`
+/// rose in this call, and
 /// `Faulted` exactly where a call failed of what was played.
 pub fn play_over<
     D: DiskPort + Drop + Send,
@@ -65,8 +67,10 @@ pub fn play_over<
 ) -> (Ending, Option<(D, F)>)
     requires trace { IsTrace trace.now }
     requires disk { IsBlank trace.now.sizes (D.means disk) }
-    requires fabric { F.fresh fabric (record { sizes = trace.now.sizes; lenders = length trace.now.lenders }) }
-    ensures ends { OverEnds D.DiskPort F.Fabric trace.now number disk fabric (written_to K.Sink out.old out.new) result.0 result.1 }
+    requires fabric { F.fresh fabric
+        (record { sizes = trace.now.sizes; lenders = length trace.now.lenders }) }
+    ensures ends { OverEnds D.DiskPort F.Fabric trace.now number disk fabric
+        (written_to K.Sink out.old out.new) result.0 result.1 }
     ensures later { K.faults out.old ≤ K.faults out.new }
 {
     plays_are_runs::<D, F>();

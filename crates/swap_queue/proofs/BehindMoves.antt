@@ -31,7 +31,9 @@ module _ (s : Sizes) (cells : List Kept) (line : List Page) (page : Page) (lt : 
   flying_is = ap (λ (x : Places). x.flying) (places_of_cells s cells line page lt)
 
 -- the only copy of its kind is a used cell's
-pub some_here : (k : Bool) (p : ℕ) (cells : List Kept) (i : ℕ) → count_for k p cells ≤ 1 → i < length cells → is_for k p (cell_at cells i) ≡ true → is_some (copy_in k p cells) ≡ true
+pub some_here :
+    (k : Bool) (p : ℕ) (cells : List Kept) (i : ℕ) → count_for k p cells ≤ 1 → i < length cells → is_for k p (cell_at cells i) ≡ true
+    → is_some (copy_in k p cells) ≡ true
 some_here k p cells i single at e =
     ap is_some (copy_in-here k p cells i single at e) ∙ copy_used (cell_at cells i).bytes (cell_at cells i).held (used_for k p (cell_at cells i).held e)
 
@@ -40,7 +42,8 @@ pub two_places : (f g n m : Option Copy) → f ≡ g → n ≡ m → ◌≡◌ {
 two_places f g n m e h = let F : Option Copy → Option Copy → Places = λ f n. record { flying = f; next = n } in ap (λ x. F x n) e ∙ ap (λ x. F g x) h
 
 module _ (s : Sizes) (cells : List Kept) (line : List Page) (page : Page) (entry : EntryNo) (bytes : List ℕ) (i : ℕ)
-    (h : Fits s cells line) (lt : page.0 < pages_of s) (fills : length bytes ≡ s.page_bytes) (room : has_room (queue_in s cells line) page ≡ true) (place : IsPlaceFor cells page.0 i) where
+    (h : Fits s cells line) (lt : page.0 < pages_of s) (fills : length bytes ≡ s.page_bytes) (room : has_room (queue_in s cells line) page ≡ true)
+    (place : IsPlaceFor cells page.0 i) where
   abbrev q : Queue
   q = queue_in s cells line
 
@@ -95,9 +98,12 @@ module _ (s : Sizes) (cells : List Kept) (line : List Page) (page : Page) (entry
   put_moves =
       let here = two_places (copy_in true page.0 (set cells i new)) (flying q page) (copy_in false page.0 (set cells i new)) (Some copy) put_here put_next in
       record {
-        is = queue_in-set s cells i new page (record { flying = flying q page; next = Some copy }) put_others here (longer line page (is_none (newest q page))) lt;
+        is =
+            queue_in-set s cells i new page (record { flying = flying q page; next = Some copy }) put_others here
+            (longer line page (is_none (newest q page))) lt;
         fits =
-            fits_after s cells i new page (record { flying = flying q page; next = Some copy }) put_others here line (longer line page (is_none (newest q page))) h lt place.0 fills put_single put_used
+            fits_after s cells i new page (record { flying = flying q page; next = Some copy }) put_others here line
+            (longer line page (is_none (newest q page))) h lt place.0 fills put_single put_used
             (omega (arith, length-longer line page (is_none (newest q page)), put_waits (flying q page) (next q page) copy))
             (put_keeps s q page copy h.queue lt fills room).0;
       }

@@ -13,12 +13,14 @@ use Rattle.swap_queue.proofs.Copies.{cell_at, count_for, one, copy_in-same, sing
 abbrev none : Places
 none = record { flying = None; next = None }
 
-pub places_of_cells : (s : Sizes) (cells : List Kept) (line : List Page) (page : Page) → page.0 < pages_of s → places_of (queue_in s cells line) page ≡ places_at cells page.0
+pub places_of_cells :
+    (s : Sizes) (cells : List Kept) (line : List Page) (page : Page) → page.0 < pages_of s → places_of (queue_in s cells line) page ≡ places_at cells page.0
 places_of_cells s cells line page lt = get_or-map-range_with_len (λ p. places_at cells p) 0 (pages_of s) page.0 page.0 none lt (omega arith)
 
 -- a cell that is for one page changes that page's places alone
 module _ (s : Sizes) (cells : List Kept) (i : ℕ) (c : Kept) (page : Page) (pl : Places)
-    (others : (k : Bool) (p : ℕ) → p ≢ page.0 → (is_for k p (cell_at cells i) ≡ false) × (is_for k p c ≡ false)) (here : places_at (set cells i c) page.0 ≡ pl) where
+    (others : (k : Bool) (p : ℕ) → p ≢ page.0 → (is_for k p (cell_at cells i) ≡ false) × (is_for k p c ≡ false))
+    (here : places_at (set cells i c) page.0 ≡ pl) where
   others_same : (p : ℕ) → p ≢ page.0 → places_at (set cells i c) p ≡ places_at cells p
   others_same p ne =
       let flies : copy_in true p (set cells i c) ≡ copy_in true p cells = copy_in-same true p cells i c (others true p ne).0 (others true p ne).1 in
@@ -39,10 +41,14 @@ module _ (s : Sizes) (cells : List Kept) (i : ℕ) (c : Kept) (page : Page) (pl 
       ∙ ⊎_elim
       (λ (e : p ≡ page.0).
       ap (λ q. places_at (set cells i c) q) e ∙ here
-      ∙ sym (ap (λ q. get_or (set (places_in (pages_of s) cells) page.0 pl) q none) e ∙ get_or-set_same (places_in (pages_of s) cells) page.0 pl none (omega (arith, l, lt))))
+      ∙ sym
+      (ap (λ q. get_or (set (places_in (pages_of s) cells) page.0 pl) q none) e
+      ∙ get_or-set_same (places_in (pages_of s) cells) page.0 pl none (omega (arith, l, lt))))
       (λ (ne : p ≢ page.0).
       others_same p ne
-      ∙ sym (get_or-set_other (places_in (pages_of s) cells) page.0 p pl none ne ∙ get_or-map-range_with_len (λ q. places_at cells q) 0 (pages_of s) p p none at (omega arith)))
+      ∙ sym
+      (get_or-set_other (places_in (pages_of s) cells) page.0 p pl none ne
+      ∙ get_or-map-range_with_len (λ q. places_at cells q) 0 (pages_of s) p p none at (omega arith)))
       (cases_eq p page.0))
 
   -- a queue with new places for the page and another line
@@ -67,10 +73,27 @@ module _ (s : Sizes) (cells : List Kept) (i : ℕ) (c : Kept) (page : Page) (pl 
         room = length-set cells i c ∙ h.room;
         sized = λ j within.
             ⊎_elim
-            (λ (e : j ≡ i). ap (λ k. length (get_or (set cells i c) k free_cell).bytes) e ∙ ap (λ (x : Kept). length x.bytes) (get_or-set_same cells i c free_cell at) ∙ bytes)
-            (λ (ne : j ≢ i). ap (λ (x : Kept). length x.bytes) (get_or-set_other cells i j c free_cell ne) ∙ h.sized j (omega (arith, length-set cells i c, within)))
+            (λ (e : j ≡ i). ap (λ k. length (get_or (set cells i c) k free_cell).bytes) e
+            ∙ ap (λ (x : Kept). length x.bytes) (get_or-set_same cells i c free_cell at) ∙ bytes)
+            (λ (ne : j ≢ i). ap (λ (x : Kept). length x.bytes) (get_or-set_other cells i j c free_cell ne)
+            ∙ h.sized j (omega (arith, length-set cells i c, within)))
             (cases_eq j i);
         single = single_after cells i c at h.single only;
-        used = omega (arith, sum_by-set (λ (x : Kept). one (is_used x)) cells i c free_cell at, h.used, used, sum_by-set copies_at (places_in (pages_of s) cells) page.0 pl none (omega (arith, l, lt)), ap (λ ps. sum_by copies_at ps) (places_in-set lt));
-        waiting = omega (arith, h.waiting, more, sum_by-set w (places_in (pages_of s) cells) page.0 pl none (omega (arith, l, lt)), ap (λ ps. sum_by w ps) (places_in-set lt));
+        used =
+            omega (
+              arith,
+              sum_by-set (λ (x : Kept). one (is_used x)) cells i c free_cell at,
+              h.used,
+              used,
+              sum_by-set copies_at (places_in (pages_of s) cells) page.0 pl none (omega (arith, l, lt)),
+              ap (λ ps. sum_by copies_at ps) (places_in-set lt),
+            );
+        waiting =
+            omega (
+              arith,
+              h.waiting,
+              more,
+              sum_by-set w (places_in (pages_of s) cells) page.0 pl none (omega (arith, l, lt)),
+              ap (λ ps. sum_by w ps) (places_in-set lt),
+            );
       }

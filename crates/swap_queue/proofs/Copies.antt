@@ -20,20 +20,25 @@ count_for-cons k p x xs b e = sum_by-cons (λ (c : Kept). one (is_for k p c)) x 
 one_at : (k : Bool) (p : ℕ) (xs : List Kept) (i : ℕ) → i < length xs → is_for k p (cell_at xs i) ≡ true → 1 ≤ count_for k p xs
 one_at k p xs i lt e = omega (arith, get_or-le-sum_by (λ (c : Kept). one (is_for k p c)) xs i free_cell lt, ap one e)
 
-pub copy_in-same : (k : Bool) (p : ℕ) (xs : List Kept) (i : ℕ) (c : Kept) → is_for k p (cell_at xs i) ≡ false → is_for k p c ≡ false → copy_in k p (set xs i c) ≡ copy_in k p xs
+pub copy_in-same :
+    (k : Bool) (p : ℕ) (xs : List Kept) (i : ℕ) (c : Kept) → is_for k p (cell_at xs i) ≡ false → is_for k p c ≡ false
+    → copy_in k p (set xs i c) ≡ copy_in k p xs
 copy_in-same k p [] i c e f = refl
 copy_in-same k p (x ∷ xs) zero c e f = cond-false (is_for k p c) (copy_of c) (copy_in k p xs) f ∙ sym (cond-false (is_for k p x) (copy_of x) (copy_in k p xs) e)
 copy_in-same k p (x ∷ xs) (suc i) c e f = ap (λ r. if is_for k p x then copy_of x else r) (copy_in-same k p xs i c e f)
 
 -- the only copy of its kind is found wherever it is
-pub copy_in-here : (k : Bool) (p : ℕ) (xs : List Kept) (i : ℕ) → count_for k p xs ≤ 1 → i < length xs → is_for k p (cell_at xs i) ≡ true → copy_in k p xs ≡ copy_of (cell_at xs i)
+pub copy_in-here :
+    (k : Bool) (p : ℕ) (xs : List Kept) (i : ℕ) → count_for k p xs ≤ 1 → i < length xs → is_for k p (cell_at xs i) ≡ true
+    → copy_in k p xs ≡ copy_of (cell_at xs i)
 copy_in-here k p [] i le lt e = absurd (omega arith)
 copy_in-here k p (x ∷ xs) zero le lt e = cond-true (is_for k p x) (copy_of x) (copy_in k p xs) e
 copy_in-here k p (x ∷ xs) (suc i) le lt e =
     let within : i < length xs = omega arith in
     ⊎_elim
     (λ (t : is_for k p x ≡ true). absurd (omega (arith, count_for-cons k p x xs true t, one_at k p xs i within e)))
-    (λ (t : is_for k p x ≡ false). cond-false (is_for k p x) (copy_of x) (copy_in k p xs) t ∙ copy_in-here k p xs i (omega (arith, count_for-cons k p x xs false t)) within e)
+    (λ (t : is_for k p x ≡ false). cond-false (is_for k p x) (copy_of x) (copy_in k p xs) t
+    ∙ copy_in-here k p xs i (omega (arith, count_for-cons k p x xs false t)) within e)
     (cases_Bool (is_for k p x))
 
 pub copy_in-none : (k : Bool) (p : ℕ) (xs : List Kept) → count_for k p xs ≡ 0 → copy_in k p xs ≡ None
@@ -41,7 +46,8 @@ copy_in-none k p [] none = refl
 copy_in-none k p (x ∷ xs) none =
     ⊎_elim
     (λ (t : is_for k p x ≡ true). absurd (omega (arith, count_for-cons k p x xs true t)))
-    (λ (t : is_for k p x ≡ false). cond-false (is_for k p x) (copy_of x) (copy_in k p xs) t ∙ copy_in-none k p xs (omega (arith, count_for-cons k p x xs false t)))
+    (λ (t : is_for k p x ≡ false). cond-false (is_for k p x) (copy_of x) (copy_in k p xs) t
+    ∙ copy_in-none k p xs (omega (arith, count_for-cons k p x xs false t)))
     (cases_Bool (is_for k p x))
 
 -- a cell that is for a page has a copy
@@ -54,23 +60,33 @@ none_for k p [] none = refl
 none_for k p (x ∷ xs) none =
     ⊎_elim
     (λ (t : is_for k p x ≡ true). absurd (copy_some k p x.bytes x.held t (sym (cond-true (is_for k p x) (copy_of x) (copy_in k p xs) t) ∙ none)))
-    (λ (t : is_for k p x ≡ false). omega (arith, count_for-cons k p x xs false t, none_for k p xs (sym (cond-false (is_for k p x) (copy_of x) (copy_in k p xs) t) ∙ none)))
+    (λ (t : is_for k p x ≡ false).
+    omega (arith, count_for-cons k p x xs false t, none_for k p xs (sym (cond-false (is_for k p x) (copy_of x) (copy_in k p xs) t) ∙ none)))
     (cases_Bool (is_for k p x))
 
-pub copy_in-gone : (k : Bool) (p : ℕ) (xs : List Kept) (i : ℕ) (c : Kept) → count_for k p xs ≤ 1 → i < length xs → is_for k p (cell_at xs i) ≡ true → is_for k p c ≡ false → copy_in k p (set xs i c) ≡ None
+pub copy_in-gone :
+    (k : Bool) (p : ℕ) (xs : List Kept) (i : ℕ) (c : Kept) → count_for k p xs ≤ 1 → i < length xs → is_for k p (cell_at xs i) ≡ true → is_for k p c ≡ false
+    → copy_in k p (set xs i c) ≡ None
 copy_in-gone k p xs i c le lt e f =
     copy_in-none k p (set xs i c) (omega (arith, sum_by-set (λ (c : Kept). one (is_for k p c)) xs i c free_cell lt, ap one e, ap one f))
 
-pub count_after : (k : Bool) (p : ℕ) (xs : List Kept) (i : ℕ) (c : Kept) → i < length xs → is_for k p c ≡ true → count_for k p xs ≤ one (is_for k p (cell_at xs i)) → count_for k p (set xs i c) ≤ 1
+pub count_after :
+    (k : Bool) (p : ℕ) (xs : List Kept) (i : ℕ) (c : Kept) → i < length xs → is_for k p c ≡ true → count_for k p xs ≤ one (is_for k p (cell_at xs i))
+    → count_for k p (set xs i c) ≤ 1
 count_after k p xs i c lt e le = omega (arith, sum_by-set (λ (c : Kept). one (is_for k p c)) xs i c free_cell lt, ap one e, le)
 
-pub copy_in-new : (k : Bool) (p : ℕ) (xs : List Kept) (i : ℕ) (c : Kept) → i < length xs → is_for k p c ≡ true → count_for k p xs ≤ one (is_for k p (cell_at xs i)) → copy_in k p (set xs i c) ≡ copy_of c
+pub copy_in-new :
+    (k : Bool) (p : ℕ) (xs : List Kept) (i : ℕ) (c : Kept) → i < length xs → is_for k p c ≡ true → count_for k p xs ≤ one (is_for k p (cell_at xs i))
+    → copy_in k p (set xs i c) ≡ copy_of c
 copy_in-new k p xs i c lt e le =
     let there : cell_at (set xs i c) i ≡ c = get_or-set_same xs i c free_cell lt in
-    copy_in-here k p (set xs i c) i (count_after k p xs i c lt e le) (omega (arith, length-set xs i c, lt)) (ap (λ x. is_for k p x) there ∙ e) ∙ ap copy_of there
+    copy_in-here k p (set xs i c) i (count_after k p xs i c lt e le) (omega (arith, length-set xs i c, lt)) (ap (λ x. is_for k p x) there ∙ e)
+    ∙ ap copy_of there
 
 -- no page has two copies of one kind, before and after
-pub single_after : (xs : List Kept) (i : ℕ) (c : Kept) → i < length xs → ((k : Bool) (p : ℕ) → count_for k p xs ≤ 1) → ((k : Bool) (p : ℕ) → is_for k p c ≡ true → count_for k p xs ≤ one (is_for k p (cell_at xs i)))
+pub single_after :
+    (xs : List Kept) (i : ℕ) (c : Kept) → i < length xs → ((k : Bool) (p : ℕ) → count_for k p xs ≤ 1)
+    → ((k : Bool) (p : ℕ) → is_for k p c ≡ true → count_for k p xs ≤ one (is_for k p (cell_at xs i)))
     → (k : Bool) (p : ℕ) → count_for k p (set xs i c) ≤ 1
 single_after xs i c lt single only k p =
     ⊎_elim
@@ -81,11 +97,13 @@ single_after xs i c lt single only k p =
 -- a held copy is of one page and of one kind
 pub of_one_page : (k j : Bool) (p q : ℕ) (held : Option Held) → is_held_for j q held ≡ true → p ≢ q → is_held_for k p held ≡ false
 of_one_page k j p q None e ne = refl
-of_one_page k j p q (Some h) e ne = and_right (same k h.flying) (h.page.0 == p) (ne_eqb h.page.0 p (λ f. ne (sym f ∙ eqb-true h.page.0 q (and_parts (same j h.flying) (h.page.0 == q) e).1)))
+of_one_page k j p q (Some h) e ne =
+    and_right (same k h.flying) (h.page.0 == p) (ne_eqb h.page.0 p (λ f. ne (sym f ∙ eqb-true h.page.0 q (and_parts (same j h.flying) (h.page.0 == q) e).1)))
 
 pub flying_page : (k j b : Bool) (p q : ℕ) (held : Option Held) → is_held_for j q held ≡ true → p ≢ q → is_held_for k p (with_flying b held) ≡ false
 flying_page k j b p q None e ne = refl
-flying_page k j b p q (Some h) e ne = and_right (same k b) (h.page.0 == p) (ne_eqb h.page.0 p (λ f. ne (sym f ∙ eqb-true h.page.0 q (and_parts (same j h.flying) (h.page.0 == q) e).1)))
+flying_page k j b p q (Some h) e ne =
+    and_right (same k b) (h.page.0 == p) (ne_eqb h.page.0 p (λ f. ne (sym f ∙ eqb-true h.page.0 q (and_parts (same j h.flying) (h.page.0 == q) e).1)))
 
 other_kind_of : (k b : Bool) → same k b ≡ true → same (not k) b ≡ false
 other_kind_of true true e = refl

@@ -22,14 +22,18 @@ none_of_some None e = refl
 none_of_some (Some x) e = absurd (false≢true (sym e))
 
 -- a copy is found exactly where the page has one
-found_of : (k : Bool) (p : ℕ) (cells : List Kept) → count_for k p cells ≤ 1 → (o : Option ℕ) → position (is_for k p) cells ≡ o → is_some o ≡ is_some (copy_in k p cells)
+found_of :
+    (k : Bool) (p : ℕ) (cells : List Kept) → count_for k p cells ≤ 1 → (o : Option ℕ) → position (is_for k p) cells ≡ o
+    → is_some o ≡ is_some (copy_in k p cells)
 found_of k p cells single None e = sym (ap is_some (copy_in-none k p cells (count_none (is_for k p) cells e)))
-found_of k p cells single (Some i) e = let at = position-Some (is_for k p) cells i (record { held = None; bytes = [] }) e in sym (some_here k p cells i single at.0 at.1)
+found_of k p cells single (Some i) e =
+    let at = position-Some (is_for k p) cells i (record { held = None; bytes = [] }) e in sym (some_here k p cells i single at.0 at.1)
 
 pub found_is : (k : Bool) (p : ℕ) (cells : List Kept) → count_for k p cells ≤ 1 → is_some (position (is_for k p) cells) ≡ is_some (copy_in k p cells)
 found_is k p cells single = found_of k p cells single (position (is_for k p) cells) refl
 
-module _ (s : Sizes) (cells : List Kept) (page : Page) (rest : List Page) (i : ℕ) (h : Fits s cells (page ∷ rest)) (found : position (is_for false page.0) cells ≡ Some i) where
+module _ (s : Sizes) (cells : List Kept) (page : Page) (rest : List Page) (i : ℕ) (h : Fits s cells (page ∷ rest))
+    (found : position (is_for false page.0) cells ≡ Some i) where
   abbrev q : Queue
   q = queue_in s cells (page ∷ rest)
 
@@ -68,7 +72,8 @@ module _ (s : Sizes) (cells : List Kept) (page : Page) (rest : List Page) (i : �
   start_here : copy_in true page.0 (set cells i sent) ≡ next q page
   start_here =
       let e : is_for true page.0 sent ≡ true = turned false true page.0 old.held at.1 in
-      copy_in-new true page.0 cells i sent at.0 e (start_single true page.0 e) ∙ copy-turned true old.bytes old.held ∙ sym (copy_in-here false page.0 cells i (h.single false page.0) at.0 at.1)
+      copy_in-new true page.0 cells i sent at.0 e (start_single true page.0 e) ∙ copy-turned true old.bytes old.held
+      ∙ sym (copy_in-here false page.0 cells i (h.single false page.0) at.0 at.1)
       ∙ sym (next_is s cells (page ∷ rest) page in_range)
 
   start_used : one (is_used sent) + copies_at (places_of q page) ≡ one (is_used old) + copies_at away
@@ -78,7 +83,9 @@ module _ (s : Sizes) (cells : List Kept) (page : Page) (rest : List Page) (i : �
 
   pub start_moves : Moved s (set cells i sent) rest (start q)
   start_moves =
-      let here = two_places (copy_in true page.0 (set cells i sent)) (next q page) (copy_in false page.0 (set cells i sent)) None start_here (copy_in-gone false page.0 cells i sent (h.single false page.0) at.0 at.1 (turned_away true page.0 old.held)) in
+      let here =
+      two_places (copy_in true page.0 (set cells i sent)) (next q page) (copy_in false page.0 (set cells i sent)) None start_here
+      (copy_in-gone false page.0 cells i sent (h.single false page.0) at.0 at.1 (turned_away true page.0 old.held)) in
       record {
         is = queue_in-set s cells i sent page away start_others here rest in_range;
         fits =
@@ -87,7 +94,8 @@ module _ (s : Sizes) (cells : List Kept) (page : Page) (rest : List Page) (i : �
             (start_keeps_of s q (page ∷ rest) refl h.queue);
       }
 
-module _ (s : Sizes) (cells : List Kept) (line : List Page) (page : Page) (i : ℕ) (h : Fits s cells line) (some : IsSome (flying (queue_in s cells line) page)) (found : position (is_for true page.0) cells ≡ Some i) where
+module _ (s : Sizes) (cells : List Kept) (line : List Page) (page : Page) (i : ℕ) (h : Fits s cells line) (some : IsSome (flying (queue_in s cells line) page))
+    (found : position (is_for true page.0) cells ≡ Some i) where
   abbrev q' : Queue
   q' = queue_in s cells line
 
@@ -110,15 +118,21 @@ module _ (s : Sizes) (cells : List Kept) (line : List Page) (page : Page) (i : �
   drop_others : (k : Bool) (p : ℕ) → p ≢ page.0 → (is_for k p flew ≡ false) × (is_for k p dropped ≡ false)
   drop_others k p ne = (of_one_page k true p page.0 flew.held at'.1 ne, refl)
 
-  drop_moves : (m : Option Copy) (w : Bool) → next q' page ≡ m → one_if w + one_if (waits q' page) ≡ one_if (waits_at (record { flying = None; next = m })) → IsQueue s (with_places q' page (record { flying = None; next = m }) w)
+  drop_moves :
+      (m : Option Copy) (w : Bool) → next q' page ≡ m → one_if w + one_if (waits q' page) ≡ one_if (waits_at (record { flying = None; next = m }))
+      → IsQueue s (with_places q' page (record { flying = None; next = m }) w)
       → Moved s (set cells i dropped) (longer line page w) (with_places q' page (record { flying = None; next = m }) w)
   drop_moves m w e more kept =
-      let next_same : copy_in false page.0 (set cells i dropped) ≡ m = copy_in-same false page.0 cells i dropped (of_one_kind true page.0 flew.held at'.1) refl ∙ sym (next_is s cells line page in_range') ∙ e in
-      let here = two_places (copy_in true page.0 (set cells i dropped)) None (copy_in false page.0 (set cells i dropped)) m (copy_in-gone true page.0 cells i dropped (h.single true page.0) at'.0 at'.1 refl) next_same in
+      let next_same : copy_in false page.0 (set cells i dropped) ≡ m =
+      copy_in-same false page.0 cells i dropped (of_one_kind true page.0 flew.held at'.1) refl ∙ sym (next_is s cells line page in_range') ∙ e in
+      let here =
+      two_places (copy_in true page.0 (set cells i dropped)) None (copy_in false page.0 (set cells i dropped)) m
+      (copy_in-gone true page.0 cells i dropped (h.single true page.0) at'.0 at'.1 refl) next_same in
       record {
         is = queue_in-set s cells i dropped page (record { flying = None; next = m }) drop_others here (longer line page w) in_range';
         fits =
-            fits_after s cells i dropped page (record { flying = None; next = m }) drop_others here line (longer line page w) h in_range' at'.0 (h.sized i at'.0) (λ k p t. absurd (false≢true t))
+            fits_after s cells i dropped page (record { flying = None; next = m }) drop_others here line (longer line page w) h in_range' at'.0
+            (h.sized i at'.0) (λ k p t. absurd (false≢true t))
             (omega (arith, ap one (used_for true page.0 flew.held at'.1), some_one, ap (λ (o : Option Copy). one_if (is_some o)) e))
             (omega (arith, length-longer line page w, more)) kept;
       }
@@ -156,22 +170,35 @@ module _ (s : Sizes) (cells : List Kept) (line : List Page) (page : Page) (i : �
     keep_here : copy_in false page.0 (set cells i back) ≡ newest q' page
     keep_here =
         let e : is_for false page.0 back ≡ true = turned true false page.0 flew.held at'.1 in
-        copy_in-new false page.0 cells i back at'.0 e (keep_single false page.0 e) ∙ copy-turned false flew.bytes flew.held ∙ sym (copy_in-here true page.0 cells i (h.single true page.0) at'.0 at'.1)
+        copy_in-new false page.0 cells i back at'.0 e (keep_single false page.0 e) ∙ copy-turned false flew.bytes flew.held
+        ∙ sym (copy_in-here true page.0 cells i (h.single true page.0) at'.0 at'.1)
         ∙ sym (flying_is s cells line page in_range')
         ∙ first_none (next q' page) (flying q' page) alone
 
     keep_moves : Moved s (set cells i back) (longer line page true) (failed q' page)
     keep_moves =
-        let here = two_places (copy_in true page.0 (set cells i back)) None (copy_in false page.0 (set cells i back)) (newest q' page) (copy_in-gone true page.0 cells i back (h.single true page.0) at'.0 at'.1 (turned_away false page.0 flew.held)) keep_here in
+        let here =
+        two_places (copy_in true page.0 (set cells i back)) None (copy_in false page.0 (set cells i back)) (newest q' page)
+        (copy_in-gone true page.0 cells i back (h.single true page.0) at'.0 at'.1 (turned_away false page.0 flew.held)) keep_here in
         record {
           is = queue_in-set s cells i back page (record { flying = None; next = newest q' page }) keep_others here (longer line page true) in_range';
           fits =
-              fits_after s cells i back page (record { flying = None; next = newest q' page }) keep_others here line (longer line page true) h in_range' at'.0 (h.sized i at'.0) keep_single
-              (omega
-              (arith, ap one (used_turned false flew.held), some_one, ap one_if alone, ap (λ (o : Option Copy). one_if (is_some o)) (sym (first_none (next q' page) (flying q' page) alone))))
+              fits_after s cells i back page (record { flying = None; next = newest q' page }) keep_others here line (longer line page true) h in_range' at'.0
+              (h.sized i at'.0) keep_single
+              (omega (
+                arith,
+                ap one (used_turned false flew.held),
+                some_one,
+                ap one_if alone,
+                ap (λ (o : Option Copy). one_if (is_some o)) (sym (first_none (next q' page) (flying q' page) alone)),
+              ))
               (omega (arith, length-longer line page true, failed_waits (flying q' page) (next q' page) some)) (failed_keeps s q' page h.queue some).0;
         }
 
-  pub failed_moves : (newer : Bool) → newer ≡ is_some (next q' page) → Moved s (set cells i (record { held = landed (not newer) flew.held; bytes = flew.bytes })) (longer line page true) (failed q' page)
-  failed_moves true e = drop_moves (newest q' page) true (first_some (next q' page) (flying q' page) (sym e)) (failed_waits (flying q' page) (next q' page) some) (failed_keeps s q' page h.queue some).0
+  pub failed_moves :
+      (newer : Bool) → newer ≡ is_some (next q' page)
+      → Moved s (set cells i (record { held = landed (not newer) flew.held; bytes = flew.bytes })) (longer line page true) (failed q' page)
+  failed_moves true e =
+      drop_moves (newest q' page) true (first_some (next q' page) (flying q' page) (sym e)) (failed_waits (flying q' page) (next q' page) some)
+      (failed_keeps s q' page h.queue some).0
   failed_moves false e = keep_moves (sym e)

@@ -21,4 +21,5 @@ module _ {X : Type 0} (p : X → Bool) where
   found_of false n e = refl
 
   pub count_none : (xs : List X) → position p xs ≡ None → count_by p xs ≡ 0
-  count_none xs e = none_passes xs (ltb-false (position_or_len p xs) (length xs) (found_of (nat_lt (position_or_len p xs) (length xs)) (position_or_len p xs) e))
+  count_none xs e =
+      none_passes xs (ltb-false (position_or_len p xs) (length xs) (found_of (nat_lt (position_or_len p xs) (length xs)) (position_or_len p xs) e))

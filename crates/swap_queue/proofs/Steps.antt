@@ -35,10 +35,13 @@ waits_le : (p : Places) → one_if (waits_at p) ≤ copies_at p
 waits_le p = waits_le_of p.flying p.next
 
 pub line_fits : (s : Sizes) (cells : List Kept) (line : List Page) → Fits s cells line → length line ≤ s.queue
-line_fits s cells line h = omega (arith, h.waiting, sum_by-le-sum_by (λ (p : Places). one_if (waits_at p)) copies_at (places_in (pages_of s) cells) (λ p. waits_le p), h.queue.within)
+line_fits s cells line h =
+    omega (arith, h.waiting, sum_by-le-sum_by (λ (p : Places). one_if (waits_at p)) copies_at (places_in (pages_of s) cells) (λ p. waits_le p), h.queue.within)
 
 -- there was room in the line for a page that joined it
-pub line_room : (s : Sizes) (cells : List Kept) (line : List Page) (page : Page) (w : Bool) (q : Queue) → Moved s cells (longer line page w) q → w ≡ true → length line < s.queue
+pub line_room :
+    (s : Sizes) (cells : List Kept) (line : List Page) (page : Page) (w : Bool) (q : Queue) → Moved s cells (longer line page w) q → w ≡ true
+    → length line < s.queue
 line_room s cells line page w q moved joined = omega (arith, line_fits s cells (longer line page w) moved.fits, length-longer line page w, ap one_if joined)
 
 pub not_some : {X : Type 0} (o : Option X) → not (is_some o) ≡ is_none o
@@ -50,7 +53,9 @@ module _ (s : Sizes) (cells : List Kept) (line : List Page) (h : Fits s cells li
   q = queue_in s cells line
 
   -- a copy is that of the cell where it was found
-  found_copy : (k : Bool) (p i : ℕ) → position (is_for k p) cells ≡ Some i → (i < length cells) × (is_for k p (cell_at cells i) ≡ true) × (copy_in k p cells ≡ copy_of (cell_at cells i))
+  found_copy :
+      (k : Bool) (p i : ℕ) → position (is_for k p) cells ≡ Some i
+      → (i < length cells) × (is_for k p (cell_at cells i) ≡ true) × (copy_in k p cells ≡ copy_of (cell_at cells i))
   found_copy k p i e = let at = position-Some (is_for k p) cells i free_cell e in (at.0, at.1, copy_in-here k p cells i (h.single k p) at.0 at.1)
 
   module _ (page : Page) (lt : page.0 < pages_of s) where
@@ -68,13 +73,20 @@ module _ (s : Sizes) (cells : List Kept) (line : List Page) (h : Fits s cells li
         let lost : copy_in false page.0 cells ≡ None = copy_in-none false page.0 cells (count_none (is_for false page.0) cells none) in
         (f.0, used_for true page.0 (cell_at cells i).held f.1, newest_is ∙ ap (λ o. first_of o (copy_in true page.0 cells)) lost ∙ f.2)
     newest_of (Some j) i some e =
-        let f = found_copy false page.0 i (some ∙ e) in
-        (f.0, used_for false page.0 (cell_at cells i).held f.1, newest_is ∙ ap (λ o. first_of o (copy_in true page.0 cells)) f.2 ∙ first_used (cell_at cells i).bytes (cell_at cells i).held (copy_in true page.0 cells) (used_for false page.0 (cell_at cells i).held f.1))
+        let f = found_copy false page.0 i (some ∙ e) in (
+          f.0,
+          used_for false page.0 (cell_at cells i).held f.1,
+          newest_is ∙ ap (λ o. first_of o (copy_in true page.0 cells)) f.2
+              ∙ first_used (cell_at cells i).bytes (cell_at cells i).held (copy_in true page.0 cells) (used_for false page.0 (cell_at cells i).held f.1),
+        )
 
-    pub newest_found : (i : ℕ) → first_of (position (is_for false page.0) cells) (position (is_for true page.0) cells) ≡ Some i → (i < length cells) × (is_used (cell_at cells i) ≡ true) × (newest q page ≡ copy_of (cell_at cells i))
+    pub newest_found :
+        (i : ℕ) → first_of (position (is_for false page.0) cells) (position (is_for true page.0) cells) ≡ Some i
+        → (i < length cells) × (is_used (cell_at cells i) ≡ true) × (newest q page ≡ copy_of (cell_at cells i))
     newest_found i e = newest_of (position (is_for false page.0) cells) i refl e
 
-    first_some : {X Y : Type 0} (a b : Option X) (c d : Option Y) → is_some a ≡ is_some c → is_some b ≡ is_some d → is_some (first_of a b) ≡ is_some (first_of c d)
+    first_some :
+        {X Y : Type 0} (a b : Option X) (c d : Option Y) → is_some a ≡ is_some c → is_some b ≡ is_some d → is_some (first_of a b) ≡ is_some (first_of c d)
     first_some None b None d e f = f
     first_some None b (Some c) d e f = absurd (false≢true e)
     first_some (Some a) b None d e f = absurd (false≢true (sym e))
@@ -82,7 +94,8 @@ module _ (s : Sizes) (cells : List Kept) (line : List Page) (h : Fits s cells li
 
     pub newest_some : is_some (first_of (position (is_for false page.0) cells) (position (is_for true page.0) cells)) ≡ is_some (newest q page)
     newest_some =
-        first_some (position (is_for false page.0) cells) (position (is_for true page.0) cells) (copy_in false page.0 cells) (copy_in true page.0 cells) (found_is false page.0 cells (h.single false page.0)) (found_is true page.0 cells (h.single true page.0))
+        first_some (position (is_for false page.0) cells) (position (is_for true page.0) cells) (copy_in false page.0 cells) (copy_in true page.0 cells)
+        (found_is false page.0 cells (h.single false page.0)) (found_is true page.0 cells (h.single true page.0))
         ∙ sym (ap (λ (o : Option Copy). is_some o) newest_is)
 
     none_of_some : {X : Type 0} (o : Option X) → is_some o ≡ false → o ≡ None
@@ -102,7 +115,8 @@ module _ (s : Sizes) (cells : List Kept) (line : List Page) (h : Fits s cells li
     pub has_room_next : is_some (position (is_for false page.0) cells) ≡ true → has_room q page ≡ true
     has_room_next e = ap (λ b. b || nat_lt (copies q) s.queue) (sym next_found ∙ e)
 
-    pub has_room_else : (n m : ℕ) → is_some (position (is_for false page.0) cells) ≡ false → n ≡ count_by is_used cells → m ≡ s.queue → nat_lt n m ≡ has_room q page
+    pub has_room_else :
+        (n m : ℕ) → is_some (position (is_for false page.0) cells) ≡ false → n ≡ count_by is_used cells → m ≡ s.queue → nat_lt n m ≡ has_room q page
     has_room_else n m e used most =
         ap (λ k. nat_lt k m) (used ∙ h.used) ∙ ap (λ k. nat_lt (copies q) k) most ∙ sym (ap (λ b. b || nat_lt (copies q) s.queue) (sym next_found ∙ e))
 
@@ -115,7 +129,9 @@ module _ (s : Sizes) (cells : List Kept) (line : List Page) (h : Fits s cells li
   flying_range page some = omega (arith, flying_in_range q page some, h.queue.pages)
 
   pub flying_found : (page : Page) → IsSome (flying q page) → IsSome (position (is_for true page.0) cells)
-  flying_found page some = found_is true page.0 cells (h.single true page.0) ∙ ap (λ (o : Option Copy). is_some o) (sym (flying_is s cells line page (flying_range page some))) ∙ some
+  flying_found page some =
+      found_is true page.0 cells (h.single true page.0) ∙ ap (λ (o : Option Copy). is_some o) (sym (flying_is s cells line page (flying_range page some)))
+      ∙ some
 
 pub copy_entry : (bytes : List ℕ) (held : Option Held) → option_map (λ (x : Copy). x.entry) (copy_with bytes held) ≡ entry_of held
 copy_entry bytes None = refl
@@ -126,9 +142,13 @@ copy_bytes bytes buf None e = absurd (false≢true e)
 copy_bytes bytes buf (Some h) e = refl
 
 -- after `put` wrote a cell and the page joined the line where it was to wait
-pub put_step : (s : Sizes) (cells cells' : List Kept) (line line' : List Page) (page : Page) (entry : EntryNo) (bytes : List ℕ) (i : ℕ) (w : Bool) → Fits s cells line → page.0 < pages_of s → length bytes ≡ s.page_bytes
-    → has_room (queue_in s cells line) page ≡ true → IsPlaceFor cells page.0 i → cells' ≡ set cells i (record { held = Some (record { page = page; entry = entry; flying = false }); bytes = bytes })
-    → w ≡ is_none (newest (queue_in s cells line) page) → line' ≡ longer line page w → Moved s cells' line' (put (queue_in s cells line) page (record { entry = entry; bytes = bytes }))
+pub put_step :
+    (s : Sizes) (cells cells' : List Kept) (line line' : List Page) (page : Page) (entry : EntryNo) (bytes : List ℕ) (i : ℕ) (w : Bool) → Fits s cells line
+    → page.0 < pages_of s → length bytes ≡ s.page_bytes
+    → has_room (queue_in s cells line) page ≡ true → IsPlaceFor cells page.0 i
+    → cells' ≡ set cells i (record { held = Some (record { page = page; entry = entry; flying = false }); bytes = bytes })
+    → w ≡ is_none (newest (queue_in s cells line) page) → line' ≡ longer line page w
+    → Moved s cells' line' (put (queue_in s cells line) page (record { entry = entry; bytes = bytes }))
 put_step s cells cells' line line' page entry bytes i w h lt fills room place made waits joined =
     let Q : Queue = put (queue_in s cells line) page (record { entry = entry; bytes = bytes }) in
     let C : Kept = record { held = Some (record { page = page; entry = entry; flying = false }); bytes = bytes } in
@@ -137,8 +157,11 @@ put_step s cells cells' line line' page entry bytes i w h lt fills room place ma
     subst P (sym made) (subst L (sym (joined ∙ ap (λ b. longer line page b) waits)) (put_moves s cells line page entry bytes i h lt fills room place))
 
 -- after `start` sent a cell's copy
-pub start_step : (s : Sizes) (cells cells' : List Kept) (line rest : List Page) (page : Page) (i : ℕ) → Fits s cells line → line ≡ page ∷ rest → position (is_for false page.0) cells ≡ Some i
-    → cells' ≡ set cells i (record { held = with_flying true (cell_at cells i).held; bytes = (cell_at cells i).bytes }) → Moved s cells' rest (start (queue_in s cells line))
+pub start_step :
+    (s : Sizes) (cells cells' : List Kept) (line rest : List Page) (page : Page) (i : ℕ) → Fits s cells line → line ≡ page ∷ rest
+    → position (is_for false page.0) cells ≡ Some i
+    → cells' ≡ set cells i (record { held = with_flying true (cell_at cells i).held; bytes = (cell_at cells i).bytes })
+    → Moved s cells' rest (start (queue_in s cells line))
 start_step s cells cells' line rest page i h first found made =
     let F : Kept → Kept = λ c. record { held = with_flying true c.held; bytes = c.bytes } in
     let P : List Kept → Type 0 = λ c. Moved s c rest (start (queue_in s cells line)) in
@@ -146,8 +169,11 @@ start_step s cells cells' line rest page i h first found made =
     subst P (sym made) (subst L (sym first) (λ (g : Fits s cells (page ∷ rest)). start_moves s cells page rest i g found) h)
 
 -- after `done` freed a cell and the page joined the line where it was to wait
-pub done_step : (s : Sizes) (cells cells' : List Kept) (line line' : List Page) (page : Page) (i : ℕ) (w : Bool) → Fits s cells line → IsSome (flying (queue_in s cells line) page) → position (is_for true page.0) cells ≡ Some i
-    → cells' ≡ set cells i (record { held = landed false (cell_at cells i).held; bytes = (cell_at cells i).bytes }) → w ≡ is_some (next (queue_in s cells line) page) → line' ≡ longer line page w
+pub done_step :
+    (s : Sizes) (cells cells' : List Kept) (line line' : List Page) (page : Page) (i : ℕ) (w : Bool) → Fits s cells line
+    → IsSome (flying (queue_in s cells line) page) → position (is_for true page.0) cells ≡ Some i
+    → cells' ≡ set cells i (record { held = landed false (cell_at cells i).held; bytes = (cell_at cells i).bytes })
+    → w ≡ is_some (next (queue_in s cells line) page) → line' ≡ longer line page w
     → Moved s cells' line' (done (queue_in s cells line) page)
 done_step s cells cells' line line' page i w h some found made waits joined =
     let F : Kept → Kept = λ c. record { held = None; bytes = c.bytes } in
@@ -156,8 +182,11 @@ done_step s cells cells' line line' page i w h some found made waits joined =
     subst P (sym made) (subst L (sym (joined ∙ ap (λ b. longer line page b) waits)) (done_moves s cells line page i h some found))
 
 -- after `failed` freed a cell, or kept its copy as the page's next, and the page joined the line
-pub failed_step : (s : Sizes) (cells cells' : List Kept) (line line' : List Page) (page : Page) (i : ℕ) (newer : Bool) → Fits s cells line → IsSome (flying (queue_in s cells line) page) → position (is_for true page.0) cells ≡ Some i
-    → cells' ≡ set cells i (record { held = landed (not newer) (cell_at cells i).held; bytes = (cell_at cells i).bytes }) → newer ≡ is_some (next (queue_in s cells line) page) → line' ≡ longer line page true
+pub failed_step :
+    (s : Sizes) (cells cells' : List Kept) (line line' : List Page) (page : Page) (i : ℕ) (newer : Bool) → Fits s cells line
+    → IsSome (flying (queue_in s cells line) page) → position (is_for true page.0) cells ≡ Some i
+    → cells' ≡ set cells i (record { held = landed (not newer) (cell_at cells i).held; bytes = (cell_at cells i).bytes })
+    → newer ≡ is_some (next (queue_in s cells line) page) → line' ≡ longer line page true
     → Moved s cells' line' (failed (queue_in s cells line) page)
 failed_step s cells cells' line line' page i newer h some found made waits joined =
     let F : Kept → Kept = λ c. record { held = landed (not newer) c.held; bytes = c.bytes } in
@@ -166,35 +195,46 @@ failed_step s cells cells' line line' page i newer h some found made waits joine
     subst P (sym made) (subst L (sym joined) (failed_moves s cells line page i h some found newer waits))
 
 -- the entry that a landing copy had is that of the page's flying copy
-pub flying_entry : (s : Sizes) (cells : List Kept) (line : List Page) (h : Fits s cells line) (page : Page) (i : ℕ) (entry : EntryNo) → IsSome (flying (queue_in s cells line) page) → position (is_for true page.0) cells ≡ Some i
+pub flying_entry :
+    (s : Sizes) (cells : List Kept) (line : List Page) (h : Fits s cells line) (page : Page) (i : ℕ) (entry : EntryNo)
+    → IsSome (flying (queue_in s cells line) page) → position (is_for true page.0) cells ≡ Some i
     → Some entry ≡ entry_of (cell_at cells i).held → option_map (λ (c : Copy). c.entry) (flying (queue_in s cells line) page) ≡ Some entry
 flying_entry s cells line h page i entry some found e =
     let f = found_copy s cells line h true page.0 i found in
-    ap (λ (o : Option Copy). option_map (λ (c : Copy). c.entry) o) (flying_is s cells line page (flying_range s cells line h page some) ∙ f.2) ∙ copy_entry (cell_at cells i).bytes (cell_at cells i).held
+    ap (λ (o : Option Copy). option_map (λ (c : Copy). c.entry) o) (flying_is s cells line page (flying_range s cells line h page some) ∙ f.2)
+    ∙ copy_entry (cell_at cells i).bytes (cell_at cells i).held
     ∙ sym e
 
 pub entry_told : (copy : Option Copy) (entry : EntryNo) → option_map (λ (c : Copy). c.entry) copy ≡ Some entry → IfSome copy (λ c. entry ≡ c.entry)
 entry_told None entry e = tt
 entry_told (Some c) entry e = cc
 
-pub failed_told : (copy later : Option Copy) (entry : EntryNo) (newer : Bool) (answer : Failed) → option_map (λ (c : Copy). c.entry) copy ≡ Some entry → newer ≡ is_some later → (newer ≡ true → answer ≡ fate.Dropped entry) → (newer ≡ false → answer ≡ fate.Kept entry)
+pub failed_told :
+    (copy later : Option Copy) (entry : EntryNo) (newer : Bool) (answer : Failed) → option_map (λ (c : Copy). c.entry) copy ≡ Some entry → newer ≡ is_some later
+    → (newer ≡ true → answer ≡ fate.Dropped entry) → (newer ≡ false → answer ≡ fate.Kept entry)
     → IfSome copy (λ c. answer ≡ failed_answer later c.entry)
 failed_told None n entry newer answer e same gone stays = tt
 failed_told (Some c) None entry newer answer e same gone stays = let a : answer ≡ fate.Kept entry = stays same in cc
 failed_told (Some c) (Some n) entry newer answer e same gone stays = let a : answer ≡ fate.Dropped entry = gone same in cc
 
 -- the front of a line with its next copy, which is that of the cell where it was found
-pub front_found : (s : Sizes) (cells : List Kept) (line rest : List Page) (h : Fits s cells line) (page : Page) (i : ℕ) → line ≡ page ∷ rest → position (is_for false page.0) cells ≡ Some i
+pub front_found :
+    (s : Sizes) (cells : List Kept) (line rest : List Page) (h : Fits s cells line) (page : Page) (i : ℕ) → line ≡ page ∷ rest
+    → position (is_for false page.0) cells ≡ Some i
     → front (queue_in s cells line) ≡ option_map (λ (copy : Copy). (page, copy)) (copy_of (cell_at cells i))
 front_found s cells line rest h page i first found =
     let lt : page.0 < pages_of s = (start_sets s (queue_in s cells line) page rest h.queue first).within in
     ap (λ l. front_of (queue_in s cells line) l) first
     ∙ ap (λ (o : Option Copy). option_map (λ (copy : Copy). (page, copy)) o) (next_is s cells line page lt ∙ (found_copy s cells line h false page.0 i found).2)
 
-pub front_place : (s : Sizes) (cells : List Kept) (line rest : List Page) (h : Fits s cells line) (page : Page) → line ≡ page ∷ rest → IsSome (position (is_for false page.0) cells)
+pub front_place :
+    (s : Sizes) (cells : List Kept) (line rest : List Page) (h : Fits s cells line) (page : Page) → line ≡ page ∷ rest
+    → IsSome (position (is_for false page.0) cells)
 front_place s cells line rest h page first =
     let lt : page.0 < pages_of s = (start_sets s (queue_in s cells line) page rest h.queue first).within in
-    next_found s cells line h page lt ∙ (and_parts (is_some (next (queue_in s cells line) page)) (is_none (flying (queue_in s cells line) page)) (front_waits s (queue_in s cells line) page rest h.queue first)).0
+    next_found s cells line h page lt
+    ∙ (and_parts (is_some (next (queue_in s cells line) page)) (is_none (flying (queue_in s cells line) page))
+    (front_waits s (queue_in s cells line) page rest h.queue first)).0
 
 pub front_range : (s : Sizes) (cells : List Kept) (line rest : List Page) (h : Fits s cells line) (page : Page) → line ≡ page ∷ rest → page.0 < pages_of s
 front_range s cells line rest h page first = (start_sets s (queue_in s cells line) page rest h.queue first).within
@@ -208,26 +248,37 @@ none_found None e = refl
 none_found (Some x) e = absurd (false≢true (sym e))
 
 -- the front of a line has no copy on its way
-pub front_alone : (s : Sizes) (cells : List Kept) (line rest : List Page) (h : Fits s cells line) (page : Page) → line ≡ page ∷ rest → position (is_for true page.0) cells ≡ None
+pub front_alone :
+    (s : Sizes) (cells : List Kept) (line rest : List Page) (h : Fits s cells line) (page : Page) → line ≡ page ∷ rest
+    → position (is_for true page.0) cells ≡ None
 front_alone s cells line rest h page first =
     let q : Queue = queue_in s cells line in
-    let none : flying (queue_in s cells line) page ≡ None = none_of (flying q page) (and_parts (is_some (next q page)) (is_none (flying q page)) (front_waits s q page rest h.queue first)).1 in
+    let none : flying (queue_in s cells line) page ≡ None =
+    none_of (flying q page) (and_parts (is_some (next q page)) (is_none (flying q page)) (front_waits s q page rest h.queue first)).1 in
     let lost : is_some (position (is_for true page.0) cells) ≡ false =
-    found_is true page.0 cells (h.single true page.0) ∙ ap (λ (o : Option Copy). is_some o) (sym (flying_is s cells line page (front_range s cells line rest h page first)) ∙ none) in
+    found_is true page.0 cells (h.single true page.0)
+    ∙ ap (λ (o : Option Copy). is_some o) (sym (flying_is s cells line page (front_range s cells line rest h page first)) ∙ none) in
     none_of (position (is_for true page.0) cells) (none_found (position (is_for true page.0) cells) lost)
 
 -- the page that was started has a flying copy
-pub front_flies : (s : Sizes) (cells : List Kept) (line rest : List Page) (h : Fits s cells line) (page : Page) → line ≡ page ∷ rest → IsSome (flying (start (queue_in s cells line)) page)
+pub front_flies :
+    (s : Sizes) (cells : List Kept) (line rest : List Page) (h : Fits s cells line) (page : Page) → line ≡ page ∷ rest
+    → IsSome (flying (start (queue_in s cells line)) page)
 front_flies s cells line rest h page first =
     let q : Queue = queue_in s cells line in
     let sets = start_sets s (queue_in s cells line) page rest h.queue first in
-    ap (λ (x : Places). is_some x.flying) sets.sets.here ∙ (and_parts (is_some (next (queue_in s cells line) page)) (is_none (flying (queue_in s cells line) page)) sets.waited).0
+    ap (λ (x : Places). is_some x.flying) sets.sets.here
+    ∙ (and_parts (is_some (next (queue_in s cells line) page)) (is_none (flying (queue_in s cells line) page)) sets.waited).0
 
-pub started_entry : (page : Page) (bytes : List ℕ) (held : Option Held) (entry : EntryNo) → Some entry ≡ entry_of held → started_answer (option_map (λ (copy : Copy). (page, copy)) (copy_with bytes held)) ≡ Some (page, entry)
+pub started_entry :
+    (page : Page) (bytes : List ℕ) (held : Option Held) (entry : EntryNo) → Some entry ≡ entry_of held
+    → started_answer (option_map (λ (copy : Copy). (page, copy)) (copy_with bytes held)) ≡ Some (page, entry)
 started_entry page bytes None entry e = cc
 started_entry page bytes (Some h) entry e = let same : h.entry ≡ entry = cc in ap (λ n. Some (page, n)) same
 
-pub started_copy : (page : Page) (bytes buf : List ℕ) (held : Option Held) → is_some held ≡ true → started_bytes (option_map (λ (copy : Copy). (page, copy)) (copy_with bytes held)) buf ≡ bytes
+pub started_copy :
+    (page : Page) (bytes buf : List ℕ) (held : Option Held) → is_some held ≡ true
+    → started_bytes (option_map (λ (copy : Copy). (page, copy)) (copy_with bytes held)) buf ≡ bytes
 started_copy page bytes buf None e = absurd (false≢true e)
 started_copy page bytes buf (Some h) e = refl
 
@@ -242,12 +293,14 @@ none = record { flying = None; next = None }
 free_places : (s : Sizes) → places_in (pages_of s) (free_cells s.queue s.page_bytes) ≡ replicate (pages_of s) none
 free_places s =
     let cells : List Kept = free_cells s.queue s.page_bytes in
-    let l : length (places_in (pages_of s) (free_cells s.queue s.page_bytes)) ≡ pages_of s = length-map-range_with_len (λ p. places_at (free_cells s.queue s.page_bytes) p) 0 (pages_of s) in
+    let l : length (places_in (pages_of s) (free_cells s.queue s.page_bytes)) ≡ pages_of s =
+    length-map-range_with_len (λ p. places_at (free_cells s.queue s.page_bytes) p) 0 (pages_of s) in
     ext_get_or none (places_in (pages_of s) (free_cells s.queue s.page_bytes)) (replicate (pages_of s) none) (l ∙ sym (length-replicate (pages_of s) none))
     (λ p within.
     let at : p < pages_of s = omega (arith, l, within) in
     get_or-map-range_with_len (λ q. places_at (free_cells s.queue s.page_bytes) q) 0 (pages_of s) p p none at (omega arith)
-    ∙ two_places (copy_in true p (free_cells s.queue s.page_bytes)) None (copy_in false p (free_cells s.queue s.page_bytes)) None (copy_in-free true p s.queue (replicate s.page_bytes 0)) (copy_in-free false p s.queue (replicate s.page_bytes 0))
+    ∙ two_places (copy_in true p (free_cells s.queue s.page_bytes)) None (copy_in false p (free_cells s.queue s.page_bytes)) None
+    (copy_in-free true p s.queue (replicate s.page_bytes 0)) (copy_in-free false p s.queue (replicate s.page_bytes 0))
     ∙ sym (get_or-replicate (pages_of s) p none none at))
 
 pub new_fits : (s : Sizes) → Moved s (free_cells s.queue s.page_bytes) [] (empty (pages_of s) s.queue)
@@ -261,15 +314,24 @@ new_fits s =
       fits = record {
         queue = subst (λ (q : Queue). IsQueue s q) (sym e) (empty_keeps s);
         room = length-replicate s.queue cell;
-        sized = λ i lt. ap (λ (x : Kept). length x.bytes) (get_or-replicate s.queue i cell free_cell (omega (arith, length-replicate s.queue cell, lt))) ∙ length-replicate s.page_bytes 0;
+        sized =
+            λ i lt. ap (λ (x : Kept). length x.bytes) (get_or-replicate s.queue i cell free_cell (omega (arith, length-replicate s.queue cell, lt)))
+            ∙ length-replicate s.page_bytes 0;
         single = λ k p. omega (arith, sum_by-replicate (λ (c : Kept). cond (is_for k p c) 1 0) s.queue cell);
-        used = omega (arith, sum_by-replicate (λ (c : Kept). cond (is_used c) 1 0) s.queue cell, sum_by-replicate copies_at (pages_of s) none, ap (λ ps. sum_by copies_at ps) (free_places s));
+        used =
+            omega (
+              arith,
+              sum_by-replicate (λ (c : Kept). cond (is_used c) 1 0) s.queue cell,
+              sum_by-replicate copies_at (pages_of s) none,
+              ap (λ ps. sum_by copies_at ps) (free_places s),
+            );
         waiting = omega (arith, sum_by-replicate w (pages_of s) none, ap (λ ps. sum_by w ps) (free_places s));
       };
     }
 
 -- new cells and an empty line are an empty queue
-pub new_step : (s : Sizes) (cells : List Kept) (line : List Page) → cells ≡ free_cells s.queue s.page_bytes → line ≡ [] → Moved s cells line (empty (pages_of s) s.queue)
+pub new_step :
+    (s : Sizes) (cells : List Kept) (line : List Page) → cells ≡ free_cells s.queue s.page_bytes → line ≡ [] → Moved s cells line (empty (pages_of s) s.queue)
 new_step s cells line made none_ =
     let C : List Kept → Type 0 = λ c. Moved s c line (empty (pages_of s) s.queue) in
     let L : List Page → Type 0 = λ l. Moved s (free_cells s.queue s.page_bytes) l (empty (pages_of s) s.queue) in

@@ -50,7 +50,8 @@ module _ {X : Type 0} (p : X → Bool) (d : X) where
   pub found_same : (xs : List X) (i : ℕ) (y : X) → p (get_or xs i d) ≡ p y → position p (set xs i y) ≡ position p xs
   found_same xs i y e =
       let at : position_or_len p (set xs i y) ≡ position_or_len p xs = position_or_len-set p xs i y d (sym e) in
-      ap (λ n. cond (nat_lt n (length (set xs i y))) (Some n) None) at ∙ ap (λ l. cond (nat_lt (position_or_len p xs) l) (Some (position_or_len p xs)) None) (length-set xs i y)
+      ap (λ n. cond (nat_lt n (length (set xs i y))) (Some n) None) at
+      ∙ ap (λ l. cond (nat_lt (position_or_len p xs) l) (Some (position_or_len p xs)) None) (length-set xs i y)
 
   pub found_gone : (xs : List X) (i : ℕ) (y : X) → count_by p xs ≤ 1 → i < length xs → p (get_or xs i d) ≡ true → p y ≡ false → position p (set xs i y) ≡ None
   found_gone xs i y le lt e gone =
@@ -67,7 +68,9 @@ module _ (cells : List Kept) (i : ℕ) (c : Kept) (page : ℕ) (sp : Spot)
   other_spots : (p : ℕ) → p ≢ page → spot_in (set cells i c) p ≡ spot_in cells p
   other_spots p ne =
       let F : Option ℕ → Option ℕ → Spot = λ f n. record { flying = f; next = n } in
-      let keeps : (k : Bool) → position (is_for k p) (set cells i c) ≡ position (is_for k p) cells = λ k. found_same (is_for k p) free_cell cells i c ((others k p ne).0 ∙ sym (others k p ne).1) in
+      let keeps : (k : Bool)
+      → position (is_for k p) (set cells i c) ≡ position (is_for k p) cells =
+      λ k. found_same (is_for k p) free_cell cells i c ((others k p ne).0 ∙ sym (others k p ne).1) in
       ap (λ f. F f (position (is_for false p) (set cells i c))) (keeps true) ∙ ap (λ n. F (position (is_for true p) cells) n) (keeps false)
 
   pub spots_in-set : (n : ℕ) → page < n → spots_in n (set cells i c) ≡ set (spots_in n cells) page sp
@@ -103,7 +106,9 @@ module _ (cells : List Kept) (i : ℕ) (c : Kept) (page : ℕ) (sp : Spot)
   }
 
 -- the place of a page's copy is in the table
-pub spot_at : (cells : List Kept) (spots : List Spot) (free : List ℕ) (room page : ℕ) → IsStored cells spots free room → page < length spots → get_or spots page no_spot ≡ spot_in cells page
+pub spot_at :
+    (cells : List Kept) (spots : List Spot) (free : List ℕ) (room page : ℕ) → IsStored cells spots free room → page < length spots
+    → get_or spots page no_spot ≡ spot_in cells page
 spot_at cells spots free room page h lt =
     ap (λ t. get_or t page no_spot) h.table ∙ get_or-map-range_with_len (λ p. spot_in cells p) 0 (length spots) page page no_spot lt (omega arith)
 
@@ -123,7 +128,9 @@ one_free-was : (cells : List Kept) (i : ℕ) → i < length cells → one_free c
 one_free-was cells i lt = ap (λ b. one_if (b && is_free (cell_at cells i))) (lt-ltb i (length cells) lt)
 
 module _ (cells : List Kept) (i : ℕ) (c : Kept) (free free' : List ℕ) (lt : i < length cells) (once : (j : ℕ) → times_free free j ≡ one_free cells j) where
-  pub free_after : (times_free free' i + one_if (is_free (cell_at cells i)) ≡ times_free free i + one_if (is_free c)) → ((j : ℕ) → j ≢ i → times_free free' j ≡ times_free free j)
+  pub free_after :
+      (times_free free' i + one_if (is_free (cell_at cells i)) ≡ times_free free i + one_if (is_free c))
+      → ((j : ℕ) → j ≢ i → times_free free' j ≡ times_free free j)
       → (j : ℕ) → times_free free' j ≡ one_free (set cells i c) j
   free_after here rest j =
       ⊎_elim

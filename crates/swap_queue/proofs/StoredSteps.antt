@@ -22,7 +22,9 @@ pub two_spots : (f g n m : Option ℕ) → f ≡ g → n ≡ m → ◌≡◌ {A 
 two_spots f g n m e h = let F : Option ℕ → Option ℕ → Spot = λ f n. record { flying = f; next = n } in ap (λ x. F x n) e ∙ ap (λ x. F g x) h
 
 -- what was read of the table is the page's places
-pub spot_read : (cells : List Kept) (spots : List Spot) (free : List ℕ) (room page : ℕ) (x : Spot) → IsStored cells spots free room → page < length spots → x ≡ get_or spots page x → x ≡ spot_in cells page
+pub spot_read :
+    (cells : List Kept) (spots : List Spot) (free : List ℕ) (room page : ℕ) (x : Spot) → IsStored cells spots free room → page < length spots
+    → x ≡ get_or spots page x → x ≡ spot_in cells page
 spot_read cells spots free room page x h lt e = get_or_read spots page x lt e no_spot ∙ spot_at cells spots free room page h lt
 
 pub cell_read : (cells : List Kept) (i : ℕ) (x : Kept) → i < length cells → x ≡ get_or cells i x → x ≡ cell_at cells i
@@ -36,7 +38,8 @@ none_held : (held : Option Held) → one_if (is_none held) ≡ 1 → held ≡ No
 none_held None e = refl
 none_held (Some h) e = absurd (omega (arith, e))
 
-module _ (cells : List Kept) (spots : List Spot) (free : List ℕ) (room : ℕ) (page : Page) (i : ℕ) (h : IsStored cells spots free room) (lt : page.0 < length spots) where
+module _ (cells : List Kept) (spots : List Spot) (free : List ℕ) (room : ℕ) (page : Page) (i : ℕ) (h : IsStored cells spots free room)
+    (lt : page.0 < length spots) where
   abbrev old : Kept
   old = cell_at cells i
 
@@ -54,18 +57,23 @@ module _ (cells : List Kept) (spots : List Spot) (free : List ℕ) (room : ℕ) 
     sent_single false p e = absurd (false≢true (sym (turned_away true p old.held) ∙ e))
     sent_single true p e =
         ⊎_elim
-        (λ (same : p ≡ page.0). subst (λ n. count_for true n cells ≤ one (is_for true n old)) (sym same) (omega (arith, count_none (is_for true page.0) cells alone)))
+        (λ (same : p ≡ page.0).
+        subst (λ n. count_for true n cells ≤ one (is_for true n old)) (sym same) (omega (arith, count_none (is_for true page.0) cells alone)))
         (λ (ne : p ≢ page.0). absurd (false≢true (sym (sent_others true p ne).1 ∙ e)))
         (cases_eq p page.0)
 
     pub launch_stored : IsStored (set cells i sent) (set spots page.0 (record { flying = Some i; next = None })) free room
     launch_stored =
         let turns : is_for true page.0 sent ≡ true = turned false true page.0 old.held at.1 in
-        let flies : position (is_for true page.0) (set cells i sent) ≡ Some i = found_new (is_for true page.0) free_cell cells i sent (sent_single true page.0 turns) at.0 turns in
-        let gone : position (is_for false page.0) (set cells i sent) ≡ None = found_gone (is_for false page.0) free_cell cells i sent (h.single false page.0) at.0 at.1 (turned_away true page.0 old.held) in
+        let flies : position (is_for true page.0) (set cells i sent) ≡ Some i =
+        found_new (is_for true page.0) free_cell cells i sent (sent_single true page.0 turns) at.0 turns in
+        let gone : position (is_for false page.0) (set cells i sent) ≡ None =
+        found_gone (is_for false page.0) free_cell cells i sent (h.single false page.0) at.0 at.1 (turned_away true page.0 old.held) in
         let used : one (is_used sent) ≡ one (is_used old) = ap one (used_turned true old.held) in
         let sp : Spot = record { flying = Some i; next = None } in
-        stored_after cells i sent page.0 sp sent_others (two_spots (position (is_for true page.0) (set cells i sent)) (Some i) (position (is_for false page.0) (set cells i sent)) None flies gone) spots free free room h at.0 lt sent_single
+        stored_after cells i sent page.0 sp sent_others
+        (two_spots (position (is_for true page.0) (set cells i sent)) (Some i) (position (is_for false page.0) (set cells i sent)) None flies gone) spots free
+        free room h at.0 lt sent_single
         (free_after cells i sent free free at.0 h.once (omega (arith, used, used_or_not old.held, used_or_not sent.held)) (λ j ne. refl))
         (omega (arith, used))
 
@@ -87,15 +95,22 @@ module _ (cells : List Kept) (spots : List Spot) (free : List ℕ) (room : ℕ) 
     dropped_others : (k : Bool) (p : ℕ) → p ≢ page.0 → (is_for k p old ≡ false) × (is_for k p dropped ≡ false)
     dropped_others k p ne = (of_one_page k true p page.0 old.held at'.1 ne, refl)
 
-    pub drop_stored : IsStored (set cells i dropped) (set spots page.0 (record { flying = None; next = position (is_for false page.0) cells })) (free ++ i ∷ []) room
+    pub drop_stored : IsStored (set cells i dropped) (set spots page.0 (record { flying = None; next = position (is_for false page.0) cells }))
+        (free ++ i ∷ []) room
     drop_stored =
-        let gone : position (is_for true page.0) (set cells i dropped) ≡ None = found_gone (is_for true page.0) free_cell cells i dropped (h.single true page.0) at'.0 at'.1 refl in
-        let stays : position (is_for false page.0) (set cells i dropped) ≡ position (is_for false page.0) cells = found_same (is_for false page.0) free_cell cells i dropped (of_one_kind true page.0 old.held at'.1) in
+        let gone : position (is_for true page.0) (set cells i dropped) ≡ None =
+        found_gone (is_for true page.0) free_cell cells i dropped (h.single true page.0) at'.0 at'.1 refl in
+        let stays : position (is_for false page.0) (set cells i dropped) ≡ position (is_for false page.0) cells =
+        found_same (is_for false page.0) free_cell cells i dropped (of_one_kind true page.0 old.held at'.1) in
         let sp : Spot = record { flying = None; next = position (is_for false page.0) cells } in
         stored_after cells i dropped page.0 sp dropped_others
-        (two_spots (position (is_for true page.0) (set cells i dropped)) None (position (is_for false page.0) (set cells i dropped)) (position (is_for false page.0) cells) gone stays) spots free (free ++ i ∷ []) room h at'.0 lt
+        (two_spots (position (is_for true page.0) (set cells i dropped)) None (position (is_for false page.0) (set cells i dropped))
+        (position (is_for false page.0) cells) gone stays)
+        spots free
+        (free ++ i ∷ []) room h at'.0 lt
         (λ k p t. absurd (false≢true t))
-        (free_after cells i dropped free (free ++ i ∷ []) at'.0 h.once (omega (arith, times_push_here free i, was_used, used_or_not old.held)) (λ j ne. times_push_other free i j ne))
+        (free_after cells i dropped free (free ++ i ∷ []) at'.0 h.once (omega (arith, times_push_here free i, was_used, used_or_not old.held))
+        (λ j ne. times_push_other free i j ne))
         (omega (arith, length_push free i, was_used))
 
     -- the copy is kept as the page's next
@@ -110,18 +125,23 @@ module _ (cells : List Kept) (spots : List Spot) (free : List ℕ) (room : ℕ) 
       back_single true p e = absurd (false≢true (sym (turned_away false p old.held) ∙ e))
       back_single false p e =
           ⊎_elim
-          (λ (same : p ≡ page.0). subst (λ n. count_for false n cells ≤ one (is_for false n old)) (sym same) (omega (arith, count_none (is_for false page.0) cells alone)))
+          (λ (same : p ≡ page.0).
+          subst (λ n. count_for false n cells ≤ one (is_for false n old)) (sym same) (omega (arith, count_none (is_for false page.0) cells alone)))
           (λ (ne : p ≢ page.0). absurd (false≢true (sym (back_others false p ne).1 ∙ e)))
           (cases_eq p page.0)
 
       pub back_stored : IsStored (set cells i back) (set spots page.0 (record { flying = None; next = Some i })) free room
       back_stored =
           let turns : is_for false page.0 back ≡ true = turned true false page.0 old.held at'.1 in
-          let waits : position (is_for false page.0) (set cells i back) ≡ Some i = found_new (is_for false page.0) free_cell cells i back (back_single false page.0 turns) at'.0 turns in
-          let gone : position (is_for true page.0) (set cells i back) ≡ None = found_gone (is_for true page.0) free_cell cells i back (h.single true page.0) at'.0 at'.1 (turned_away false page.0 old.held) in
+          let waits : position (is_for false page.0) (set cells i back) ≡ Some i =
+          found_new (is_for false page.0) free_cell cells i back (back_single false page.0 turns) at'.0 turns in
+          let gone : position (is_for true page.0) (set cells i back) ≡ None =
+          found_gone (is_for true page.0) free_cell cells i back (h.single true page.0) at'.0 at'.1 (turned_away false page.0 old.held) in
           let used : one (is_used back) ≡ one (is_used old) = ap one (used_turned false old.held) in
           let sp : Spot = record { flying = None; next = Some i } in
-          stored_after cells i back page.0 sp back_others (two_spots (position (is_for true page.0) (set cells i back)) None (position (is_for false page.0) (set cells i back)) (Some i) gone waits) spots free free room h at'.0 lt back_single
+          stored_after cells i back page.0 sp back_others
+          (two_spots (position (is_for true page.0) (set cells i back)) None (position (is_for false page.0) (set cells i back)) (Some i) gone waits) spots
+          free free room h at'.0 lt back_single
           (free_after cells i back free free at'.0 h.once (omega (arith, used, used_or_not old.held, used_or_not back.held)) (λ j ne. refl))
           (omega (arith, used))
 
@@ -129,7 +149,8 @@ module _ (cells : List Kept) (spots : List Spot) (free : List ℕ) (room : ℕ) 
     next_after keeps = if keeps then Some i else position (is_for false page.0) cells
 
     pub land_stored : (keeps : Bool) → (keeps ≡ true → position (is_for false page.0) cells ≡ None)
-        → IsStored (set cells i (record { held = landed keeps old.held; bytes = old.bytes })) (set spots page.0 (record { flying = None; next = next_after keeps })) (freed free i (not keeps)) room
+        → IsStored (set cells i (record { held = landed keeps old.held; bytes = old.bytes }))
+        (set spots page.0 (record { flying = None; next = next_after keeps })) (freed free i (not keeps)) room
     land_stored true alone = back_stored (alone refl)
     land_stored false alone = drop_stored
 
@@ -170,16 +191,21 @@ module _ (cells : List Kept) (spots : List Spot) (free : List ℕ) (room : ℕ) 
         subst (λ n. count_for false n cells ≤ one (is_for false n old)) (sym same)
         (⊎_elim (λ t. omega (arith, ap one t, h.single false page.0)) (λ free. omega (arith, none_for false page.0 cells free.1)) place.1)
 
-    put_after : (rest : List ℕ) → ((j : ℕ) → times_free rest j ≡ one_free (set cells i new) j) → length rest + one (is_used new) ≡ length free + one (is_used old)
+    put_after :
+        (rest : List ℕ) → ((j : ℕ) → times_free rest j ≡ one_free (set cells i new) j) → length rest + one (is_used new) ≡ length free + one (is_used old)
         → IsStored (set cells i new) (set spots page.0 (record { flying = position (is_for true page.0) cells; next = Some i })) rest room
     put_after rest once used =
         let mine : is_for false page.0 new ≡ true = eq-eqb page.0 page.0 refl in
-        let waits : position (is_for false page.0) (set cells i new) ≡ Some i = found_new (is_for false page.0) free_cell cells i new (new_single false page.0 mine) place.0 mine in
+        let waits : position (is_for false page.0) (set cells i new) ≡ Some i =
+        found_new (is_for false page.0) free_cell cells i new (new_single false page.0 mine) place.0 mine in
         let stays : position (is_for true page.0) (set cells i new) ≡ position (is_for true page.0) cells =
-        found_same (is_for true page.0) free_cell cells i new (⊎_elim (λ e. of_one_kind false page.0 old.held e) (λ free. free_for true page.0 free.0) place.1) in
+        found_same (is_for true page.0) free_cell cells i new
+        (⊎_elim (λ e. of_one_kind false page.0 old.held e) (λ free. free_for true page.0 free.0) place.1) in
         let sp : Spot = record { flying = position (is_for true page.0) cells; next = Some i } in
         stored_after cells i new page.0 sp new_others
-        (two_spots (position (is_for true page.0) (set cells i new)) (position (is_for true page.0) cells) (position (is_for false page.0) (set cells i new)) (Some i) stays waits) spots free rest room h place.0 lt new_single once used
+        (two_spots (position (is_for true page.0) (set cells i new)) (position (is_for true page.0) cells) (position (is_for false page.0) (set cells i new))
+        (Some i) stays waits)
+        spots free rest room h place.0 lt new_single once used
 
     pub put_stored : (next : Option ℕ) (rest : List ℕ) → next ≡ position (is_for false page.0) cells → Takes next free i rest
         → IsStored (set cells i new) (set spots page.0 (record { flying = position (is_for true page.0) cells; next = Some i })) rest room
@@ -187,7 +213,8 @@ module _ (cells : List Kept) (spots : List Spot) (free : List ℕ) (room : ℕ) 
         let at = free_cell_at None rest known takes (nat_lt i (length cells)) (times_free rest i) refl (free_there None rest known takes takes) in
         let once : times_free free i ≡ times_free rest i + 1 = ap (λ l. times_free l i) takes ∙ times_push_here rest i in
         put_after rest
-        (free_after cells i new free rest place.0 h.once (omega (arith, once, at.1)) (λ j ne. sym (ap (λ l. times_free l j) takes ∙ times_push_other rest i j ne)))
+        (free_after cells i new free rest place.0 h.once (omega (arith, once, at.1))
+        (λ j ne. sym (ap (λ l. times_free l j) takes ∙ times_push_other rest i j ne)))
         (omega (arith, ap (λ (l : List ℕ). length l) takes, length_push rest i, at.1, used_or_not old.held))
     put_stored (Some n) rest known takes =
         let f = position-Some (is_for false page.0) cells i free_cell (sym known ∙ ap (λ k. Some k) (sym takes.0)) in
@@ -196,7 +223,9 @@ module _ (cells : List Kept) (spots : List Spot) (free : List ℕ) (room : ℕ) 
         (put_after free (free_after cells i new free free place.0 h.once (omega (arith, used, used_or_not old.held)) (λ j ne. refl)) (omega (arith, used)))
 
 -- where a page has no next copy and there is room, a place is free
-pub room_free : (cells : List Kept) (spots : List Spot) (free : List ℕ) (room page : ℕ) (next : Option ℕ) → IsStored cells spots free room → HasRoom cells page → next ≡ position (is_for false page) cells → next ≡ None → 0 < length free
+pub room_free :
+    (cells : List Kept) (spots : List Spot) (free : List ℕ) (room page : ℕ) (next : Option ℕ) → IsStored cells spots free room → HasRoom cells page
+    → next ≡ position (is_for false page) cells → next ≡ None → 0 < length free
 room_free cells spots free room page next h has known none =
     let less : count_by is_used cells < length cells = has (copy_in-none false page cells (count_none (is_for false page) cells (sym known ∙ none))) in
     omega (arith, h.used, less)
@@ -205,16 +234,23 @@ room_free cells spots free room page next h has known none =
 found_new_cells : (k : Bool) (p n : ℕ) (bytes : List ℕ) → count_by (is_for k p) (replicate n (record { held = None; bytes = bytes })) ≡ 0
 found_new_cells k p n bytes = omega (arith, sum_by-replicate (λ (c : Kept). one (is_for k p c)) n (record { held = None; bytes = bytes }))
 
-free_new : (count i : ℕ) (bytes : List ℕ) (b : Bool) → nat_lt i count ≡ b → one_if b ≡ one_if (b && is_free (cell_at (replicate count (record { held = None; bytes = bytes })) i))
-free_new count i bytes true e = ap (λ (x : Kept). one_if (is_free x)) (sym (get_or-replicate count i (record { held = None; bytes = bytes }) free_cell (ltb-true i count e)))
+free_new :
+    (count i : ℕ) (bytes : List ℕ) (b : Bool) → nat_lt i count ≡ b
+    → one_if b ≡ one_if (b && is_free (cell_at (replicate count (record { held = None; bytes = bytes })) i))
+free_new count i bytes true e =
+    ap (λ (x : Kept). one_if (is_free x)) (sym (get_or-replicate count i (record { held = None; bytes = bytes }) free_cell (ltb-true i count e)))
 free_new count i bytes false e = refl
 
-pub new_stored : (count page_bytes pages room : ℕ) (free : List ℕ) → length free ≡ count → count ≤ room → ((i : ℕ) → times_free free i ≡ one_below count i) → IsStored (free_cells count page_bytes) (replicate pages no_spot) free room
+pub new_stored :
+    (count page_bytes pages room : ℕ) (free : List ℕ) → length free ≡ count → count ≤ room → ((i : ℕ) → times_free free i ≡ one_below count i)
+    → IsStored (free_cells count page_bytes) (replicate pages no_spot) free room
 new_stored count page_bytes pages room free len fits once =
     let cell : Kept = record { held = None; bytes = replicate page_bytes 0 } in
     let cells : List Kept = free_cells count page_bytes in
     let l : length (spots_in pages (free_cells count page_bytes)) ≡ pages = length-map-range_with_len (λ p. spot_in (free_cells count page_bytes) p) 0 pages in
-    let none : (k : Bool) (p : ℕ) → position (is_for k p) (free_cells count page_bytes) ≡ None = λ k p. found_none (is_for k p) free_cell (free_cells count page_bytes) (found_new_cells k p count (replicate page_bytes 0)) in
+    let none : (k : Bool) (p : ℕ)
+    → position (is_for k p) (free_cells count page_bytes) ≡ None =
+    λ k p. found_none (is_for k p) free_cell (free_cells count page_bytes) (found_new_cells k p count (replicate page_bytes 0)) in
     record {
       single = λ k p. omega (arith, found_new_cells k p count (replicate page_bytes 0));
       table =
@@ -222,7 +258,9 @@ new_stored count page_bytes pages room free len fits once =
           (λ p within.
           let at : p < pages = omega (arith, length-replicate pages no_spot, within) in
           get_or-replicate pages p no_spot no_spot at
-          ∙ sym (two_spots (position (is_for true p) (free_cells count page_bytes)) None (position (is_for false p) (free_cells count page_bytes)) None (none true p) (none false p))
+          ∙ sym
+          (two_spots (position (is_for true p) (free_cells count page_bytes)) None (position (is_for false p) (free_cells count page_bytes)) None
+          (none true p) (none false p))
           ∙ sym (get_or-map-range_with_len (λ q. spot_in (free_cells count page_bytes) q) 0 pages p p no_spot at (omega arith)))
           ∙ ap (λ n. spots_in n (free_cells count page_bytes)) (sym (length-replicate pages no_spot));
       once = λ i.

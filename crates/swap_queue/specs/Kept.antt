@@ -33,8 +33,10 @@ EmptyKeeps = (s : Sizes) → IsQueue s (empty (pages_of s) s.queue)
 -- what each move keeps, and the places that it leaves
 abbrev pub PutKeeps : Type 0
 PutKeeps =
-    (s : Sizes) (q : Queue) (page : Page) (copy : Copy) → IsQueue s q → page.0 < pages_of s → length copy.bytes ≡ s.page_bytes → has_room q page ≡ true
-    → IsQueue s (put q page copy) × SetsPlaces q (put q page copy) page (record { flying = flying q page; next = Some copy })
+    (s : Sizes) (q : Queue) (page : Page) (copy : Copy) → IsQueue s q → page.0 < pages_of s
+    → length copy.bytes ≡ s.page_bytes → has_room q page ≡ true
+    → IsQueue s (put q page copy)
+    × SetsPlaces q (put q page copy) page (record { flying = flying q page; next = Some copy })
 
 abbrev pub StartKeeps : Type 0
 StartKeeps = (s : Sizes) (q : Queue) → IsQueue s q → IsQueue s (start q)
@@ -46,7 +48,8 @@ pub record StartsFront (s : Sizes) (q : Queue) (page : Page) : Type 0 where
   pub sets : SetsPlaces q (start q) page (record { flying = next q page; next = None })
 
 abbrev pub StartSets : Type 0
-StartSets = (s : Sizes) (q : Queue) (page : Page) (line : List Page) → IsQueue s q → q.line ≡ page ∷ line → StartsFront s q page
+StartSets =
+    (s : Sizes) (q : Queue) (page : Page) (line : List Page) → IsQueue s q → q.line ≡ page ∷ line → StartsFront s q page
 
 abbrev pub DoneKeeps : Type 0
 DoneKeeps =

@@ -46,7 +46,9 @@ pub record IsStored (cells : List Kept) (spots : List Spot) (free : List ℕ) (r
 
 -- a place for a page-out of the page has the page's next copy, or is free where there is none
 abbrev pub IsPlace : List Kept → ℕ → ℕ → Type 0
-IsPlace cells page i = (is_for false page (slice_index_or cells i free_cell) ≡ true) ⊎ (((slice_index_or cells i free_cell).held ≡ None) × (copy_in false page cells ≡ None))
+IsPlace cells page i =
+    (is_for false page (slice_index_or cells i free_cell) ≡ true)
+    ⊎ (((slice_index_or cells i free_cell).held ≡ None) × (copy_in false page cells ≡ None))
 
 abbrev pub IsPlaceFor : List Kept → ℕ → ℕ → Type 0
 IsPlaceFor cells page i = (i < length cells) × IsPlace cells page i

@@ -15,8 +15,8 @@ use std::collections::VecDeque;
 use std::marker::Model;
 use swap_base::{EntryNo, Geometry, NoMemory, Page};
 
-/// The write-behind queue: for each page at most one copy on its way to the disk and at most one that is next,
-/// and the line of pages that wait. All memory is taken at `make`.
+/// The write-behind queue: for each page at most one copy on its way to the disk and at most one
+/// that is next, and the line of pages that wait. All memory is taken at `make`.
 #[derive(Drop)]
 pub struct Behind {
     geometry: Geometry,
@@ -33,7 +33,8 @@ impl Model for Behind {
 
     ghost Value = { Backlog };
 
-    ghost view = { λ b. record { sizes = b.geometry; queue = queue_in b.geometry b.store.cells b.line.items } };
+    ghost view = { λ b.
+        record { sizes = b.geometry; queue = queue_in b.geometry b.store.cells b.line.items } };
 
     ghost invariant = { λ b. BehindFits b.geometry b.store b.line.items (deque_capacity b.line) };
 }
@@ -93,7 +94,8 @@ impl Behind {
         self.store.newest_place(page).is_some()
     }
 
-    /// Whether a page-out of the page may be put: it has a next copy, or there is room for one more copy.
+    /// Whether a page-out of the page may be put: it has a next copy, or there is room for one more
+    /// copy.
     pub fn has_room(&self, page: Page) -> bool
         requires { page.0 < pages_of self.now.sizes }
         ensures { result ≡ has_room self.now.queue page }
@@ -107,7 +109,8 @@ impl Behind {
         requires page { page.0 < pages_of self.old.sizes }
         requires bytes { length bytes.now ≡ self.old.sizes.page_bytes }
         requires room { IsTrue (has_room self.old.queue page) }
-        ensures queue { self.new.queue ≡ put self.old.queue page (record { entry = entry; bytes = bytes.now }) }
+        ensures queue { self.new.queue
+            ≡ put self.old.queue page (record { entry = entry; bytes = bytes.now }) }
         ensures sizes { self.new.sizes ≡ self.old.sizes }
     {
         let waits = !self.holds(page);
@@ -115,26 +118,29 @@ impl Behind {
         join(&mut self.line, page, waits);
     }
 
-    /// The page's newest copy, the next one before the flying one, and its bytes in `buf`, which stays as it is
-    /// where the page has none.
+    /// The page's newest copy, the next one before the flying one, and its bytes in `buf`, which
+    /// stays as it is where the page has none.
     pub fn newest(&self, page: Page, buf: &mut [u8]) -> Option<EntryNo>
         requires page { page.0 < pages_of self.now.sizes }
         requires buf { length buf.old ≡ self.now.sizes.page_bytes }
-        ensures entry { result ≡ option_map (λ (copy : Copy). copy.entry) (newest self.now.queue page) }
+        ensures entry { result
+            ≡ option_map (λ (copy : Copy). copy.entry) (newest self.now.queue page) }
         ensures bytes { buf.new ≡ bytes_or (newest self.now.queue page) buf.old }
     {
         let place = self.store.newest_place(page)?;
         Some(self.store.give(place, buf))
     }
 
-    /// The page at the front of the line goes to the disk, with its next copy and the copy's bytes in `buf`.
+    /// The page at the front of the line goes to the disk, with its next copy and the copy's bytes
+    /// in `buf`.
     pub fn start(&mut self, buf: &mut [u8]) -> Option<(Page, EntryNo)>
         requires { length buf.old ≡ self.old.sizes.page_bytes }
         ensures none { IsNone result ↔ (self.old.queue.line ≡ []) }
         ensures front { result ≡ started_answer (front self.old.queue) }
         ensures bytes { buf.new ≡ started_bytes (front self.old.queue) buf.old }
         ensures queue { self.new.queue ≡ start self.old.queue }
-        ensures flies { IfSome result (λ (started : Page × EntryNo). IsSome (flying self.new.queue started.0)) }
+        ensures flies { IfSome result
+            (λ (started : Page × EntryNo). IsSome (flying self.new.queue started.0)) }
         ensures sizes { self.new.sizes ≡ self.old.sizes }
     {
         let page = self.line.pop_front()?;
@@ -161,7 +167,8 @@ impl Behind {
     /// A write failed: without a next copy the flying one waits again, else it is dropped.
     pub fn failed(&mut self, page: Page) -> Failed
         requires { IsSome (flying self.old.queue page) }
-        ensures answer { IfSome (flying self.old.queue page) (λ (copy : Copy). result ≡ failed_answer (next self.old.queue page) copy.entry) }
+        ensures answer { IfSome (flying self.old.queue page)
+            (λ (copy : Copy). result ≡ failed_answer (next self.old.queue page) copy.entry) }
         ensures queue { self.new.queue ≡ failed self.old.queue page }
         ensures sizes { self.new.sizes ≡ self.old.sizes }
     {

@@ -61,7 +61,8 @@ impl Cell {
 
     /// Its copy goes to the disk.
     pub(crate) fn launch(&mut self)
-        ensures { self.new ≡ record { held = with_flying true self.old.held; bytes = self.old.bytes } }
+        ensures { self.new
+            ≡ record { held = with_flying true self.old.held; bytes = self.old.bytes } }
     {
         if let Some(held) = &mut self.held {
             held.flying = true;
@@ -72,7 +73,8 @@ impl Cell {
     pub(crate) fn land(&mut self, keeps: bool) -> EntryNo
         requires { IsSome self.old.held }
         ensures entry { Some result ≡ entry_of self.old.held }
-        ensures cell { self.new ≡ record { held = landed keeps self.old.held; bytes = self.old.bytes } }
+        ensures cell { self.new
+            ≡ record { held = landed keeps self.old.held; bytes = self.old.bytes } }
     {
         let held = self.held.unwrap();
         self.held = if keeps {

@@ -31,7 +31,8 @@ impl Model for Store {
 
     ghost view = { λ s. record { cells = s.cells.items; pages = length s.spots.items } };
 
-    ghost invariant = { λ s. IsStored s.cells.items s.spots.items s.free.items (vec_capacity s.free) };
+    ghost invariant = { λ s.
+        IsStored s.cells.items s.spots.items s.free.items (vec_capacity s.free) };
 }
 
 /// So many free cells.
@@ -54,7 +55,8 @@ fn make_cells(alloc: Global, count: u32, page_bytes: u32) -> Result<Vec<Cell>, N
 fn make_places(alloc: Global, count: u32) -> Result<Vec<u32>, NoMemory>
     ensures len { IfOk result (λ free. vec_len free ≡ count) }
     ensures room { IfOk result (λ free. count ≤ vec_capacity free) }
-    ensures once { IfOk result (λ free. (i : ℕ) → count_by (λ j. j == i) free.items ≡ one_below count i) }
+    ensures once { IfOk result
+        (λ free. (i : ℕ) → count_by (λ j. j == i) free.items ≡ one_below count i) }
 {
     let Ok(mut free) = Vec::with_capacity(alloc, count as usize) else {
         return Err(NoMemory);
@@ -77,7 +79,8 @@ fn take_place(free: &mut Vec<u32>, next: Option<u32>) -> u32
     }
 }
 
-/// A page's places once its flying copy has landed: the place that it had is that of its next copy where it is kept.
+/// A page's places once its flying copy has landed: the place that it had is that of its next copy
+/// where it is kept.
 fn landed_spot(next: Option<u32>, place: u32, keeps: bool) -> Spot
     ensures { result ≡ record { flying = None; next = (if keeps then Some place else next) } }
 {
@@ -104,7 +107,8 @@ impl Store {
         page_bytes: u32,
         pages: u32,
     ) -> Result<Store, NoMemory>
-        ensures { IfOk result (λ s. s ≡ record { cells = free_cells count page_bytes; pages = pages }) }
+        ensures { IfOk result
+            (λ s. s ≡ record { cells = free_cells count page_bytes; pages = pages }) }
     {
         let cells = make_cells(alloc, count, page_bytes)?;
         let free = make_places(alloc, count)?;
@@ -130,7 +134,9 @@ impl Store {
     /// The place of the page's newest copy: its next one, else the one that flies.
     pub(crate) fn newest_place(&self, page: Page) -> Option<u32>
         requires { page.0 < self.now.pages }
-        ensures { result ≡ first_of (position (is_for false page.0) self.now.cells) (position (is_for true page.0) self.now.cells) }
+        ensures { result
+            ≡ first_of (position (is_for false page.0) self.now.cells)
+            (position (is_for true page.0) self.now.cells) }
     {
         let spot = self.spots[page.0 as usize];
         match spot.next {
@@ -150,21 +156,29 @@ impl Store {
     pub(crate) fn give(&self, place: u32, buf: &mut [u8]) -> EntryNo
         requires within { place < length self.now.cells }
         requires used { IsSome (slice_index_or self.now.cells place free_cell).held }
-        requires length { length buf.old ≡ length (slice_index_or self.now.cells place free_cell).bytes }
+        requires length { length buf.old
+            ≡ length (slice_index_or self.now.cells place free_cell).bytes }
         ensures bytes { buf.new ≡ (slice_index_or self.now.cells place free_cell).bytes }
-        ensures entry { Some result ≡ entry_of (slice_index_or self.now.cells place free_cell).held }
+        ensures entry { Some result
+            ≡ entry_of (slice_index_or self.now.cells place free_cell).held }
     {
         let cell = &self.cells[place as usize];
         cell.give(buf)
     }
 
-    /// Keeps a copy as the page's next one, in place of the one that it had or in a free cell. Its place.
+    /// Keeps a copy as the page's next one, in place of the one that it had or in a free cell. Its
+    /// place.
     pub(crate) fn put(&mut self, page: Page, entry: EntryNo, bytes: &[u8]) -> u32
         requires page { page.0 < self.old.pages }
         requires room { HasRoom self.old.cells page.0 }
         requires sized { IsSized self.old.cells (length bytes.now) }
         ensures place { IsPlaceFor self.old.cells page.0 result }
-        ensures cells { self.new.cells ≡ slice_set self.old.cells result (record { held = Some (record { page = page; entry = entry; flying = false }); bytes = bytes.now }) }
+        ensures cells { self.new.cells
+            ≡ slice_set self.old.cells result
+            (record {
+              held = Some (record { page = page; entry = entry; flying = false });
+              bytes = bytes.now;
+            }) }
         ensures pages { self.new.pages ≡ self.old.pages }
     {
         let spot = self.spots[page.0 as usize];
@@ -188,7 +202,10 @@ impl Store {
         requires page { page.0 < self.old.pages }
         requires waits { position (is_for false page.0) self.old.cells ≡ Some place }
         requires alone { position (is_for true page.0) self.old.cells ≡ None }
-        ensures cells { let old = slice_index_or self.old.cells place free_cell in self.new.cells ≡ slice_set self.old.cells place (record { held = with_flying true old.held; bytes = old.bytes }) }
+        ensures cells { let old = slice_index_or self.old.cells place free_cell in
+            self.new.cells
+            ≡ slice_set self.old.cells place
+            (record { held = with_flying true old.held; bytes = old.bytes }) }
         ensures pages { self.new.pages ≡ self.old.pages }
     {
         let cell = &mut self.cells[place as usize];
@@ -199,13 +216,18 @@ impl Store {
         };
     }
 
-    /// The page's copy at this place is back from the disk: it waits again where it is kept, else its cell is free.
+    /// The page's copy at this place is back from the disk: it waits again where it is kept, else
+    /// its cell is free.
     pub(crate) fn land(&mut self, page: Page, place: u32, keeps: bool) -> EntryNo
         requires page { page.0 < self.old.pages }
         requires flies { position (is_for true page.0) self.old.cells ≡ Some place }
         requires alone { IsTrue keeps → position (is_for false page.0) self.old.cells ≡ None }
-        ensures entry { Some result ≡ entry_of (slice_index_or self.old.cells place free_cell).held }
-        ensures cells { let old = slice_index_or self.old.cells place free_cell in self.new.cells ≡ slice_set self.old.cells place (record { held = landed keeps old.held; bytes = old.bytes }) }
+        ensures entry { Some result
+            ≡ entry_of (slice_index_or self.old.cells place free_cell).held }
+        ensures cells { let old = slice_index_or self.old.cells place free_cell in
+            self.new.cells
+            ≡ slice_set self.old.cells place
+            (record { held = landed keeps old.held; bytes = old.bytes }) }
         ensures pages { self.new.pages ≡ self.old.pages }
     {
         let cell = &mut self.cells[place as usize];

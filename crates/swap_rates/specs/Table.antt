@@ -35,12 +35,15 @@ is_above None value = true
 is_above (Some best) value = nat_lt best.value value
 
 abbrev pub better : ℕ → Option Candidate → ℕ → SlabState → ℕ → Option Candidate
-better hot best n state value = if is_candidate hot state value && is_above best value then Some (record { slab = record { 0 = n }; value = value }) else best
+better hot best n state value =
+    if is_candidate hot state value && is_above best value then Some (record { slab = record { 0 = n }; value = value })
+    else best
 
 -- the best of the slabs from n on and of one before them: the one of greatest value, the lowest number on a tie
 abbrev pub best_from : ℕ → List Activity → List SlabState → ℕ → Option Candidate → Option Candidate
 best_from hot rates [] n best = best
-best_from hot rates (state ∷ states) n best = best_from hot rates states (n + 1) (better hot best n state (value_of rates (record { 0 = n })))
+best_from hot rates (state ∷ states) n best =
+    best_from hot rates states (n + 1) (better hot best n state (value_of rates (record { 0 = n })))
 
 -- of the local slabs that are hot the one of greatest value, the lowest number on a tie
 abbrev pub hottest : ℕ → List SlabState → List Activity → Option Slab

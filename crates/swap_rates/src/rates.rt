@@ -113,8 +113,8 @@ impl Rates {
         self.rates[slab.0 as usize].value()
     }
 
-    /// Of the local slabs with at least `hot` hits in each period the one of greatest value, the lowest number on a
-    /// tie.
+    /// Of the local slabs with at least `hot` hits in each period the one of greatest value, the
+    /// lowest number on a tie.
     pub fn hottest(&self, hot: u32, slabs: &Slabs) -> Option<Slab>
         requires { length slabs.now ≡ length self.now }
         ensures { result ≡ hottest hot slabs.now self.now }

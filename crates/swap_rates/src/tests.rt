@@ -2,7 +2,8 @@ use crate::Rates;
 use swap_base::{Geometry, Lender, Slab};
 use swap_slabs::Slabs;
 
-// Of two slabs with the same hits the first is hottest, and a busier one before it; once that is borrowed it is not.
+// Of two slabs with the same hits the first is hottest, and a busier one before it; once that is
+// borrowed it is not.
 #[test]
 fn the_hottest_local_slab_is_found(rt: HostRuntime) {
     let Ok(geometry) = Geometry::checked(8, 4, 4, 2, 2, 4, 1) else {

@@ -7,7 +7,8 @@ use std::alloc::Global;
 use std::marker::Model;
 use swap_base::{Geometry, Lender, NoMemory};
 
-/// The link to each lender, with the requests under way on it, at most a window of them. All memory is taken at
+/// The link to each lender, with the requests under way on it, at most a window of them. All memory
+/// is taken at
 /// `make`.
 #[derive(Drop)]
 pub struct Rings {
@@ -46,7 +47,8 @@ fn make_links(alloc: Global, lenders: u32) -> Result<Vec<Link>, NoMemory>
 impl Rings {
     /// A link that is down for each of so many lenders. No other call of `Rings` takes memory.
     pub fn make(alloc: Global, geometry: &Geometry, lenders: u32) -> Result<Rings, NoMemory>
-        ensures { IfOk result (λ r. r ≡ record { window = geometry.now.window; links = all_down lenders }) }
+        ensures { IfOk result
+            (λ r. r ≡ record { window = geometry.now.window; links = all_down lenders }) }
     {
         geometry.limits();
         Ok(Rings {

@@ -85,4 +85,5 @@ pub record LineFits (size : ℕ) (e : Event) (s : Seen) (H : History) : Type 0 w
 abbrev pub NumbersFit : World → List Input → Type 0
 NumbersFit w [] = Unit {0}
 NumbersFit w (i ∷ is) =
-    LineFits w.device.sizes.page_bytes i.event (next w i).seen (history (next w i).world) × NumbersFit (next w i).world is
+    LineFits w.device.sizes.page_bytes i.event (next w i).seen (history (next w i).world)
+    × NumbersFit (next w i).world is

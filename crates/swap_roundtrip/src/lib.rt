@@ -39,14 +39,16 @@ fn page_numbers(page: &[u8])
 // So do those of an entry of a history, and its page is whole.
 fn row_fits(no: EntryNo, history: &Record)
     requires { no.0 < length history.now.history }
-    ensures { (row : Row) → named history.now.history no.0 ≡ Some row → RowFits history.now.page_bytes row }
+    ensures { (row : Row) → named history.now.history no.0 ≡ Some row
+        → RowFits history.now.page_bytes row }
 {
     entry_numbers(history.entry(no));
     page_numbers(history.bytes(no));
 }
 
-/// All numbers that an event's line prints fit their types: those of the event, of what was seen, and of the entry that
-/// was seen, whose page is whole. An entry that was seen must be one of the history.
+/// All numbers that an event's line prints fit their types: those of the event, of what was seen,
+/// and of the entry that was seen, whose page is whole. An entry that was seen must be one of the
+/// history.
 pub fn line_fits(event: Event, seen: Seen, history: &Record)
     requires { HasEntry history.now.history seen }
     ensures { LineFits history.now.page_bytes event seen history.now.history }
@@ -59,9 +61,9 @@ pub fn line_fits(event: Event, seen: Seen, history: &Record)
     }
 }
 
-/// What a script prints is read back as the history that its events reached, each printed number being its entry's place,
-/// so that the judge says legal. The premise is that the numbers of its lines fit their types, as `line_fits` shows of
-/// each line that is printed.
+/// What a script prints is read back as the history that its events reached, each printed number
+/// being its entry's place, so that the judge says legal. The premise is that the numbers of its
+/// lines fit their types, as `line_fits` shows of each line that is printed.
 pub fn scripts_are_read_back()
     ensures { ScriptsAreReadBack }
 {

@@ -35,7 +35,9 @@ same_transcript text t u a b =
     cc
 
 -- what was judged is the text that was told
-judged_is : (source out : Stream) (v : Verdict) (text : List ℕ) (t : Transcript) → Checked source out v → source.before ≡ Some text → transcript text ≡ Ok t → Judges (book_of t) v
+judged_is :
+    (source out : Stream) (v : Verdict) (text : List ℕ) (t : Transcript) → Checked source out v → source.before ≡ Some text → transcript text ≡ Ok t
+    → Judges (book_of t) v
 judged_is source out v text t h told is =
     let j = h.judged in
     let same : text ≡ j.text = read_whole_is source.before source.now text j.text told j.was_read in
@@ -48,7 +50,8 @@ not_refused text t refused a b =
     cc
 
 pub checks_transcripts : OrderedPasses → FaithfulPasses → ChecksTranscripts
-checks_transcripts ordered faithful source out ending.Done text t h told fits is no_fault no_write = inl (refl, judged_is source out verdict.Legal text t h told is)
+checks_transcripts ordered faithful source out ending.Done text t h told fits is no_fault no_write =
+    inl (refl, judged_is source out verdict.Legal text t h told is)
 checks_transcripts ordered faithful source out ending.NotLegal text t h told fits is no_fault no_write =
     inr (inl (refl, λ legal. one_verdict ordered faithful (book_of t) h.0 legal (judged_is source out (verdict.NotLegal h.0) text t h.1 told is)))
 checks_transcripts ordered faithful source out ending.NoMemory text t h told fits is no_fault no_write = inr (inr refl)
@@ -57,17 +60,21 @@ checks_transcripts ordered faithful source out ending.Usage text t h told fits i
 checks_transcripts ordered faithful source out ending.ReadFailed text t h told fits is no_fault no_write = absurd (no_fault h.0.failed)
 checks_transcripts ordered faithful source out ending.WriteFailed text t h told fits is no_fault no_write = absurd (no_write h.failed)
 checks_transcripts ordered faithful source out (ending.Refused refused) text t h told fits is no_fault no_write =
-    absurd (not_refused text t refused is (subst (λ x. transcript x ≡ Err refused) (sym (read_whole_is source.before source.now text h.0.text told h.0.was_read)) h.0.is_refused))
+    absurd
+    (not_refused text t refused is
+    (subst (λ x. transcript x ≡ Err refused) (sym (read_whole_is source.before source.now text h.0.text told h.0.was_read)) h.0.is_refused))
 checks_transcripts ordered faithful source out ending.HostFailed text t h told fits is no_fault no_write = absurd h
 checks_transcripts ordered faithful source out ending.TooLong text t h told fits is no_fault no_write =
     let longer = read_length source.before source.now text h.0.bytes told h.0.was_read in
     absurd (omega (arith, longer, h.0.too_long))
 
 -- a text that is no transcript isn't judged
-not_judged : (source out : Stream) (v : Verdict) (text : List ℕ) (at : ScriptRefused) → Checked source out v → source.before ≡ Some text → transcript text ≡ Err at → ⊥
+not_judged :
+    (source out : Stream) (v : Verdict) (text : List ℕ) (at : ScriptRefused) → Checked source out v → source.before ≡ Some text → transcript text ≡ Err at → ⊥
 not_judged source out v text at h told is =
     let j = h.judged in
-    not_refused text j.transcript at (subst (λ x. transcript x ≡ Ok j.transcript) (sym (read_whole_is source.before source.now text j.text told j.was_read)) j.is_transcript) is
+    not_refused text j.transcript at
+    (subst (λ x. transcript x ≡ Ok j.transcript) (sym (read_whole_is source.before source.now text j.text told j.was_read)) j.is_transcript) is
 
 same_fault : (text : List ℕ) (a b : ScriptRefused) → transcript text ≡ Err a → transcript text ≡ Err b → b ≡ a
 same_fault text a b x y =
@@ -83,7 +90,10 @@ checks_refuse source out ending.Usage text at h told fits is no_fault no_write =
 checks_refuse source out ending.ReadFailed text at h told fits is no_fault no_write = absurd (no_fault h.0.failed)
 checks_refuse source out ending.WriteFailed text at h told fits is no_fault no_write = absurd (no_write h.failed)
 checks_refuse source out (ending.Refused refused) text at h told fits is no_fault no_write =
-    inl (ap (λ r. ending.Refused r) (same_fault text at refused is (subst (λ x. transcript x ≡ Err refused) (sym (read_whole_is source.before source.now text h.0.text told h.0.was_read)) h.0.is_refused)))
+    inl
+    (ap (λ r. ending.Refused r)
+    (same_fault text at refused is
+    (subst (λ x. transcript x ≡ Err refused) (sym (read_whole_is source.before source.now text h.0.text told h.0.was_read)) h.0.is_refused)))
 checks_refuse source out ending.HostFailed text at h told fits is no_fault no_write = absurd h
 checks_refuse source out ending.TooLong text at h told fits is no_fault no_write =
     let longer = read_length source.before source.now text h.0.bytes told h.0.was_read in

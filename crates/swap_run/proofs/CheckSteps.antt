@@ -46,16 +46,22 @@ without_verdict source out ending.Faulted p none = absurd p
 without_verdict source out ending.Usage p none = absurd p
 without_verdict source out ending.HostFailed p none = absurd p
 
-judged_as : (source : Stream) (text : List ℕ) (read : Result Transcript ScriptRefused) (r : Result Judgement Ending) → WasReadWhole source.before source.now text → length text ≤ TEXT_LIMIT → transcript text ≡ read → TextJudged read r → SourceJudged source r
-judged_as source text (Ok t) (Ok j) whole within is h = record { text = text; was_read = whole; within = within; transcript = t; is_transcript = is; judges = h }
+judged_as :
+    (source : Stream) (text : List ℕ) (read : Result Transcript ScriptRefused) (r : Result Judgement Ending) → WasReadWhole source.before source.now text
+    → length text ≤ TEXT_LIMIT → transcript text ≡ read → TextJudged read r → SourceJudged source r
+judged_as source text (Ok t) (Ok j) whole within is h =
+    record { text = text; was_read = whole; within = within; transcript = t; is_transcript = is; judges = h }
 judged_as source text (Err at) (Ok j) whole within is h = absurd h
-judged_as source text (Err at) (Err (ending.Refused r)) whole within is h = record { text = text; was_read = whole; within = within; is_refused = is ∙ ap (λ e. Err e) (sym h) }
+judged_as source text (Err at) (Err (ending.Refused r)) whole within is h =
+    record { text = text; was_read = whole; within = within; is_refused = is ∙ ap (λ e. Err e) (sym h) }
 judged_as source text (Err at) (Err ending.NoMemory) whole within is h = tt
 judged_as source text (Ok t) (Err ending.NoMemory) whole within is h = tt
 judged_as source text read (Err other) whole within is h = absurd h
 
 -- a text that was read whole
-pub judged_text : (source : Stream) (text : List ℕ) (r : Result Judgement Ending) → WasReadWhole source.before source.now text → length text ≤ TEXT_LIMIT → TextJudged (transcript text) r → SourceJudged source r
+pub judged_text :
+    (source : Stream) (text : List ℕ) (r : Result Judgement Ending) → WasReadWhole source.before source.now text → length text ≤ TEXT_LIMIT
+    → TextJudged (transcript text) r → SourceJudged source r
 judged_text source text r whole within h = judged_as source text (transcript text) r whole within refl h
 
 told_as : (j : Judgement) (out : Stream) (v : Verdict) → j.verdict ≡ v → Appends out.before out.now (verdict_line j) → VerdictEnds j out (ending_of v)
@@ -67,20 +73,39 @@ pub told_whole : (j : Judgement) (out : Stream) (end : Ending) → end ≡ endin
 told_whole j out end is wrote = subst (VerdictEnds j out) (sym is) (told_as j out j.verdict refl wrote)
 
 -- a verdict that is told before a sink that gathers
-handed_on : (j : Judgement) (before : Option (List ℕ)) (f : ℕ) (mid now : Gathered) (ran end : Ending) → IsFresh before → f ≤ mid.faults → HandsOn ran mid now end → VerdictEnds j (stream (append_known before []) (gathered mid) f mid.faults) ran → VerdictEnds j (stream before now.handed f now.faults) end
+handed_on :
+    (j : Judgement) (before : Option (List ℕ)) (f : ℕ) (mid now : Gathered) (ran end : Ending) → IsFresh before → f ≤ mid.faults → HandsOn ran mid now end
+    → VerdictEnds j (stream (append_known before []) (gathered mid) f mid.faults) ran → VerdictEnds j (stream before now.handed f now.faults) end
 handed_on j before f mid now ending.Done end fresh later hands v =
     elim hands.1 [
-      | inl same ↦ subst (VerdictEnds j (stream before now.handed f now.faults)) (sym same.0) (v.0, out_all before (gathered mid) now.handed now.held (verdict_line j) same.1 v.1 hands.0)
-      | inr failed ↦ subst (VerdictEnds j (stream before now.handed f now.faults)) (sym failed.0) (out_front before now.handed now.held (verdict_line j) fresh (all_is_front (append_known before []) (gathered now) (verdict_line j) (Appends-kept (append_known before []) (gathered mid) (gathered now) (verdict_line j) v.1 hands.0)), omega (arith, later, failed.1))
+      | inl same ↦
+          subst (VerdictEnds j (stream before now.handed f now.faults)) (sym same.0)
+          (v.0, out_all before (gathered mid) now.handed now.held (verdict_line j) same.1 v.1 hands.0)
+      | inr failed ↦
+          subst (VerdictEnds j (stream before now.handed f now.faults)) (sym failed.0) (
+            out_front before now.handed now.held (verdict_line j) fresh
+                (all_is_front (append_known before []) (gathered now) (verdict_line j)
+                (Appends-kept (append_known before []) (gathered mid) (gathered now) (verdict_line j) v.1 hands.0)),
+            omega (arith, later, failed.1),
+          )
     ]
 handed_on j before f mid now ending.NotLegal end fresh later hands v =
     elim hands.1 [
-      | inl same ↦ subst (VerdictEnds j (stream before now.handed f now.faults)) (sym same.0) (v.0, v.1, out_all before (gathered mid) now.handed now.held (verdict_line j) same.1 v.2 hands.0)
-      | inr failed ↦ subst (VerdictEnds j (stream before now.handed f now.faults)) (sym failed.0) (out_front before now.handed now.held (verdict_line j) fresh (all_is_front (append_known before []) (gathered now) (verdict_line j) (Appends-kept (append_known before []) (gathered mid) (gathered now) (verdict_line j) v.2 hands.0)), omega (arith, later, failed.1))
+      | inl same ↦
+          subst (VerdictEnds j (stream before now.handed f now.faults)) (sym same.0)
+          (v.0, v.1, out_all before (gathered mid) now.handed now.held (verdict_line j) same.1 v.2 hands.0)
+      | inr failed ↦
+          subst (VerdictEnds j (stream before now.handed f now.faults)) (sym failed.0) (
+            out_front before now.handed now.held (verdict_line j) fresh
+                (all_is_front (append_known before []) (gathered now) (verdict_line j)
+                (Appends-kept (append_known before []) (gathered mid) (gathered now) (verdict_line j) v.2 hands.0)),
+            omega (arith, later, failed.1),
+          )
     ]
 handed_on j before f mid now ending.WriteFailed end fresh later hands v =
     subst (VerdictEnds j (stream before now.handed f now.faults)) (sym hands.0)
-    (subst (λ (s : Gathered). VerdictEnds j (stream before s.handed f s.faults) ending.WriteFailed) (sym hands.1) (out_front before mid.handed mid.held (verdict_line j) fresh v.0, v.1))
+    (subst (λ (s : Gathered). VerdictEnds j (stream before s.handed f s.faults) ending.WriteFailed) (sym hands.1)
+    (out_front before mid.handed mid.held (verdict_line j) fresh v.0, v.1))
 handed_on j before f mid now ending.NoMemory end fresh later hands v =
     subst (VerdictEnds j (stream before now.handed f now.faults)) (sym hands.0)
     (subst (λ (s : Gathered). VerdictEnds j (stream before s.handed f s.faults) ending.NoMemory) (sym hands.1) (out_nothing before mid.handed mid.held fresh v))
@@ -91,7 +116,9 @@ handed_on j before f mid now (ending.Refused r) end fresh later hands v = absurd
 handed_on j before f mid now ending.HostFailed end fresh later hands v = absurd v
 handed_on j before f mid now ending.TooLong end fresh later hands v = absurd v
 
-pub verdict_in_blocks : (j : Judgement) (before mid now : Gathered) (ran end : Ending) → before.held ≡ [] → IsFresh before.handed → before.faults ≤ mid.faults → HandsOn ran mid now end → VerdictEnds j (stream (gathered before) (gathered mid) before.faults mid.faults) ran
+pub verdict_in_blocks :
+    (j : Judgement) (before mid now : Gathered) (ran end : Ending) → before.held ≡ [] → IsFresh before.handed → before.faults ≤ mid.faults
+    → HandsOn ran mid now end → VerdictEnds j (stream (gathered before) (gathered mid) before.faults mid.faults) ran
     → VerdictEnds j (stream before.handed now.handed before.faults now.faults) end
 verdict_in_blocks j before mid now ran end none fresh later hands v =
     handed_on j before.handed before.faults mid now ran end fresh later hands

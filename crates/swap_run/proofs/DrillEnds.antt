@@ -36,7 +36,9 @@ none_counted (row ∷ H) e =
     let s = same_fault row.entry.op in
     by (is_fault row.entry.op) refl s (none_counted H (omega (arith, c, e))) (omega (arith, c, e))
   where
-    by : (b : Bool) → is_fault row.entry.op ≡ b → is_fault row.entry.op ≡ is_failed row.entry.op → has_failed H ≡ false → one_if (is_fault row.entry.op) ≡ 0 → (is_failed row.entry.op || has_failed H) ≡ false
+    by :
+        (b : Bool) → is_fault row.entry.op ≡ b → is_fault row.entry.op ≡ is_failed row.entry.op → has_failed H ≡ false → one_if (is_fault row.entry.op) ≡ 0
+        → (is_failed row.entry.op || has_failed H) ≡ false
     by true is s rest none = let one = ap one_if is in absurd (omega (arith, one, none))
     by false is s rest none = ap (λ x. x || has_failed H) (sym s ∙ is) ∙ rest
 
@@ -47,39 +49,60 @@ some_counted (row ∷ H) e =
     let s = same_fault row.entry.op in
     by (is_fault row.entry.op) refl s (λ more. some_counted H more) c e
   where
-    by : (b : Bool) → is_fault row.entry.op ≡ b → is_fault row.entry.op ≡ is_failed row.entry.op → (0 < entries_that is_fault H → has_failed H ≡ true) → entries_that is_fault (row ∷ H) ≡ one_if (is_fault row.entry.op) + entries_that is_fault H → 0 < entries_that is_fault (row ∷ H) → (is_failed row.entry.op || has_failed H) ≡ true
+    by :
+        (b : Bool) → is_fault row.entry.op ≡ b → is_fault row.entry.op ≡ is_failed row.entry.op → (0 < entries_that is_fault H → has_failed H ≡ true)
+        → entries_that is_fault (row ∷ H) ≡ one_if (is_fault row.entry.op) + entries_that is_fault H → 0 < entries_that is_fault (row ∷ H)
+        → (is_failed row.entry.op || has_failed H) ≡ true
     by true is s rest c more = ap (λ x. x || has_failed H) (sym s ∙ is)
     by false is s rest c more = let none = ap one_if is in ap (λ x. x || has_failed H) (sym s ∙ is) ∙ rest (omega (arith, c, more, none))
 
 -- a drill's summary before a sink that gathers
-ran_whole : (number calls : ℕ) (before : Option (List ℕ)) (f : ℕ) (mid now : Gathered) (fault : Bool) → now.held ≡ [] → RanDrill number calls (stream (append_known before []) (gathered mid) f mid.faults) fault → Keeps (gathered mid) (gathered now)
+ran_whole :
+    (number calls : ℕ) (before : Option (List ℕ)) (f : ℕ) (mid now : Gathered) (fault : Bool) → now.held ≡ []
+    → RanDrill number calls (stream (append_known before []) (gathered mid) f mid.faults) fault → Keeps (gathered mid) (gathered now)
     → RanDrill number calls (stream before now.handed f now.faults) fault
 ran_whole number calls before f mid now fault none p kept =
     record { wrote = out_all before (gathered mid) now.handed now.held (drill_text number calls) none p.wrote kept; fault = p.fault; headline = p.headline }
 
-broke_off : (number calls : ℕ) (before : Option (List ℕ)) (f : ℕ) (mid now : Gathered) (fault : Bool) → IsFresh before → f ≤ mid.faults → Rose mid.faults now.faults → RanDrill number calls (stream (append_known before []) (gathered mid) f mid.faults) fault → Keeps (gathered mid) (gathered now)
+broke_off :
+    (number calls : ℕ) (before : Option (List ℕ)) (f : ℕ) (mid now : Gathered) (fault : Bool) → IsFresh before → f ≤ mid.faults → Rose mid.faults now.faults
+    → RanDrill number calls (stream (append_known before []) (gathered mid) f mid.faults) fault → Keeps (gathered mid) (gathered now)
     → DrillEnds number calls (stream before now.handed f now.faults) ending.WriteFailed
-broke_off number calls before f mid now fault fresh later rose p kept =
-    (out_front before now.handed now.held (drill_text number calls) fresh (all_is_front (append_known before []) (gathered now) (drill_text number calls) (Appends-kept (append_known before []) (gathered mid) (gathered now) (drill_text number calls) p.wrote kept)), omega (arith, later, rose))
+broke_off number calls before f mid now fault fresh later rose p kept = (
+  out_front before now.handed now.held (drill_text number calls) fresh
+      (all_is_front (append_known before []) (gathered now) (drill_text number calls)
+      (Appends-kept (append_known before []) (gathered mid) (gathered now) (drill_text number calls) p.wrote kept)),
+  omega (arith, later, rose),
+)
 
-handed_on : (number calls : ℕ) (before : Option (List ℕ)) (f : ℕ) (mid now : Gathered) (ran end : Ending) → IsFresh before → f ≤ mid.faults → HandsOn ran mid now end → DrillEnds number calls (stream (append_known before []) (gathered mid) f mid.faults) ran
+handed_on :
+    (number calls : ℕ) (before : Option (List ℕ)) (f : ℕ) (mid now : Gathered) (ran end : Ending) → IsFresh before → f ≤ mid.faults → HandsOn ran mid now end
+    → DrillEnds number calls (stream (append_known before []) (gathered mid) f mid.faults) ran
     → DrillEnds number calls (stream before now.handed f now.faults) end
 handed_on number calls before f mid now ending.Done end fresh later hands p =
     elim hands.1 [
-      | inl same ↦ subst (DrillEnds number calls (stream before now.handed f now.faults)) (sym same.0) (ran_whole number calls before f mid now false same.1 p hands.0)
-      | inr failed ↦ subst (DrillEnds number calls (stream before now.handed f now.faults)) (sym failed.0) (broke_off number calls before f mid now false fresh later failed.1 p hands.0)
+      | inl same ↦
+          subst (DrillEnds number calls (stream before now.handed f now.faults)) (sym same.0) (ran_whole number calls before f mid now false same.1 p hands.0)
+      | inr failed ↦
+          subst (DrillEnds number calls (stream before now.handed f now.faults)) (sym failed.0)
+          (broke_off number calls before f mid now false fresh later failed.1 p hands.0)
     ]
 handed_on number calls before f mid now ending.Faulted end fresh later hands p =
     elim hands.1 [
-      | inl same ↦ subst (DrillEnds number calls (stream before now.handed f now.faults)) (sym same.0) (ran_whole number calls before f mid now true same.1 p hands.0)
-      | inr failed ↦ subst (DrillEnds number calls (stream before now.handed f now.faults)) (sym failed.0) (broke_off number calls before f mid now true fresh later failed.1 p hands.0)
+      | inl same ↦
+          subst (DrillEnds number calls (stream before now.handed f now.faults)) (sym same.0) (ran_whole number calls before f mid now true same.1 p hands.0)
+      | inr failed ↦
+          subst (DrillEnds number calls (stream before now.handed f now.faults)) (sym failed.0)
+          (broke_off number calls before f mid now true fresh later failed.1 p hands.0)
     ]
 handed_on number calls before f mid now ending.WriteFailed end fresh later hands p =
     subst (DrillEnds number calls (stream before now.handed f now.faults)) (sym hands.0)
-    (subst (λ (s : Gathered). DrillEnds number calls (stream before s.handed f s.faults) ending.WriteFailed) (sym hands.1) (out_front before mid.handed mid.held (drill_text number calls) fresh p.0, p.1))
+    (subst (λ (s : Gathered). DrillEnds number calls (stream before s.handed f s.faults) ending.WriteFailed) (sym hands.1)
+    (out_front before mid.handed mid.held (drill_text number calls) fresh p.0, p.1))
 handed_on number calls before f mid now ending.NoMemory end fresh later hands p =
     subst (DrillEnds number calls (stream before now.handed f now.faults)) (sym hands.0)
-    (subst (λ (s : Gathered). DrillEnds number calls (stream before s.handed f s.faults) ending.NoMemory) (sym hands.1) (out_nothing before mid.handed mid.held fresh p))
+    (subst (λ (s : Gathered). DrillEnds number calls (stream before s.handed f s.faults) ending.NoMemory) (sym hands.1)
+    (out_nothing before mid.handed mid.held fresh p))
 handed_on number calls before f mid now ending.NotLegal end fresh later hands p = absurd p
 handed_on number calls before f mid now ending.Usage end fresh later hands p = absurd p
 handed_on number calls before f mid now ending.ReadFailed end fresh later hands p = absurd p
@@ -87,7 +110,9 @@ handed_on number calls before f mid now (ending.Refused r) end fresh later hands
 handed_on number calls before f mid now ending.HostFailed end fresh later hands p = absurd p
 handed_on number calls before f mid now ending.TooLong end fresh later hands p = absurd p
 
-pub drill_in_blocks : (number calls : ℕ) (before mid now : Gathered) (ran end : Ending) → before.held ≡ [] → IsFresh before.handed → before.faults ≤ mid.faults → HandsOn ran mid now end → DrillEnds number calls (stream (gathered before) (gathered mid) before.faults mid.faults) ran
+pub drill_in_blocks :
+    (number calls : ℕ) (before mid now : Gathered) (ran end : Ending) → before.held ≡ [] → IsFresh before.handed → before.faults ≤ mid.faults
+    → HandsOn ran mid now end → DrillEnds number calls (stream (gathered before) (gathered mid) before.faults mid.faults) ran
     → DrillEnds number calls (stream before.handed now.handed before.faults now.faults) end
 drill_in_blocks number calls before mid now ran end none fresh later hands p =
     handed_on number calls before.handed before.faults mid now ran end fresh later hands
@@ -122,9 +147,12 @@ may_if false x y p q = q
 
 pub command_may : (words : List (List ℕ)) → MayRun (command_of words)
 command_may [] = tt
-command_may (word ∷ []) = may_if (is_word (codes "script") word) (Some RunScript) (cond (is_word (codes "check") word) (Some CheckTranscript) None) tt (may_if (is_word (codes "check") word) (Some CheckTranscript) None tt tt)
+command_may (word ∷ []) =
+    may_if (is_word (codes "script") word) (Some RunScript) (cond (is_word (codes "check") word) (Some CheckTranscript) None) tt
+    (may_if (is_word (codes "check") word) (Some CheckTranscript) None tt tt)
 command_may (a ∷ b ∷ []) = tt
-command_may (word ∷ number ∷ calls ∷ []) = may_if (is_word (codes "drill") word) (drill_of (number_of number) (number_of calls)) None (drill_may (number_of number) (number_of calls)) tt
+command_may (word ∷ number ∷ calls ∷ []) =
+    may_if (is_word (codes "drill") word) (drill_of (number_of number) (number_of calls)) None (drill_may (number_of number) (number_of calls)) tt
 command_may (a ∷ b ∷ c ∷ d ∷ more) = tt
 
 -- a drill reads nothing of its source
@@ -132,5 +160,7 @@ same_kept : (bytes : Option (List ℕ)) → Keeps bytes bytes
 same_kept None = tt
 same_kept (Some bytes) = refl
 
-pub drill_holds : (command : Option Command) (number calls : ℕ) (left : Option (List ℕ)) (faults : ℕ) (out : Stream) (end : Ending) → command ≡ Some (RunDrill number calls) → DrillEnds number calls out end → Ends command (stream left left faults faults) out end
+pub drill_holds :
+    (command : Option Command) (number calls : ℕ) (left : Option (List ℕ)) (faults : ℕ) (out : Stream) (end : Ending) → command ≡ Some (RunDrill number calls)
+    → DrillEnds number calls out end → Ends command (stream left left faults faults) out end
 drill_holds command number calls left faults out end is p = subst (λ c. Ends c (stream left left faults faults) out end) (sym is) (same_kept left, p)

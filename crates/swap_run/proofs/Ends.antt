@@ -36,16 +36,22 @@ pieces w s = headers s.sizes s.lenders ++ lines_from w s.inputs ++ end_line (len
 pub pieces_are : (s left : reading.Script) (w : World) → left ≡ s → w ≡ start s.sizes s.lenders → pieces w left ≡ transcript_of s
 pieces_are s left w el ew = ap (λ l. pieces w l) el ∙ ap (λ x. pieces x s) ew
 
-pub wrote : (s left : reading.Script) (w : World) (a b : Option (List ℕ)) → left ≡ s → w ≡ start s.sizes s.lenders → Appends a b (pieces w left) → Appends a b (transcript_of s)
+pub wrote :
+    (s left : reading.Script) (w : World) (a b : Option (List ℕ)) → left ≡ s → w ≡ start s.sizes s.lenders → Appends a b (pieces w left)
+    → Appends a b (transcript_of s)
 wrote s left w a b el ew h = let P : List ℕ → Type 0 = λ r. Appends a b r in subst P (pieces_are s left w el ew) h
 
-pub broke : (s left : reading.Script) (w : World) (a b : Option (List ℕ)) → left ≡ s → w ≡ start s.sizes s.lenders → AppendsFront a b (pieces w left) → AppendsFront a b (transcript_of s)
+pub broke :
+    (s left : reading.Script) (w : World) (a b : Option (List ℕ)) → left ≡ s → w ≡ start s.sizes s.lenders → AppendsFront a b (pieces w left)
+    → AppendsFront a b (transcript_of s)
 broke s left w a b el ew h = let P : List ℕ → Type 0 = λ r. AppendsFront a b r in subst P (pieces_are s left w el ew) h
 
-pub history_is : (s left : reading.Script) (w after : World) → left ≡ s → w ≡ start s.sizes s.lenders → after ≡ reach w left.inputs → history after ≡ history_of s
+pub history_is :
+    (s left : reading.Script) (w after : World) → left ≡ s → w ≡ start s.sizes s.lenders → after ≡ reach w left.inputs → history after ≡ history_of s
 history_is s left w after el ew ea = ap history ea ∙ ap (λ (l : reading.Script). history (reach w l.inputs)) el ∙ ap (λ x. history (reach x s.inputs)) ew
 
-pub fits_of : (s left : reading.Script) (w : World) → left ≡ s → w ≡ start s.sizes s.lenders → NumbersFit w left.inputs → NumbersFit (start s.sizes s.lenders) s.inputs
+pub fits_of :
+    (s left : reading.Script) (w : World) → left ≡ s → w ≡ start s.sizes s.lenders → NumbersFit w left.inputs → NumbersFit (start s.sizes s.lenders) s.inputs
 fits_of s left w el ew fits = subst (λ x. NumbersFit x s.inputs) ew (subst (λ (l : reading.Script). NumbersFit w l.inputs) el fits)
 
 pub keeps_same : (known : Option (List ℕ)) → Keeps known known
@@ -77,15 +83,34 @@ headline legal once seen lent laws text s e =
     }
 
 -- a text that was read whole, and how its run ended
-pub script_ends : ScriptsKeepTheHeadline → ScriptsAreReadBack → (source out : Stream) (text : List ℕ) (end : Ending) → WasReadWhole source.before source.now text → length text ≤ TEXT_LIMIT → TextEnds (reading.script text) out end → ScriptEnds source out end
+pub script_ends :
+    ScriptsKeepTheHeadline → ScriptsAreReadBack → (source out : Stream) (text : List ℕ) (end : Ending) → WasReadWhole source.before source.now text
+    → length text ≤ TEXT_LIMIT → TextEnds (reading.script text) out end → ScriptEnds source out end
 script_ends keep back source out text end read within h = go (reading.script text) end refl h
   where
     go : (r : Result reading.Script ScriptRefused) (end : Ending) → reading.script text ≡ r → TextEnds r out end → ScriptEnds source out end
-    go (Ok s) ending.Done e h = record { script = s; read = record { text = text; was_read = read; within = within; is_script = e }; wrote = h.wrote; fault = h.fault; headline = keep text s e; read_back = back text s e h.fits }
-    go (Ok s) ending.Faulted e h = record { script = s; read = record { text = text; was_read = read; within = within; is_script = e }; wrote = h.wrote; fault = h.fault; headline = keep text s e; read_back = back text s e h.fits }
+    go (Ok s) ending.Done e h =
+        record {
+          script = s;
+          read = record { text = text; was_read = read; within = within; is_script = e };
+          wrote = h.wrote;
+          fault = h.fault;
+          headline = keep text s e;
+          read_back = back text s e h.fits;
+        }
+    go (Ok s) ending.Faulted e h =
+        record {
+          script = s;
+          read = record { text = text; was_read = read; within = within; is_script = e };
+          wrote = h.wrote;
+          fault = h.fault;
+          headline = keep text s e;
+          read_back = back text s e h.fits;
+        }
     go (Ok s) ending.Usage e h = absurd h
     go (Ok s) ending.ReadFailed e h = absurd h
-    go (Ok s) ending.WriteFailed e h = record { script = s; read = record { text = text; was_read = read; within = within; is_script = e }; wrote = h.0; failed = h.1 }
+    go (Ok s) ending.WriteFailed e h =
+        record { script = s; read = record { text = text; was_read = read; within = within; is_script = e }; wrote = h.0; failed = h.1 }
     go (Ok s) (ending.Refused r) e h = absurd h
     go (Ok s) ending.NoMemory e h = h
     go (Ok s) ending.NotLegal e h = absurd h
@@ -103,7 +128,9 @@ script_ends keep back source out text end read within h = go (reading.script tex
     go (Err refused) ending.TooLong e h = absurd h
 
 -- a line was written to err, or a front of it where it failed
-pub told : {T E : Type 0} (s : Stream) (bytes line : List ℕ) (r : Result T E) → line ≡ bytes → OnOk r (Appends s.before s.now line) → OnErr r (AppendsFront s.before s.now line) → HasCause s.faults_before s.faults_now r → Told s bytes
+pub told :
+    {T E : Type 0} (s : Stream) (bytes line : List ℕ) (r : Result T E) → line ≡ bytes → OnOk r (Appends s.before s.now line)
+    → OnErr r (AppendsFront s.before s.now line) → HasCause s.faults_before s.faults_now r → Told s bytes
 told s bytes line (Ok x) e ok err cause = inl (let P : List ℕ → Type 0 = λ l. Appends s.before s.now l in subst P e ok)
 told s bytes line (Err x) e ok err cause = inr (cause.failed, let P : List ℕ → Type 0 = λ l. AppendsFront s.before s.now l in subst P e err)
 

@@ -80,11 +80,13 @@ next-page w i is buf = go i.event (happens-page w.device i is buf)
     go e same = ap (λ p. next_of (run drive.ask harbor.ask p w.drive w.harbor)) same
 
 steps_to : StepsAreNext → (now after : WorldOf Drive Harbor) (i : Input) (is : List Input) (buf : List ℕ) (s : Seen)
-    → IsEvent drive.Moves harbor.Moves now.core.device now.core.disk now.core.fabric (record { event = i.event; page = page_after (i ∷ is) buf }) s after.core.device after.core.disk after.core.fabric
+    → IsEvent drive.Moves harbor.Moves now.core.device now.core.disk now.core.fabric
+    (record { event = i.event; page = page_after (i ∷ is) buf }) s after.core.device after.core.disk after.core.fabric
     → next (world_in now) i ≡ record { world = world_in after; seen = s }
 steps_to steps now after i is buf s step =
     sym (next-page (world_in now) i is buf)
-    ∙ steps now.core.device after.core.device now.core.disk after.core.disk now.core.fabric after.core.fabric (record { event = i.event; page = page_after (i ∷ is) buf }) s step
+    ∙ steps now.core.device after.core.device now.core.disk after.core.disk now.core.fabric after.core.fabric
+    (record { event = i.event; page = page_after (i ∷ is) buf }) s step
 
 -- an entry that stands in a history stands in each that goes on from it
 has_entry : (H : History) (s : Seen) → StandsIn H s → HasEntry H s
@@ -162,7 +164,8 @@ all_stand-append H (p ∷ pairs) e s all h = (all.0, all_stand-append H pairs e 
 lines_same : LinesStay → (H more : History) (pairs : List (Event × Seen)) → AllStand H pairs → lines_of (more ++ H) pairs ≡ lines_of H pairs
 lines_same stay H more [] all = refl
 lines_same stay H more (p ∷ pairs) all =
-    flat_map-cons (line (more ++ H)) p pairs ∙ ap (λ l. l ++ lines_of (more ++ H) pairs) (stay more H p.0 p.1 all.0) ∙ ap (λ ls. line H p ++ ls) (lines_same stay H more pairs all.1) ∙ sym (flat_map-cons (line H) p pairs)
+    flat_map-cons (line (more ++ H)) p pairs ∙ ap (λ l. l ++ lines_of (more ++ H) pairs) (stay more H p.0 p.1 all.0)
+    ∙ ap (λ ls. line H p ++ ls) (lines_same stay H more pairs all.1) ∙ sym (flat_map-cons (line H) p pairs)
 
 lines_more : (H : History) (pairs : List (Event × Seen)) (p : Event × Seen) → lines_of H (pairs ++ p ∷ []) ≡ lines_of H pairs ++ line H p
 lines_more H pairs p = flat_map-append (line H) pairs (p ∷ []) ∙ ap (λ l. lines_of H pairs ++ l) (flat_map-cons (line H) p [] ∙ append-nil (line H p))
@@ -188,11 +191,15 @@ one_less : (b : Bool) (n m : ℕ) → n + 1 ≤ m → n ≤ one_less_if b m
 one_less true n m h = omega arith
 one_less false n m h = omega arith
 
-room_left : (now after : WorldOf Drive Harbor) (left left' : Script) (i : Input) (is : List Input) (s : Seen) → left.inputs ≡ i ∷ is → left'.inputs ≡ is → left'.sizes ≡ left.sizes → left'.lenders ≡ left.lenders
-    → of_device after.core.device ≡ of_device now.core.device → KeepsRoom now.core after.core → GrowsByCalls i.event now.core.device after.core.device → after.log_spare ≡ one_less_if (has_effect i.event s) now.log_spare
+room_left :
+    (now after : WorldOf Drive Harbor) (left left' : Script) (i : Input) (is : List Input) (s : Seen) → left.inputs ≡ i ∷ is → left'.inputs ≡ is
+    → left'.sizes ≡ left.sizes → left'.lenders ≡ left.lenders
+    → of_device after.core.device ≡ of_device now.core.device → KeepsRoom now.core after.core → GrowsByCalls i.event now.core.device after.core.device
+    → after.log_spare ≡ one_less_if (has_effect i.event s) now.log_spare
     → HasRoomFor now left → HasRoomFor after left'
 room_left now after left left' i is s el el' es eb of keeps grows log h =
-    let calls : calls_of (i ∷ is) ≡ calls_in i.event + calls_of is = sum_by-append (λ (x : Input). calls_in x.event) (i ∷ []) is ∙ ap (λ n. n + calls_of is) (zero-add (calls_in i.event)) in
+    let calls : calls_of (i ∷ is) ≡ calls_in i.event + calls_of is =
+    sum_by-append (λ (x : Input). calls_in x.event) (i ∷ []) is ∙ ap (λ n. n + calls_of is) (zero-add (calls_in i.event)) in
     let all : calls_of left.inputs ≡ calls_in i.event + calls_of is = ap calls_of el ∙ calls in
     let few : calls_of left'.inputs ≡ calls_of is = ap calls_of el' in
     let new = new_call i.event in
@@ -207,11 +214,17 @@ room_left now after left left' i is s el el' es eb of keeps grows log h =
     }
 
 -- one more line was taken
-pub print_more : StepsAreNext → LinesStay → (first : WorldOf Drive Harbor) (all : List Input) (now after : WorldOf Drive Harbor) (left left' : Script) (i : Input) (is : List Input) (buf : List ℕ) (s : Seen) (bytes : List ℕ) (tb tm tn : Option (List ℕ))
+pub print_more :
+    StepsAreNext → LinesStay
+    → (first : WorldOf Drive Harbor) (all : List Input) (now after : WorldOf Drive Harbor) (left left' : Script) (i : Input) (is : List Input) (buf : List ℕ)
+    (s : Seen) (bytes : List ℕ) (tb tm tn : Option (List ℕ))
     → Printing first all now left tb tm → left.inputs ≡ i ∷ is → left'.inputs ≡ is → left'.sizes ≡ left.sizes → left'.lenders ≡ left.lenders
-    → IsEvent drive.Moves harbor.Moves now.core.device now.core.disk now.core.fabric (record { event = i.event; page = page_after (i ∷ is) buf }) s after.core.device after.core.disk after.core.fabric
-    → of_device after.core.device ≡ of_device now.core.device → KeepsRoom now.core after.core → GrowsByCalls i.event now.core.device after.core.device → after.log_spare ≡ one_less_if (has_effect i.event s) now.log_spare
-    → GoesOn now.core.device.history after.core.device.history → StandsIn after.core.device.history s → LineFits now.core.device.sizes.page_bytes i.event s after.core.device.history
+    → IsEvent drive.Moves harbor.Moves now.core.device now.core.disk now.core.fabric
+    (record { event = i.event; page = page_after (i ∷ is) buf }) s after.core.device after.core.disk after.core.fabric
+    → of_device after.core.device ≡ of_device now.core.device → KeepsRoom now.core after.core → GrowsByCalls i.event now.core.device after.core.device
+    → after.log_spare ≡ one_less_if (has_effect i.event s) now.log_spare
+    → GoesOn now.core.device.history after.core.device.history → StandsIn after.core.device.history s
+    → LineFits now.core.device.sizes.page_bytes i.event s after.core.device.history
     → bytes ≡ line after.core.device.history (i.event, s) → Appends tm tn bytes → Printing first all after left' tb tn
 print_more steps stay first all now after left left' i is buf s bytes tb tm tn k el el' es eb step of keeps grows log goes stands fits is_line took =
     let nx = steps_to steps now after i is buf s step in
@@ -229,7 +242,8 @@ print_more steps stay first all now after left left' i is buf s bytes tb tm tn k
       stand = all_stand-append H' k.so_far i.event s stand' (has_entry H' s stands);
       taken =
           let P : List ℕ → Type 0 = λ r. Appends tb tn r in
-          subst P (ap (λ l. l ++ bytes) (sym same) ∙ ap (λ b. lines_of H' k.so_far ++ b) is_line ∙ sym (lines_more H' k.so_far (i.event, s))) (appends_after tb tm tn (lines_of H k.so_far) bytes k.taken took);
+          subst P (ap (λ l. l ++ bytes) (sym same) ∙ ap (λ b. lines_of H' k.so_far ++ b) is_line ∙ sym (lines_more H' k.so_far (i.event, s)))
+          (appends_after tb tm tn (lines_of H k.so_far) bytes k.taken took);
       room = room_left now after left left' i is s el el' es eb of keeps grows log k.room;
       fits =
           λ rest.
@@ -240,9 +254,14 @@ print_more steps stay first all now after left left' i is buf s bytes tb tm tn k
     }
 
 -- a line was broken off
-pub print_broke : StepsAreNext → LinesStay → HistoriesGoOn → (first : WorldOf Drive Harbor) (all : List Input) (now after : WorldOf Drive Harbor) (left : Script) (i : Input) (is : List Input) (buf : List ℕ) (s : Seen) (bytes : List ℕ) (tb tm tn : Option (List ℕ))
+pub print_broke :
+    StepsAreNext → LinesStay → HistoriesGoOn
+    → (first : WorldOf Drive Harbor) (all : List Input) (now after : WorldOf Drive Harbor) (left : Script) (i : Input) (is : List Input) (buf : List ℕ)
+    (s : Seen)
+    (bytes : List ℕ) (tb tm tn : Option (List ℕ))
     → Printing first all now left tb tm → left.inputs ≡ i ∷ is
-    → IsEvent drive.Moves harbor.Moves now.core.device now.core.disk now.core.fabric (record { event = i.event; page = page_after (i ∷ is) buf }) s after.core.device after.core.disk after.core.fabric
+    → IsEvent drive.Moves harbor.Moves now.core.device now.core.disk now.core.fabric
+    (record { event = i.event; page = page_after (i ∷ is) buf }) s after.core.device after.core.disk after.core.fabric
     → GoesOn now.core.device.history after.core.device.history → StandsIn after.core.device.history s
     → bytes ≡ line after.core.device.history (i.event, s) → AppendsFront tm tn bytes → AppendsFront tb tn (lines_from (world_in first) all)
 print_broke steps stay on first all now after left i is buf s bytes tb tm tn k el step goes stands is_line took =
@@ -253,16 +272,21 @@ print_broke steps stay on first all now after left i is buf s bytes tb tm tn k e
     let F : History = history (reach (world_in after) is) in
     let rest : List (Event × Seen) = seens (world_in after) is in
     let pairs : seens (world_in first) all ≡ (k.so_far ++ (i.event, s) ∷ []) ++ rest =
-    k.seens ∙ ap (λ l. k.so_far ++ seens (world_in now) l) el ∙ ap (λ (n : Next). k.so_far ++ ((i.event, n.seen) ∷ seens n.world is)) nx ∙ sym (append_assoc k.so_far ((i.event, s) ∷ []) rest) in
-    let last : reach (world_in first) all ≡ reach (world_in after) is = k.reaches ∙ ap (λ l. reach (world_in now) l) el ∙ ap (λ (n : Next). reach n.world is) nx in
+    k.seens ∙ ap (λ l. k.so_far ++ seens (world_in now) l) el ∙ ap (λ (n : Next). k.so_far ++ ((i.event, n.seen) ∷ seens n.world is)) nx
+    ∙ sym (append_assoc k.so_far ((i.event, s) ∷ []) rest) in
+    let last : reach (world_in first) all ≡ reach (world_in after) is =
+    k.reaches ∙ ap (λ l. reach (world_in now) l) el ∙ ap (λ (n : Next). reach n.world is) nx in
     let stand' : AllStand H' k.so_far = subst (λ h. AllStand h k.so_far) (sym goes.1) (all_stand H goes.0 k.so_far k.stand) in
     let here : HasEntry H' s = has_entry H' s stands in
     let now_lines : lines_of H' k.so_far ≡ lines_of H k.so_far = ap (λ h. lines_of h k.so_far) goes.1 ∙ lines_same stay H goes.0 k.so_far k.stand in
     let mine : lines_of F (k.so_far ++ (i.event, s) ∷ []) ≡ lines_of H' (k.so_far ++ (i.event, s) ∷ []) =
-    ap (λ h. lines_of h (k.so_far ++ (i.event, s) ∷ [])) end.1 ∙ lines_same stay H' end.0 (k.so_far ++ (i.event, s) ∷ []) (all_stand-append H' k.so_far i.event s stand' here) in
+    ap (λ h. lines_of h (k.so_far ++ (i.event, s) ∷ [])) end.1
+    ∙ lines_same stay H' end.0 (k.so_far ++ (i.event, s) ∷ []) (all_stand-append H' k.so_far i.event s stand' here) in
     let split : lines_from (world_in first) all ≡ (lines_of H k.so_far ++ bytes) ++ lines_of F rest =
-    ap (λ (w : World). lines_of (history w) (seens (world_in first) all)) last ∙ ap (λ ps. lines_of F ps) pairs ∙ flat_map-append (line F) (k.so_far ++ (i.event, s) ∷ []) rest
-    ∙ ap (λ l. l ++ lines_of F rest) (mine ∙ lines_more H' k.so_far (i.event, s) ∙ ap (λ l. l ++ line H' (i.event, s)) now_lines ∙ ap (λ b. lines_of H k.so_far ++ b) (sym is_line)) in
+    ap (λ (w : World). lines_of (history w) (seens (world_in first) all)) last ∙ ap (λ ps. lines_of F ps) pairs
+    ∙ flat_map-append (line F) (k.so_far ++ (i.event, s) ∷ []) rest
+    ∙ ap (λ l. l ++ lines_of F rest)
+    (mine ∙ lines_more H' k.so_far (i.event, s) ∙ ap (λ l. l ++ line H' (i.event, s)) now_lines ∙ ap (λ b. lines_of H k.so_far ++ b) (sym is_line)) in
     let P : List ℕ → Type 0 = λ r. AppendsFront tb tn r in
     subst P (sym split) (front_more tb tn (lines_of H k.so_far ++ bytes) (lines_of F rest) (front_after tb tm tn (lines_of H k.so_far) bytes k.taken took))
 
@@ -275,16 +299,23 @@ any_err (Err e) P p = p
 pub first_broke : (a b : Option (List ℕ)) (bytes xs ys zs : List ℕ) → bytes ≡ xs → AppendsFront a b bytes → AppendsFront a b (xs ++ ys ++ zs)
 first_broke a b bytes xs ys zs e p = front_more a b (xs ++ ys) zs (front_more a b xs ys (let P : List ℕ → Type 0 = λ r. AppendsFront a b r in subst P e p))
 
-pub second_broke : (a b c : Option (List ℕ)) (bytes xs ys zs : List ℕ) → bytes ≡ xs → Appends a b bytes → AppendsFront b c ys → AppendsFront a c (xs ++ ys ++ zs)
+pub second_broke :
+    (a b c : Option (List ℕ)) (bytes xs ys zs : List ℕ) → bytes ≡ xs → Appends a b bytes → AppendsFront b c ys → AppendsFront a c (xs ++ ys ++ zs)
 second_broke a b c bytes xs ys zs e p q = front_more a c (xs ++ ys) zs (front_after a b c xs ys (let P : List ℕ → Type 0 = λ r. Appends a b r in subst P e p) q)
 
-pub third_broke : (a b c d : Option (List ℕ)) (bytes xs ys more zs : List ℕ) → bytes ≡ xs → more ≡ zs → Appends a b bytes → Appends b c ys → AppendsFront c d more → AppendsFront a d (xs ++ ys ++ zs)
+pub third_broke :
+    (a b c d : Option (List ℕ)) (bytes xs ys more zs : List ℕ) → bytes ≡ xs → more ≡ zs → Appends a b bytes → Appends b c ys → AppendsFront c d more
+    → AppendsFront a d (xs ++ ys ++ zs)
 third_broke a b c d bytes xs ys more zs e f p q r =
-    front_after a c d (xs ++ ys) zs (appends_after a b c xs ys (let P : List ℕ → Type 0 = λ r. Appends a b r in subst P e p) q) (let P : List ℕ → Type 0 = λ r. AppendsFront c d r in subst P f r)
+    front_after a c d (xs ++ ys) zs (appends_after a b c xs ys (let P : List ℕ → Type 0 = λ r. Appends a b r in subst P e p) q)
+    (let P : List ℕ → Type 0 = λ r. AppendsFront c d r in subst P f r)
 
-pub all_taken : (a b c d : Option (List ℕ)) (bytes xs ys more zs : List ℕ) → bytes ≡ xs → more ≡ zs → Appends a b bytes → Appends b c ys → Appends c d more → Appends a d (xs ++ ys ++ zs)
+pub all_taken :
+    (a b c d : Option (List ℕ)) (bytes xs ys more zs : List ℕ) → bytes ≡ xs → more ≡ zs → Appends a b bytes → Appends b c ys → Appends c d more
+    → Appends a d (xs ++ ys ++ zs)
 all_taken a b c d bytes xs ys more zs e f p q r =
-    appends_after a c d (xs ++ ys) zs (appends_after a b c xs ys (let P : List ℕ → Type 0 = λ r. Appends a b r in subst P e p) q) (let P : List ℕ → Type 0 = λ r. Appends c d r in subst P f r)
+    appends_after a c d (xs ++ ys) zs (appends_after a b c xs ys (let P : List ℕ → Type 0 = λ r. Appends a b r in subst P e p) q)
+    (let P : List ℕ → Type 0 = λ r. Appends c d r in subst P f r)
 
 pub err_by : {T E : Type 0} (r : Result T E) (P Q : Type 0) → (P → Q) → OnErr r P → OnErr r Q
 err_by (Ok x) P Q f h = tt
@@ -300,13 +331,15 @@ adds_go_on d i s H (nothing seen_none same) = ([], same)
 adds_go_on d i s H (one row seen_one same answers) = (row ∷ [], same)
 
 adds_stand : (d : Device) (i : Input) (s : Seen) (H : History) → Adds d i s H → StandsIn H s
-adds_stand d i s H (nothing seen_none same) = let P : Option EntryNo → Type 0 = λ o. MatchOption o (Unit {0}) (λ (e : EntryNo). e.0 < length H) in subst P (sym seen_none) tt
+adds_stand d i s H (nothing seen_none same) =
+    let P : Option EntryNo → Type 0 = λ o. MatchOption o (Unit {0}) (λ (e : EntryNo). e.0 < length H) in subst P (sym seen_none) tt
 adds_stand d i s H (one row seen_one same answers) =
     let P : Option EntryNo → Type 0 = λ o. MatchOption o (Unit {0}) (λ (e : EntryNo). e.0 < length H) in subst P (sym seen_one) (rw same (omega arith))
 
 -- an event was made, and its line is this
 pub record IsMade (now after : WorldOf Drive Harbor) (e : Event) (page : List ℕ) (s : Seen) (bytes : List ℕ) : Type 0 where
-  pub step : IsEvent drive.Moves harbor.Moves now.core.device now.core.disk now.core.fabric (record { event = e; page = page }) s after.core.device after.core.disk after.core.fabric
+  pub step : IsEvent drive.Moves harbor.Moves now.core.device now.core.disk now.core.fabric
+      (record { event = e; page = page }) s after.core.device after.core.disk after.core.fabric
   pub of : of_device after.core.device ≡ of_device now.core.device
   pub keeps : KeepsRoom now.core after.core
   pub grows : GrowsByCalls e now.core.device after.core.device
@@ -320,7 +353,9 @@ pub line_fits_at : {m n : ℕ} {e : Event} {s : Seen} {H K : History} → LineFi
 line_fits_at {m} {n} {e} {s} {H} {K} fits size same = subst (LineFits n e s) same (subst (λ k. LineFits k e s H) size fits)
 
 -- no event is left, so all numbers fit
-pub all_fit : (first : WorldOf Drive Harbor) (all : List Input) (now : WorldOf Drive Harbor) (left : Script) (tb tn : Option (List ℕ)) → Printing first all now left tb tn → None ≡ first_event left.inputs → NumbersFit (world_in first) all
+pub all_fit :
+    (first : WorldOf Drive Harbor) (all : List Input) (now : WorldOf Drive Harbor) (left : Script) (tb tn : Option (List ℕ)) → Printing first all now left tb tn
+    → None ≡ first_event left.inputs → NumbersFit (world_in first) all
 all_fit first all now left tb tn k none = go left.inputs refl none
   where
     go : (inputs : List Input) → left.inputs ≡ inputs → None ≡ first_event inputs → NumbersFit (world_in first) all
@@ -330,31 +365,46 @@ all_fit first all now left tb tn k none = go left.inputs refl none
 some_is : {X : Type 0} {x y : X} → Some x ≡ Some y → x ≡ y
 some_is e = cc
 
-made_at : (now after : WorldOf Drive Harbor) (e e' : Event) (page page' : List ℕ) (s : Seen) (bytes : List ℕ) → e ≡ e' → page ≡ page' → IsMade now after e page s bytes → IsMade now after e' page' s bytes
+made_at :
+    (now after : WorldOf Drive Harbor) (e e' : Event) (page page' : List ℕ) (s : Seen) (bytes : List ℕ) → e ≡ e' → page ≡ page'
+    → IsMade now after e page s bytes
+    → IsMade now after e' page' s bytes
 made_at now after e e' page page' s bytes ee ep m =
     let P : Event → Type 0 = λ x. IsMade now after x page s bytes in
     let Q : List ℕ → Type 0 = λ x. IsMade now after e' x s bytes in subst Q ep (subst P ee m)
 
-pub printed_more : StepsAreNext → LinesStay → (first : WorldOf Drive Harbor) (all : List Input) (now after : WorldOf Drive Harbor) (left left' : Script) (e : Event) (page buf : List ℕ) (s : Seen) (bytes : List ℕ) (tb tm tn : Option (List ℕ))
-    → Printing first all now left tb tm → Some e ≡ first_event left.inputs → left' ≡ later left → page ≡ page_after left.inputs buf → IsMade now after e page s bytes → Appends tm tn bytes → Printing first all after left' tb tn
+pub printed_more :
+    StepsAreNext → LinesStay
+    → (first : WorldOf Drive Harbor) (all : List Input) (now after : WorldOf Drive Harbor) (left left' : Script) (e : Event) (page buf : List ℕ) (s : Seen)
+    (bytes : List ℕ) (tb tm tn : Option (List ℕ))
+    → Printing first all now left tb tm → Some e ≡ first_event left.inputs → left' ≡ later left → page ≡ page_after left.inputs buf
+    → IsMade now after e page s bytes → Appends tm tn bytes → Printing first all after left' tb tn
 printed_more steps stay first all now after left left' e page buf s bytes tb tm tn k ee el ep m took = go left.inputs refl ee ep
   where
     go : (inputs : List Input) → left.inputs ≡ inputs → Some e ≡ first_event inputs → page ≡ page_after inputs buf → Printing first all after left' tb tn
     go [] is ee ep = cc
     go (i ∷ is) is_inputs ee ep =
         let made = made_at now after e i.event page (page_after (i ∷ is) buf) s bytes (some_is ee) ep m in
-        print_more steps stay first all now after left left' i is buf s bytes tb tm tn k is_inputs (ap (λ (x : Script). x.inputs) el ∙ ap (λ l. drop 1 l) is_inputs) (ap (λ (x : Script). x.sizes) el) (ap (λ (x : Script). x.lenders) el)
+        print_more steps stay first all now after left left' i is buf s bytes tb tm tn k is_inputs
+        (ap (λ (x : Script). x.inputs) el ∙ ap (λ l. drop 1 l) is_inputs) (ap (λ (x : Script). x.sizes) el) (ap (λ (x : Script). x.lenders) el)
         made.step made.of made.keeps made.grows made.log.room (adds_go_on _ _ _ _ made.adds) (adds_stand _ _ _ _ made.adds) made.fits made.is_line took
 
-pub printed_broke : StepsAreNext → LinesStay → HistoriesGoOn → (first : WorldOf Drive Harbor) (all : List Input) (now after : WorldOf Drive Harbor) (left : Script) (e : Event) (page buf : List ℕ) (s : Seen) (bytes : List ℕ) (tb tm tn : Option (List ℕ))
-    → Printing first all now left tb tm → Some e ≡ first_event left.inputs → page ≡ page_after left.inputs buf → IsMade now after e page s bytes → AppendsFront tm tn bytes → AppendsFront tb tn (lines_from (world_in first) all)
+pub printed_broke :
+    StepsAreNext → LinesStay → HistoriesGoOn
+    → (first : WorldOf Drive Harbor) (all : List Input) (now after : WorldOf Drive Harbor) (left : Script) (e : Event) (page buf : List ℕ) (s : Seen)
+    (bytes : List ℕ) (tb tm tn : Option (List ℕ))
+    → Printing first all now left tb tm → Some e ≡ first_event left.inputs → page ≡ page_after left.inputs buf → IsMade now after e page s bytes
+    → AppendsFront tm tn bytes → AppendsFront tb tn (lines_from (world_in first) all)
 printed_broke steps stay on first all now after left e page buf s bytes tb tm tn k ee ep m took = go left.inputs refl ee ep
   where
-    go : (inputs : List Input) → left.inputs ≡ inputs → Some e ≡ first_event inputs → page ≡ page_after inputs buf → AppendsFront tb tn (lines_from (world_in first) all)
+    go :
+        (inputs : List Input) → left.inputs ≡ inputs → Some e ≡ first_event inputs → page ≡ page_after inputs buf
+        → AppendsFront tb tn (lines_from (world_in first) all)
     go [] is ee ep = cc
     go (i ∷ is) is_inputs ee ep =
         let made = made_at now after e i.event page (page_after (i ∷ is) buf) s bytes (some_is ee) ep m in
-        print_broke steps stay on first all now after left i is buf s bytes tb tm tn k is_inputs made.step (adds_go_on _ _ _ _ made.adds) (adds_stand _ _ _ _ made.adds) made.is_line took
+        print_broke steps stay on first all now after left i is buf s bytes tb tm tn k is_inputs made.step (adds_go_on _ _ _ _ made.adds)
+        (adds_stand _ _ _ _ made.adds) made.is_line took
 
 -- the same bytes
 pub taken_as : (a b : Option (List ℕ)) (xs ys : List ℕ) → xs ≡ ys → Appends a b xs → Appends a b ys

@@ -11,4 +11,5 @@ read_whole_is (Some xs) (Some ys) told text e h =
 pub read_length : (before now : Option (List ℕ)) (told bytes : List ℕ) → before ≡ Some told → WasRead before now bytes → length bytes ≤ length told
 read_length None now told bytes e h = cc
 read_length (Some xs) None told bytes e h = absurd h
-read_length (Some xs) (Some ys) told bytes e h = let same : xs ≡ told = cc in let l : length told ≡ length bytes + length ys = ap length (sym same ∙ h) ∙ length-append bytes ys in omega arith
+read_length (Some xs) (Some ys) told bytes e h =
+    let same : xs ≡ told = cc in let l : length told ≡ length bytes + length ys = ap length (sym same ∙ h) ∙ length-append bytes ys in omega arith

@@ -21,14 +21,25 @@ pieces_are refused =
     ap (λ r. codes "line " ++ r) (sym (append_assoc d (codes ": " ++ w) (10 ∷ [])) ∙ ap (λ r. r ++ 10 ∷ []) (sym (append_assoc d (58 ∷ []) (32 ∷ w))))
 
 -- the text was broken off in each of its pieces
-pub broke_in_line : (a b : Option (List ℕ)) (refused : ScriptRefused) (digits : List ℕ) → digits ≡ decimal refused.line → AppendsFront a b (codes "line " ++ digits) → AppendsFront a b (refusal refused)
+pub broke_in_line :
+    (a b : Option (List ℕ)) (refused : ScriptRefused) (digits : List ℕ) → digits ≡ decimal refused.line → AppendsFront a b (codes "line " ++ digits)
+    → AppendsFront a b (refusal refused)
 broke_in_line a b refused digits d broke =
-    front_as a b _ _ (pieces_are refused) (front_more a b (line_of refused) (reason_of refused ++ 10 ∷ []) (front_as a b _ _ (ap (λ r. codes "line " ++ r) d) broke))
+    front_as a b _ _ (pieces_are refused)
+    (front_more a b (line_of refused) (reason_of refused ++ 10 ∷ []) (front_as a b _ _ (ap (λ r. codes "line " ++ r) d) broke))
 
-pub broke_in_reason : (a b c : Option (List ℕ)) (refused : ScriptRefused) (digits word : List ℕ) → digits ≡ decimal refused.line → word ≡ why_word refused.why → Appends a b (codes "line " ++ digits) → AppendsFront b c (codes ": " ++ word) → AppendsFront a c (refusal refused)
+pub broke_in_reason :
+    (a b c : Option (List ℕ)) (refused : ScriptRefused) (digits word : List ℕ) → digits ≡ decimal refused.line → word ≡ why_word refused.why
+    → Appends a b (codes "line " ++ digits) → AppendsFront b c (codes ": " ++ word) → AppendsFront a c (refusal refused)
 broke_in_reason a b c refused digits word d w taken broke =
-    front_as a c _ _ (pieces_are refused) (front_after a b c (line_of refused) (reason_of refused ++ 10 ∷ []) (taken_as a b _ _ (ap (λ r. codes "line " ++ r) d) taken) (front_more b c (reason_of refused) (10 ∷ []) (front_as b c _ _ (ap (λ r. codes ": " ++ r) w) broke)))
+    front_as a c _ _ (pieces_are refused)
+    (front_after a b c (line_of refused) (reason_of refused ++ 10 ∷ []) (taken_as a b _ _ (ap (λ r. codes "line " ++ r) d) taken)
+    (front_more b c (reason_of refused) (10 ∷ []) (front_as b c _ _ (ap (λ r. codes ": " ++ r) w) broke)))
 
-pub broke_at_end : (a b c e : Option (List ℕ)) (refused : ScriptRefused) (digits word : List ℕ) → digits ≡ decimal refused.line → word ≡ why_word refused.why → Appends a b (codes "line " ++ digits) → Appends b c (codes ": " ++ word) → AppendsFront c e (10 ∷ []) → AppendsFront a e (refusal refused)
+pub broke_at_end :
+    (a b c e : Option (List ℕ)) (refused : ScriptRefused) (digits word : List ℕ) → digits ≡ decimal refused.line → word ≡ why_word refused.why
+    → Appends a b (codes "line " ++ digits) → Appends b c (codes ": " ++ word) → AppendsFront c e (10 ∷ []) → AppendsFront a e (refusal refused)
 broke_at_end a b c e refused digits word d w taken more broke =
-    front_as a e _ _ (pieces_are refused) (front_after a b e (line_of refused) (reason_of refused ++ 10 ∷ []) (taken_as a b _ _ (ap (λ r. codes "line " ++ r) d) taken) (front_after b c e (reason_of refused) (10 ∷ []) (taken_as b c _ _ (ap (λ r. codes ": " ++ r) w) more) broke))
+    front_as a e _ _ (pieces_are refused)
+    (front_after a b e (line_of refused) (reason_of refused ++ 10 ∷ []) (taken_as a b _ _ (ap (λ r. codes "line " ++ r) d) taken)
+    (front_after b c e (reason_of refused) (10 ∷ []) (taken_as b c _ _ (ap (λ r. codes ": " ++ r) w) more) broke))

@@ -29,16 +29,20 @@ pub pushed_all : {A : Type 0} (P : A → Type 0) (xs : List A) (x : A) → All P
 pushed_all P xs x all here = All-append P xs (x ∷ []) all (All-cons P x [] here (All-nil P))
 
 -- a lender's line was broken off
-pub broke_at : (a b c : Option (List ℕ)) (lenders : List LenderSpec) (i : ℕ) (d : LenderSpec) (line : List ℕ) → i < length lenders → line ≡ lender_header (get_or lenders i d) → Appends a b (flat_map lender_header (take i lenders)) → AppendsFront b c line
+pub broke_at :
+    (a b c : Option (List ℕ)) (lenders : List LenderSpec) (i : ℕ) (d : LenderSpec) (line : List ℕ) → i < length lenders
+    → line ≡ lender_header (get_or lenders i d) → Appends a b (flat_map lender_header (take i lenders)) → AppendsFront b c line
     → AppendsFront a c (flat_map lender_header lenders)
 broke_at a b c lenders i d line within is taken broke =
     let before : List ℕ = flat_map lender_header (take i lenders) in
     let rest : List ℕ = flat_map lender_header (drop (i + 1) lenders) in
     let x : LenderSpec = get_or lenders i d in
     let here : flat_map lender_header (take (i + 1) lenders) ≡ before ++ line =
-    ap (λ l. flat_map lender_header l) (take_next lenders i d within) ∙ flat_map-append lender_header (take i lenders) (x ∷ []) ∙ ap (λ r. before ++ r) (flat_map-cons lender_header x [] ∙ append-nil (lender_header x) ∙ sym is) in
+    ap (λ l. flat_map lender_header l) (take_next lenders i d within) ∙ flat_map-append lender_header (take i lenders) (x ∷ [])
+    ∙ ap (λ r. before ++ r) (flat_map-cons lender_header x [] ∙ append-nil (lender_header x) ∙ sym is) in
     let all : flat_map lender_header lenders ≡ (before ++ line) ++ rest =
-    ap (λ l. flat_map lender_header l) (sym (take-append-drop (i + 1) lenders)) ∙ flat_map-append lender_header (take (i + 1) lenders) (drop (i + 1) lenders) ∙ ap (λ l. l ++ rest) here in
+    ap (λ l. flat_map lender_header l) (sym (take-append-drop (i + 1) lenders)) ∙ flat_map-append lender_header (take (i + 1) lenders) (drop (i + 1) lenders)
+    ∙ ap (λ l. l ++ rest) here in
     let P : List ℕ → Type 0 = λ r. AppendsFront a c r in subst P (sym all) (front_more a c (before ++ line) rest (front_after a b c before line taken broke))
 
 -- a push that was taken

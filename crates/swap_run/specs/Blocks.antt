@@ -20,7 +20,9 @@ is_whole _ = false
 
 -- what was gathered is handed on whole, or the last write failed
 abbrev pub LastWrite : Ending → Gathered → Gathered → Ending → Type 0
-LastWrite ran before now end = Keeps (gathered before) (gathered now) × (((end ≡ ran) × (now.held ≡ [])) ⊎ ((end ≡ ending.WriteFailed) × Rose before.faults now.faults))
+LastWrite ran before now end =
+    Keeps (gathered before) (gathered now)
+    × (((end ≡ ran) × (now.held ≡ [])) ⊎ ((end ≡ ending.WriteFailed) × Rose before.faults now.faults))
 
 abbrev pub HandsOnAt : Bool → Ending → Gathered → Gathered → Ending → Type 0
 HandsOnAt true ran before now end = LastWrite ran before now end

@@ -40,7 +40,8 @@ ending_of (verdict.NotLegal at) = ending.NotLegal
 -- how the writing of a verdict ends
 abbrev pub VerdictEnds : Judgement → Stream → Ending → Type 0
 VerdictEnds j out ending.Done = (j.verdict ≡ verdict.Legal) × Appends out.before out.now (verdict_line j)
-VerdictEnds j out ending.NotLegal = (at : EntryNo) × (j.verdict ≡ verdict.NotLegal at) × Appends out.before out.now (verdict_line j)
+VerdictEnds j out ending.NotLegal =
+    (at : EntryNo) × (j.verdict ≡ verdict.NotLegal at) × Appends out.before out.now (verdict_line j)
 VerdictEnds j out ending.WriteFailed = AppendsFront out.before out.now (verdict_line j) × Failed out
 VerdictEnds j out ending.NoMemory = TookNothing out
 VerdictEnds j out _ = ⊥
@@ -49,15 +50,19 @@ VerdictEnds j out _ = ⊥
 abbrev pub IsLegalTranscript : Transcript → Type 0
 IsLegalTranscript t = Judges (book_of t) verdict.Legal
 
--- Where a transcript is told and keeps the limit, and nothing fails, a check ends as legal exactly where it is, and else
+-- Where a transcript is told and keeps the limit, and nothing fails, a check ends as legal exactly where it is, and
+-- else
 -- as not legal, or for want of memory.
 abbrev pub ChecksTranscripts : Type 0
 ChecksTranscripts =
-    (source out : Stream) (end : Ending) (text : List ℕ) (t : Transcript) → CheckEnds source out end → source.before ≡ Some text → length text ≤ TEXT_LIMIT → transcript text ≡ Ok t → ¬ Failed source → ¬ Failed out
-    → ((end ≡ ending.Done) × IsLegalTranscript t) ⊎ (((end ≡ ending.NotLegal) × ¬ IsLegalTranscript t) ⊎ (end ≡ ending.NoMemory))
+    (source out : Stream) (end : Ending) (text : List ℕ) (t : Transcript) → CheckEnds source out end
+    → source.before ≡ Some text → length text ≤ TEXT_LIMIT → transcript text ≡ Ok t → ¬ Failed source → ¬ Failed out
+    → ((end ≡ ending.Done) × IsLegalTranscript t)
+    ⊎ (((end ≡ ending.NotLegal) × ¬ IsLegalTranscript t) ⊎ (end ≡ ending.NoMemory))
 
 -- Where the text is none, it is refused, or memory is wanting.
 abbrev pub ChecksRefuse : Type 0
 ChecksRefuse =
-    (source out : Stream) (end : Ending) (text : List ℕ) (at : ScriptRefused) → CheckEnds source out end → source.before ≡ Some text → length text ≤ TEXT_LIMIT → transcript text ≡ Err at → ¬ Failed source → ¬ Failed out
+    (source out : Stream) (end : Ending) (text : List ℕ) (at : ScriptRefused) → CheckEnds source out end
+    → source.before ≡ Some text → length text ≤ TEXT_LIMIT → transcript text ≡ Err at → ¬ Failed source → ¬ Failed out
     → (end ≡ ending.Refused at) ⊎ (end ≡ ending.NoMemory)

@@ -35,10 +35,13 @@ drill_of (Some number) (Some calls) = if nat_le calls MOST_CALLS then Some (RunD
 drill_of _ _ = None
 
 abbrev pub text_command : List ℕ → Option Command
-text_command word = if is_word (codes "script") word then Some RunScript else (if is_word (codes "check") word then Some CheckTranscript else None)
+text_command word =
+    if is_word (codes "script") word then Some RunScript
+    else (if is_word (codes "check") word then Some CheckTranscript else None)
 
 abbrev pub drill_command : List ℕ → List ℕ → List ℕ → Option Command
-drill_command word number calls = if is_word (codes "drill") word then drill_of (number_of number) (number_of calls) else None
+drill_command word number calls =
+    if is_word (codes "drill") word then drill_of (number_of number) (number_of calls) else None
 
 abbrev pub command_of : List (List ℕ) → Option Command
 command_of (word ∷ []) = text_command word
@@ -53,7 +56,8 @@ pub record Stream : Type 0 where
   pub faults_now : ℕ
 
 abbrev pub stream : Option (List ℕ) → Option (List ℕ) → ℕ → ℕ → Stream
-stream before now faults_before faults_now = record { before = before; now = now; faults_before = faults_before; faults_now = faults_now }
+stream before now faults_before faults_now =
+    record { before = before; now = now; faults_before = faults_before; faults_now = faults_now }
 
 abbrev pub Failed : Stream → Type 0
 Failed s = Rose s.faults_before s.faults_now
@@ -244,13 +248,16 @@ pub record EndsWith (command : Option Command) (source out err : Stream) (status
   pub code : status ≡ status_of end
   pub told : Told err (err_text end)
 
--- Where a script is told and keeps the limit, and nothing fails, the call ends with what a script gives, or for want of memory.
+-- Where a script is told and keeps the limit, and nothing fails, the call ends with what a script gives, or for want of
+-- memory.
 abbrev pub Completes : Type 0
 Completes =
-    (source out : Stream) (end : Ending) (text : List ℕ) (s : reading.Script) → Ends (Some RunScript) source out end → source.before ≡ Some text → length text ≤ TEXT_LIMIT → reading.script text ≡ Ok s → ¬ Failed source → ¬ Failed out
+    (source out : Stream) (end : Ending) (text : List ℕ) (s : reading.Script) → Ends (Some RunScript) source out end
+    → source.before ≡ Some text → length text ≤ TEXT_LIMIT → reading.script text ≡ Ok s → ¬ Failed source → ¬ Failed out
     → (end ≡ ending.Done) ⊎ ((end ≡ ending.Faulted) ⊎ (end ≡ ending.NoMemory))
 
 -- Where its output doesn't fail, a drill ends with its summary, or for want of memory.
 abbrev pub DrillsComplete : Type 0
 DrillsComplete =
-    (source out : Stream) (end : Ending) (number calls : ℕ) → Ends (Some (RunDrill number calls)) source out end → ¬ Failed out → (end ≡ ending.Done) ⊎ ((end ≡ ending.Faulted) ⊎ (end ≡ ending.NoMemory))
+    (source out : Stream) (end : Ending) (number calls : ℕ) → Ends (Some (RunDrill number calls)) source out end
+    → ¬ Failed out → (end ≡ ending.Done) ⊎ ((end ≡ ending.Faulted) ⊎ (end ≡ ending.NoMemory))

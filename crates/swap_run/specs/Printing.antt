@@ -37,7 +37,8 @@ pub record HasRoomFor (w : WorldOf Drive Harbor) (s : Script) : Type 0 where
 
 -- while events are printed: what was made so far and what is left are all events, and the lines so far are taken; their
 -- numbers fit, so that all fit where those of what is left do
-pub record Printing (first : WorldOf Drive Harbor) (all : List Input) (now : WorldOf Drive Harbor) (left : Script) (taken_before taken_now : Option (List ℕ)) : Type 0 where
+pub record Printing (first : WorldOf Drive Harbor) (all : List Input) (now : WorldOf Drive Harbor) (left : Script)
+    (taken_before taken_now : Option (List ℕ)) : Type 0 where
   pub so_far : List (Event × Seen)
   pub seens : seens (world_in first) all ≡ so_far ++ seens (world_in now) left.inputs
   pub reaches : reach (world_in first) all ≡ reach (world_in now) left.inputs

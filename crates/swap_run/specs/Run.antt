@@ -66,4 +66,7 @@ ScriptsKeepTheHeadline = (text : List ℕ) (s : Script) → script text ≡ Ok s
 
 -- no call of a script fails where no disk operation was seen to fail
 abbrev pub FailsWithTheDisk : Type 0
-FailsWithTheDisk = (text : List ℕ) (s : Script) → script text ≡ Ok s → failed_writes_in (made_of s) ≡ 0 → failed_reads_in (made_of s) ≡ 0 → has_failed (history_of s) ≡ false
+FailsWithTheDisk =
+    (text : List ℕ) (s : Script) → script text ≡ Ok s → failed_writes_in (made_of s) ≡ 0
+    → failed_reads_in (made_of s) ≡ 0
+    → has_failed (history_of s) ≡ false

@@ -48,7 +48,9 @@ fn ending_of(verdict: Verdict) -> Ending
 
 /// Writes the line of a verdict.
 fn tell_verdict<K: Sink>(alloc: Global, judgement: Judgement, out: &mut K) -> Ending
-    ensures ends { VerdictEnds judgement (stream (K.taken out.old) (K.taken out.new) (K.faults out.old) (K.faults out.new)) result }
+    ensures ends { VerdictEnds judgement
+        (stream (K.taken out.old) (K.taken out.new) (K.faults out.old) (K.faults out.new))
+        result }
     ensures later { K.faults out.old ≤ K.faults out.new }
 {
     let Ok(mut line) = LineBuf::make(alloc) else {
@@ -75,7 +77,10 @@ fn judge_text(alloc: Global, text: &[u8]) -> Result<Judgement, Ending>
 
 /// Reads a transcript, and judges it.
 fn judge_source<S: Source>(alloc: Global, source: &mut S) -> Result<Judgement, Ending>
-    ensures { SourceJudged (stream (S.left source.old) (S.left source.new) (S.faults source.old) (S.faults source.new)) result }
+    ensures { SourceJudged
+        (stream (S.left source.old) (S.left source.new) (S.faults source.old)
+        (S.faults source.new))
+        result }
 {
     match read_whole(alloc, source, TEXT_LIMIT) {
         Ok(text) => judge_text(alloc, &text),
@@ -87,7 +92,11 @@ fn judge_source<S: Source>(alloc: Global, source: &mut S) -> Result<Judgement, E
 
 /// Reads a transcript, judges it, and writes the verdict.
 pub(crate) fn run_check<S: Source, K: Sink>(alloc: Global, source: &mut S, out: &mut K) -> Ending
-    ensures { CheckEnds (stream (S.left source.old) (S.left source.new) (S.faults source.old) (S.faults source.new)) (stream (K.taken out.old) (K.taken out.new) (K.faults out.old) (K.faults out.new)) result }
+    ensures { CheckEnds
+        (stream (S.left source.old) (S.left source.new) (S.faults source.old)
+        (S.faults source.new))
+        (stream (K.taken out.old) (K.taken out.new) (K.faults out.old) (K.faults out.new))
+        result }
 {
     match judge_source(alloc, source) {
         Ok(judgement) => tell_verdict(alloc, judgement, out),
@@ -103,7 +112,8 @@ fn tell_verdict_in_blocks<K: Sink + Drop>(
 ) -> Ending
     requires held { out.old.held ≡ [] }
     requires fresh { IsFresh out.old.handed }
-    ensures { VerdictEnds judgement (stream out.old.handed out.new.handed out.old.faults out.new.faults) result }
+    ensures { VerdictEnds judgement
+        (stream out.old.handed out.new.handed out.old.faults out.new.faults) result }
 {
     let told = tell_verdict(alloc, judgement, out);
     hand_on_rest(told, out)
@@ -117,7 +127,10 @@ pub(crate) fn run_check_in_blocks<S: Source, K: Sink + Drop>(
 ) -> Ending
     requires held { out.old.held ≡ [] }
     requires fresh { IsFresh out.old.handed }
-    ensures { CheckEnds (stream (S.left source.old) (S.left source.new) (S.faults source.old) (S.faults source.new)) (stream out.old.handed out.new.handed out.old.faults out.new.faults) result }
+    ensures { CheckEnds
+        (stream (S.left source.old) (S.left source.new) (S.faults source.old)
+        (S.faults source.new))
+        (stream out.old.handed out.new.handed out.old.faults out.new.faults) result }
 {
     match judge_source(alloc, source) {
         Ok(judgement) => tell_verdict_in_blocks(alloc, judgement, out),

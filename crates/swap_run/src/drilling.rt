@@ -19,7 +19,9 @@ fn tell_summary<K: Sink>(
     out: &mut K,
 ) -> Ending
     requires { summary.now ≡ summary_of number calls }
-    ensures ends { DrillEnds number calls (stream (K.taken out.old) (K.taken out.new) (K.faults out.old) (K.faults out.new)) result }
+    ensures ends { DrillEnds number calls
+        (stream (K.taken out.old) (K.taken out.new) (K.faults out.old) (K.faults out.new))
+        result }
     ensures later { K.faults out.old ≤ K.faults out.new }
 {
     drills_keep_the_headline();
@@ -37,7 +39,9 @@ fn tell_summary<K: Sink>(
 /// Runs the drill of a number, and writes its summary. No memory is taken after its first event.
 pub(crate) fn run_drill<K: Sink>(alloc: Global, number: u64, calls: u32, out: &mut K) -> Ending
     requires { calls ≤ MOST_CALLS }
-    ensures ends { DrillEnds number calls (stream (K.taken out.old) (K.taken out.new) (K.faults out.old) (K.faults out.new)) result }
+    ensures ends { DrillEnds number calls
+        (stream (K.taken out.old) (K.taken out.new) (K.faults out.old) (K.faults out.new))
+        result }
     ensures later { K.faults out.old ≤ K.faults out.new }
 {
     let Ok(mut lines) = LineBuf::make(alloc) else {
@@ -59,7 +63,8 @@ pub(crate) fn run_drill_in_blocks<K: Sink + Drop>(
     requires calls { calls ≤ MOST_CALLS }
     requires held { out.old.held ≡ [] }
     requires fresh { IsFresh out.old.handed }
-    ensures { DrillEnds number calls (stream out.old.handed out.new.handed out.old.faults out.new.faults) result }
+    ensures { DrillEnds number calls
+        (stream out.old.handed out.new.handed out.old.faults out.new.faults) result }
 {
     let ran = run_drill(alloc, number, calls, out);
     hand_on_rest(ran, out)

@@ -44,10 +44,11 @@ pub enum Ending {
     TooLong,
 }
 
-/// Whatever a script's events are and whatever fails, the history that its transcript prints is one of an array of pages
-/// that starts as zeros, and holds each caller's answered calls once, in its order. It is exactly the entries that were
-/// seen, and a failure has its cause: the counts of its own call, and for a page-in its own failed read. After each front
-/// of the events a set bit means that the remote copy is the newest, and a lent slab has one owner.
+/// Whatever a script's events are and whatever fails, the history that its transcript prints is one
+/// of an array of pages that starts as zeros, and holds each caller's answered calls once, in its
+/// order. It is exactly the entries that were seen, and a failure has its cause: the counts of its
+/// own call, and for a page-in its own failed read. After each front of the events a set bit means
+/// that the remote copy is the newest, and a lent slab has one owner.
 pub fn scripts_keep_the_headline()
     ensures { ScriptsKeepTheHeadline }
 {
@@ -60,7 +61,8 @@ pub fn scripts_keep_the_headline()
     pages_are_whole();
 }
 
-/// A script's call fails only where the local disk failed: where no disk operation was seen to fail, no call failed.
+/// A script's call fails only where the local disk failed: where no disk operation was seen to
+/// fail, no call failed.
 pub fn fails_with_the_disk()
     ensures { FailsWithTheDisk }
 {
@@ -70,15 +72,15 @@ pub fn fails_with_the_disk()
     pages_are_whole();
 }
 
-/// A call for a script that is told and within the limit, of which neither `source` nor `out` fails, ends by the script's
-/// transcript or for want of memory.
+/// A call for a script that is told and within the limit, of which neither `source` nor `out`
+/// fails, ends by the script's transcript or for want of memory.
 pub fn completes()
     ensures { Completes }
 {}
 
-/// A check of a transcript that is told and within the limit, of which neither `source` nor `out` fails, ends as legal
-/// exactly where the transcript is, else as not legal, or for want of memory; and a text that is none is refused by its
-/// first line at fault, or for want of memory.
+/// A check of a transcript that is told and within the limit, of which neither `source` nor `out`
+/// fails, ends as legal exactly where the transcript is, else as not legal, or for want of memory;
+/// and a text that is none is refused by its first line at fault, or for want of memory.
 pub fn checks_complete()
     ensures transcripts { ChecksTranscripts }
     ensures refuse { ChecksRefuse }

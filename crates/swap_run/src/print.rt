@@ -20,8 +20,10 @@ fn print_lenders<K: Sink>(
     line: &mut LineBuf,
     out: &mut K,
 ) -> Result<(), WriteFailed>
-    ensures ok { OnOk result (Appends (K.taken out.old) (K.taken out.new) (flat_map lender_header lenders.now)) }
-    ensures err { OnErr result (AppendsFront (K.taken out.old) (K.taken out.new) (flat_map lender_header lenders.now)) }
+    ensures ok { OnOk result
+        (Appends (K.taken out.old) (K.taken out.new) (flat_map lender_header lenders.now)) }
+    ensures err { OnErr result
+        (AppendsFront (K.taken out.old) (K.taken out.new) (flat_map lender_header lenders.now)) }
     ensures cause { HasCause (K.faults out.old) (K.faults out.new) result }
 {
     'lenders: for lender in lenders {
@@ -38,8 +40,10 @@ pub fn print_headers<K: Sink>(
     line: &mut LineBuf,
     out: &mut K,
 ) -> Result<(), WriteFailed>
-    ensures ok { OnOk result (Appends (K.taken out.old) (K.taken out.new) (headers geometry.now lenders.now)) }
-    ensures err { OnErr result (AppendsFront (K.taken out.old) (K.taken out.new) (headers geometry.now lenders.now)) }
+    ensures ok { OnOk result
+        (Appends (K.taken out.old) (K.taken out.new) (headers geometry.now lenders.now)) }
+    ensures err { OnErr result
+        (AppendsFront (K.taken out.old) (K.taken out.new) (headers geometry.now lenders.now)) }
     ensures cause { HasCause (K.faults out.old) (K.faults out.new) result }
 {
     header_line(geometry, line);
@@ -59,8 +63,12 @@ fn print_events<K: Sink>(
     requires page { length page.old ≡ walk.old.sizes.page_bytes }
     ensures world { OnOk result (world_in world.new ≡ reach (world_in world.old) walk.old.inputs) }
     ensures fits { OnOk result (NumbersFit (world_in world.old) walk.old.inputs) }
-    ensures ok { OnOk result (Appends (K.taken out.old) (K.taken out.new) (lines_from (world_in world.old) walk.old.inputs)) }
-    ensures err { OnErr result (AppendsFront (K.taken out.old) (K.taken out.new) (lines_from (world_in world.old) walk.old.inputs)) }
+    ensures ok { OnOk result
+        (Appends (K.taken out.old) (K.taken out.new)
+        (lines_from (world_in world.old) walk.old.inputs)) }
+    ensures err { OnErr result
+        (AppendsFront (K.taken out.old) (K.taken out.new)
+        (lines_from (world_in world.old) walk.old.inputs)) }
     ensures cause { HasCause (K.faults out.old) (K.faults out.new) result }
 {
     steps_are_next();
@@ -90,8 +98,16 @@ pub(crate) fn print_run<K: Sink>(
     requires page { length page.old ≡ walk.old.sizes.page_bytes }
     ensures world { OnOk result (world_in world.new ≡ reach (world_in world.old) walk.old.inputs) }
     ensures fits { OnOk result (NumbersFit (world_in world.old) walk.old.inputs) }
-    ensures ok { OnOk result (Appends (K.taken out.old) (K.taken out.new) (headers walk.old.sizes walk.old.lenders ++ lines_from (world_in world.old) walk.old.inputs ++ end_line (length (history (reach (world_in world.old) walk.old.inputs))))) }
-    ensures err { OnErr result (AppendsFront (K.taken out.old) (K.taken out.new) (headers walk.old.sizes walk.old.lenders ++ lines_from (world_in world.old) walk.old.inputs ++ end_line (length (history (reach (world_in world.old) walk.old.inputs))))) }
+    ensures ok { OnOk result
+        (Appends (K.taken out.old) (K.taken out.new)
+        (headers walk.old.sizes walk.old.lenders
+        ++ lines_from (world_in world.old) walk.old.inputs
+        ++ end_line (length (history (reach (world_in world.old) walk.old.inputs))))) }
+    ensures err { OnErr result
+        (AppendsFront (K.taken out.old) (K.taken out.new)
+        (headers walk.old.sizes walk.old.lenders
+        ++ lines_from (world_in world.old) walk.old.inputs
+        ++ end_line (length (history (reach (world_in world.old) walk.old.inputs))))) }
     ensures cause { HasCause (K.faults out.old) (K.faults out.new) result }
 {
     let geometry = world.device().geometry();

@@ -87,7 +87,9 @@ fn world_for(
 
 /// Runs a script's events, and writes their transcript.
 fn run_events<K: Sink>(alloc: Global, script: &Script<'_>, out: &mut K) -> Ending
-    ensures ends { LabEnds script.now (stream (K.taken out.old) (K.taken out.new) (K.faults out.old) (K.faults out.new)) result }
+    ensures ends { LabEnds script.now
+        (stream (K.taken out.old) (K.taken out.new) (K.faults out.old) (K.faults out.new))
+        result }
     ensures later { K.faults out.old ≤ K.faults out.new }
 {
     let Ok(mut line) = LineBuf::make(alloc) else {
@@ -117,7 +119,9 @@ fn run_events<K: Sink>(alloc: Global, script: &Script<'_>, out: &mut K) -> Endin
 /// Runs a text as a script.
 fn run_text<K: Sink>(alloc: Global, text: &[u8], out: &mut K) -> Ending
     requires { length text.now ≤ TEXT_LIMIT }
-    ensures ends { TextEnds (script_of text.now) (stream (K.taken out.old) (K.taken out.new) (K.faults out.old) (K.faults out.new)) result }
+    ensures ends { TextEnds (script_of text.now)
+        (stream (K.taken out.old) (K.taken out.new) (K.faults out.old) (K.faults out.new))
+        result }
     ensures later { K.faults out.old ≤ K.faults out.new }
 {
     match read_script(text) {
@@ -128,7 +132,11 @@ fn run_text<K: Sink>(alloc: Global, text: &[u8], out: &mut K) -> Ending
 
 /// Reads a script, and runs it.
 fn run_script<S: Source, K: Sink>(alloc: Global, source: &mut S, out: &mut K) -> Ending
-    ensures ends { ScriptEnds (stream (S.left source.old) (S.left source.new) (S.faults source.old) (S.faults source.new)) (stream (K.taken out.old) (K.taken out.new) (K.faults out.old) (K.faults out.new)) result }
+    ensures ends { ScriptEnds
+        (stream (S.left source.old) (S.left source.new) (S.faults source.old)
+        (S.faults source.new))
+        (stream (K.taken out.old) (K.taken out.new) (K.faults out.old) (K.faults out.new))
+        result }
     ensures later { K.faults out.old ≤ K.faults out.new }
 {
     scripts_keep_the_headline();
@@ -215,7 +223,11 @@ fn run_command<S: Source, K: Sink>(
     out: &mut K,
 ) -> Ending
     requires { MayRun command }
-    ensures { Ends command (stream (S.left source.old) (S.left source.new) (S.faults source.old) (S.faults source.new)) (stream (K.taken out.old) (K.taken out.new) (K.faults out.old) (K.faults out.new)) result }
+    ensures { Ends command
+        (stream (S.left source.old) (S.left source.new) (S.faults source.old)
+        (S.faults source.new))
+        (stream (K.taken out.old) (K.taken out.new) (K.faults out.old) (K.faults out.new))
+        result }
 {
     match command {
         None => Ending::Usage,
@@ -225,10 +237,11 @@ fn run_command<S: Source, K: Sink>(
     }
 }
 
-/// The top call for the commands that wait for nobody. `script` reads a script from `source`, runs it, and writes its
-/// transcript to `out`, which read back gives the history that its events reached; `check` reads a transcript, judges it,
-/// and writes the verdict; `drill` reads nothing, makes the events of a number, and writes the summary. The answer is the
-/// program's status; what went wrong is told to `err`, whose own failures change nothing. Each status has its cause in the
+/// The top call for the commands that wait for nobody. `script` reads a script from `source`, runs
+/// it, and writes its transcript to `out`, which read back gives the history that its events
+/// reached; `check` reads a transcript, judges it, and writes the verdict; `drill` reads nothing,
+/// makes the events of a number, and writes the summary. The answer is the program's status; what
+/// went wrong is told to `err`, whose own failures change nothing. Each status has its cause in the
 /// clause.
 pub fn run_lab<S: Source, K: Sink, E: Sink>(
     alloc: Global,
@@ -237,7 +250,12 @@ pub fn run_lab<S: Source, K: Sink, E: Sink>(
     out: &mut K,
     err: &mut E,
 ) -> u8
-    ensures { EndsWith (command_of (map (λ word. word.now) words.now)) (stream (S.left source.old) (S.left source.new) (S.faults source.old) (S.faults source.new)) (stream (K.taken out.old) (K.taken out.new) (K.faults out.old) (K.faults out.new)) (stream (E.taken err.old) (E.taken err.new) (E.faults err.old) (E.faults err.new)) result }
+    ensures { EndsWith (command_of (map (λ word. word.now) words.now))
+        (stream (S.left source.old) (S.left source.new) (S.faults source.old)
+        (S.faults source.new))
+        (stream (K.taken out.old) (K.taken out.new) (K.faults out.old) (K.faults out.new))
+        (stream (E.taken err.old) (E.taken err.new) (E.faults err.old) (E.faults err.new))
+        result }
 {
     let ending = run_command(alloc, command_of(words), source, out);
     tell(ending, err);
@@ -272,7 +290,10 @@ fn run_script_in_blocks<S: Source, K: Sink + Drop>(
 ) -> Ending
     requires held { out.old.held ≡ [] }
     requires fresh { IsFresh out.old.handed }
-    ensures { ScriptEnds (stream (S.left source.old) (S.left source.new) (S.faults source.old) (S.faults source.new)) (stream out.old.handed out.new.handed out.old.faults out.new.faults) result }
+    ensures { ScriptEnds
+        (stream (S.left source.old) (S.left source.new) (S.faults source.old)
+        (S.faults source.new))
+        (stream out.old.handed out.new.handed out.old.faults out.new.faults) result }
 {
     let ran = run_script(alloc, source, out);
     hand_on_rest(ran, out)
@@ -288,7 +309,10 @@ fn run_command_in_blocks<S: Source, K: Sink + Drop>(
     requires may { MayRun command }
     requires held { out.old.held ≡ [] }
     requires fresh { IsFresh out.old.handed }
-    ensures { Ends command (stream (S.left source.old) (S.left source.new) (S.faults source.old) (S.faults source.new)) (stream out.old.handed out.new.handed out.old.faults out.new.faults) result }
+    ensures { Ends command
+        (stream (S.left source.old) (S.left source.new) (S.faults source.old)
+        (S.faults source.new))
+        (stream out.old.handed out.new.handed out.old.faults out.new.faults) result }
 {
     match command {
         None => Ending::Usage,
@@ -300,8 +324,9 @@ fn run_command_in_blocks<S: Source, K: Sink + Drop>(
     }
 }
 
-/// The top call before a sink that gathers. `out` takes the transcript in blocks, and its rest is handed on at the end,
-/// so the clause speaks of what the sink behind it took: a last write that fails is status 4, as any other.
+/// The top call before a sink that gathers. `out` takes the transcript in blocks, and its rest is
+/// handed on at the end, so the clause speaks of what the sink behind it took: a last write that
+/// fails is status 4, as any other.
 pub fn run_lab_in_blocks<S: Source, K: Sink + Drop, E: Sink>(
     alloc: Global,
     words: &[&str],
@@ -311,7 +336,12 @@ pub fn run_lab_in_blocks<S: Source, K: Sink + Drop, E: Sink>(
 ) -> u8
     requires held { out.old.held ≡ [] }
     requires fresh { IsFresh out.old.handed }
-    ensures { EndsWith (command_of (map (λ word. word.now) words.now)) (stream (S.left source.old) (S.left source.new) (S.faults source.old) (S.faults source.new)) (stream out.old.handed out.new.handed out.old.faults out.new.faults) (stream (E.taken err.old) (E.taken err.new) (E.faults err.old) (E.faults err.new)) result }
+    ensures { EndsWith (command_of (map (λ word. word.now) words.now))
+        (stream (S.left source.old) (S.left source.new) (S.faults source.old)
+        (S.faults source.new))
+        (stream out.old.handed out.new.handed out.old.faults out.new.faults)
+        (stream (E.taken err.old) (E.taken err.new) (E.faults err.old) (E.faults err.new))
+        result }
 {
     let ending = run_command_in_blocks(alloc, command_of(words), source, out);
     tell(ending, err);

@@ -27,8 +27,10 @@ fn text_of(ending: Ending) -> &'static [u8]
 }
 
 fn write_both<K: Sink>(sink: &mut K, first: &[u8], second: &[u8]) -> Result<(), WriteFailed>
-    ensures ok { OnOk result (Appends (K.taken sink.old) (K.taken sink.new) (first.now ++ second.now)) }
-    ensures err { OnErr result (AppendsFront (K.taken sink.old) (K.taken sink.new) (first.now ++ second.now)) }
+    ensures ok { OnOk result
+        (Appends (K.taken sink.old) (K.taken sink.new) (first.now ++ second.now)) }
+    ensures err { OnErr result
+        (AppendsFront (K.taken sink.old) (K.taken sink.new) (first.now ++ second.now)) }
     ensures cause { HasCause (K.faults sink.old) (K.faults sink.new) result }
 {
     write_line(sink, first)?;
@@ -38,7 +40,8 @@ fn write_both<K: Sink>(sink: &mut K, first: &[u8], second: &[u8]) -> Result<(), 
 // Writes the text of a refused line, piece by piece.
 fn tell_refusal<E: Sink>(refused: &ScriptRefused, err: &mut E) -> Result<(), WriteFailed>
     ensures ok { OnOk result (Appends (E.taken err.old) (E.taken err.new) (refusal refused.now)) }
-    ensures err { OnErr result (AppendsFront (E.taken err.old) (E.taken err.new) (refusal refused.now)) }
+    ensures err { OnErr result
+        (AppendsFront (E.taken err.old) (E.taken err.new) (refusal refused.now)) }
     ensures cause { HasCause (E.faults err.old) (E.faults err.new) result }
 {
     let mut digits = itoa::Buffer::new();
@@ -49,7 +52,9 @@ fn tell_refusal<E: Sink>(refused: &ScriptRefused, err: &mut E) -> Result<(), Wri
 
 /// Tells `err` how a call ended; its failures change nothing.
 pub fn tell<E: Sink>(ending: Ending, err: &mut E)
-    ensures { Told (stream (E.taken err.old) (E.taken err.new) (E.faults err.old) (E.faults err.new)) (err_text ending) }
+    ensures { Told
+        (stream (E.taken err.old) (E.taken err.new) (E.faults err.old) (E.faults err.new))
+        (err_text ending) }
 {
     if let Ending::Refused(refused) = ending {
         let _ = tell_refusal(&refused, err);

@@ -49,7 +49,11 @@ is_of : (s : Sizes) (specs : List LenderSpec) → of_harbor (new_harbor s specs)
 is_of s specs = ap (λ n. record { sizes = s; lenders = n }) (length-map specs (new_channel s))
 
 fresh : (s : Sizes) (specs : List LenderSpec) → harbor.IsFresh (new_harbor s specs) (record { sizes = s; lenders = length specs })
-fresh s specs = record { is = is_of s specs; channels = All-from_recursion (λ (c : Channel). c ≡ new_channel s c.lender.lending.spec) (map (new_channel s) specs) (fresh_each s specs) }
+fresh s specs =
+    record {
+      is = is_of s specs;
+      channels = All-from_recursion (λ (c : Channel). c ≡ new_channel s c.lender.lending.spec) (map (new_channel s) specs) (fresh_each s specs);
+    }
 
 module _ (laws : Laws) (t : Script) (few : length t.lenders ≤ MOST_LENDERS) where
   -- from the first world on these lines were left
@@ -69,21 +73,40 @@ module _ (laws : Laws) (t : Script) (few : length t.lenders ≤ MOST_LENDERS) wh
       let R : Harbor → Type 0 = λ h. Runs [] (new t.sizes (length t.lenders)) (new_drive t.sizes) h in
       subst P (sym is.device) (subst Q (sym is.disk) (subst R (sym is.fabric) (record { written = []; parts = tt; run = begin; logged = refl })))
 
-  more_runs : (from : WorldOf Drive Harbor) (log : List (Event × Seen)) (acts : List Act) (d : Device) (k : Drive) (h : Harbor) → Runs log from.core.device from.core.disk from.core.fabric → Acted from acts d k h → Runs (log ++ lines_of acts) d k h
-  more_runs from log acts d k h runs acted = laws.acts t.sizes (length t.lenders) (new_drive t.sizes) (new_harbor t.sizes t.lenders) log from.core.device from.core.disk from.core.fabric acts d k h began runs acted
+  more_runs :
+      (from : WorldOf Drive Harbor) (log : List (Event × Seen)) (acts : List Act) (d : Device) (k : Drive) (h : Harbor)
+      → Runs log from.core.device from.core.disk from.core.fabric → Acted from acts d k h → Runs (log ++ lines_of acts) d k h
+  more_runs from log acts d k h runs acted =
+      laws.acts t.sizes (length t.lenders) (new_drive t.sizes)
+      (new_harbor t.sizes t.lenders) log from.core.device from.core.disk from.core.fabric acts d k h began runs acted
 
   lent_in : (log : List (Event × Seen)) (d : Device) (k : Drive) (h : Harbor) → Runs log d k h → IsLent d h
-  lent_in log d k h runs = (laws.lent t.sizes (length t.lenders) (new_drive t.sizes) (new_harbor t.sizes t.lenders) (made_of runs.written) d k h (blank t.sizes) (fresh t.sizes t.lenders) few runs.run).lent
+  lent_in log d k h runs =
+      (laws.lent t.sizes (length t.lenders) (new_drive t.sizes) (new_harbor t.sizes t.lenders) (made_of runs.written) d k h (blank t.sizes)
+      (fresh t.sizes t.lenders) few runs.run).lent
 
-  keeps_lent : (from : WorldOf Drive Harbor) (log : List (Event × Seen)) (acts : List Act) → Runs log from.core.device from.core.disk from.core.fabric → KeepsLent from acts
+  keeps_lent :
+      (from : WorldOf Drive Harbor) (log : List (Event × Seen)) (acts : List Act) → Runs log from.core.device from.core.disk from.core.fabric
+      → KeepsLent from acts
   keeps_lent from log acts runs later earlier d k h is acted = lent_in (log ++ lines_of earlier) d k h (more_runs from log earlier d k h runs acted)
 
   run_of : (first w : WorldOf Drive Harbor) → IsFirst t first → Runs w.log w.core.device w.core.disk w.core.fabric → IsRunOf t first w
   run_of first w is runs =
-      let holds = laws.holds t.sizes (length t.lenders) (new_drive t.sizes) (new_harbor t.sizes t.lenders) (made_of runs.written) w.core.device w.core.disk w.core.fabric began runs.run in
-      let P : Device → Type 0 = λ d. IsRun drive.Moves harbor.Moves d first.core.disk first.core.fabric (made_of runs.written) w.core.device w.core.disk w.core.fabric in
-      let Q : Drive → Type 0 = λ k. IsRun drive.Moves harbor.Moves (new t.sizes (length t.lenders)) k first.core.fabric (made_of runs.written) w.core.device w.core.disk w.core.fabric in
-      let R : Harbor → Type 0 = λ h. IsRun drive.Moves harbor.Moves (new t.sizes (length t.lenders)) (new_drive t.sizes) h (made_of runs.written) w.core.device w.core.disk w.core.fabric in
+      let holds =
+      laws.holds t.sizes (length t.lenders) (new_drive t.sizes) (new_harbor t.sizes t.lenders)
+      (made_of runs.written) w.core.device w.core.disk w.core.fabric began runs.run in
+      let P : Device
+      → Type 0 = λ d. IsRun drive.Moves harbor.Moves d first.core.disk first.core.fabric (made_of runs.written) w.core.device w.core.disk w.core.fabric in
+      let Q : Drive
+      → Type 0 =
+      λ k.
+      IsRun drive.Moves harbor.Moves (new t.sizes (length t.lenders)) k first.core.fabric
+      (made_of runs.written) w.core.device w.core.disk w.core.fabric in
+      let R : Harbor
+      → Type 0 =
+      λ h.
+      IsRun drive.Moves harbor.Moves (new t.sizes (length t.lenders)) (new_drive t.sizes) h
+      (made_of runs.written) w.core.device w.core.disk w.core.fabric in
       record {
         written = runs.written;
         parts = runs.parts;
@@ -94,18 +117,22 @@ module _ (laws : Laws) (t : Script) (few : length t.lenders ≤ MOST_LENDERS) wh
         entries = holds.entries;
       }
 
-  played_headline : (number : ℕ) (first w : WorldOf Drive Harbor) (played : IsPlayedOut drive.Moves harbor.Moves t number first w) → IsFirst t first → IsHeadline t number first w played
+  played_headline :
+      (number : ℕ) (first w : WorldOf Drive Harbor) (played : IsPlayedOut drive.Moves harbor.Moves t number first w) → IsFirst t first
+      → IsHeadline t number first w played
   played_headline number first w played is =
       let mid = played.connected in
       let start_runs = first_runs first is in
       let connects = played.connects.works.makes in
       let carried = played.carried.acted.makes in
-      let mid_runs : Runs ([] ++ lines_of played.connects.acts) mid.core.device mid.core.disk mid.core.fabric = more_runs first [] played.connects.acts mid.core.device mid.core.disk mid.core.fabric start_runs connects.acted in
+      let mid_runs : Runs ([] ++ lines_of played.connects.acts) mid.core.device mid.core.disk mid.core.fabric =
+      more_runs first [] played.connects.acts mid.core.device mid.core.disk mid.core.fabric start_runs connects.acted in
       let mid_log : mid.log ≡ [] ++ lines_of played.connects.acts = connects.logged ∙ ap (λ l. l ++ lines_of played.connects.acts) is.log in
       let P : List (Event × Seen) → Type 0 = λ l. Runs l mid.core.device mid.core.disk mid.core.fabric in
       let connected = subst P (sym mid_log) mid_runs in
       let Q : List (Event × Seen) → Type 0 = λ l. Runs l w.core.device w.core.disk w.core.fabric in
-      let last = subst Q (sym carried.logged) (more_runs mid mid.log played.carried.acted.acts w.core.device w.core.disk w.core.fabric connected carried.acted) in
+      let last =
+      subst Q (sym carried.logged) (more_runs mid mid.log played.carried.acted.acts w.core.device w.core.disk w.core.fabric connected carried.acted) in
       record {
         run = run_of first w is last;
         connecting = keeps_lent first [] played.connects.acts start_runs;
@@ -113,4 +140,5 @@ module _ (laws : Laws) (t : Script) (few : length t.lenders ≤ MOST_LENDERS) wh
       }
 
 pub plays_keep_the_headline : Laws → PlaysKeepTheHeadline
-plays_keep_the_headline laws text t number first w played is_trace is = played_headline laws t (laws.lenders None text t is_trace).count number first w played is
+plays_keep_the_headline laws text t number first w played is_trace is =
+    played_headline laws t (laws.lenders None text t is_trace).count number first w played is

@@ -33,7 +33,9 @@ keeps_same None = tt
 keeps_same (Some bytes) = refl
 
 -- a world as it is made
-pub first_is : (t : Script) (s : Sizes) (specs : List LenderSpec) (n : ℕ) (k : Drive) (h : Harbor) (r : Result (WorldOf Drive Harbor) NoMemory) → s ≡ t.sizes → specs ≡ t.lenders → n ≡ length t.lenders → k ≡ new_drive s → h ≡ new_harbor s specs
+pub first_is :
+    (t : Script) (s : Sizes) (specs : List LenderSpec) (n : ℕ) (k : Drive) (h : Harbor) (r : Result (WorldOf Drive Harbor) NoMemory) → s ≡ t.sizes
+    → specs ≡ t.lenders → n ≡ length t.lenders → k ≡ new_drive s → h ≡ new_harbor s specs
     → IfOk r (λ w. w.core ≡ record { device = new s n; disk = k; fabric = h; spare = 0 }) → IfOk r (λ w. w.log ≡ []) → IfOk r (IsFirst t)
 first_is t s specs n k h (Ok w) es el en ek eh core log = record {
   device = ap (λ (c : Core Drive Harbor). c.device) core ∙ ap (λ x. new x n) es ∙ ap (λ m. new t.sizes m) en;
@@ -44,15 +46,23 @@ first_is t s specs n k h (Ok w) es el en ek eh core log = record {
 first_is t s specs n k h (Err e) es el en ek eh core log = tt
 
 -- a world that was played has the sizes of its trace
-sizes_stay : (t : Script) (number : ℕ) (first w : WorldOf Drive Harbor) → IsFirst t first → IsPlayedOut drive.Moves harbor.Moves t number first w → w.core.device.sizes ≡ t.sizes
+sizes_stay :
+    (t : Script) (number : ℕ) (first w : WorldOf Drive Harbor) → IsFirst t first → IsPlayedOut drive.Moves harbor.Moves t number first w
+    → w.core.device.sizes ≡ t.sizes
 sizes_stay t number first w is played =
-    ap (λ (o : FabricOf). o.sizes) played.carried.acted.makes.of ∙ ap (λ (o : FabricOf). o.sizes) played.connects.works.makes.of ∙ ap (λ (d : Device). d.sizes) is.device
+    ap (λ (o : FabricOf). o.sizes) played.carried.acted.makes.of ∙ ap (λ (o : FabricOf). o.sizes) played.connects.works.makes.of
+    ∙ ap (λ (d : Device). d.sizes) is.device
 
-same_text : (t : Script) (lenders : List LenderSpec) (w : WorldOf Drive Harbor) → w.core.device.sizes ≡ t.sizes → lenders ≡ t.lenders → world_transcript lenders w ≡ transcript_of t w
-same_text t lenders w sizes specs = ap (λ s. transcript s lenders w.log w.core.device.history) sizes ∙ ap (λ l. transcript t.sizes l w.log w.core.device.history) specs
+same_text :
+    (t : Script) (lenders : List LenderSpec) (w : WorldOf Drive Harbor) → w.core.device.sizes ≡ t.sizes → lenders ≡ t.lenders
+    → world_transcript lenders w ≡ transcript_of t w
+same_text t lenders w sizes specs =
+    ap (λ s. transcript s lenders w.log w.core.device.history) sizes ∙ ap (λ l. transcript t.sizes l w.log w.core.device.history) specs
 
 -- what was written of a played world
-pub trace_ends : (t : Script) (number : ℕ) (lenders : List LenderSpec) (first w : WorldOf Drive Harbor) (out : Stream) (end : Ending) → lenders ≡ t.lenders → IsFirst t first → IsPlayedOut drive.Moves harbor.Moves t number first w → WrittenBy lenders w out end → TraceEnds t number out end
+pub trace_ends :
+    (t : Script) (number : ℕ) (lenders : List LenderSpec) (first w : WorldOf Drive Harbor) (out : Stream) (end : Ending) → lenders ≡ t.lenders → IsFirst t first
+    → IsPlayedOut drive.Moves harbor.Moves t number first w → WrittenBy lenders w out end → TraceEnds t number out end
 trace_ends t number lenders first w out end specs is played h = go end h
   where
     shown : WasShown t number w
@@ -67,7 +77,8 @@ trace_ends t number lenders first w out end specs is played h = go end h
     go : (end : Ending) → WrittenBy lenders w out end → TraceEnds t number out end
     go ending.Done h = record { world = w; shown = shown; wrote = whole h.0; fault = h.1 }
     go ending.Faulted h = record { world = w; shown = shown; wrote = whole h.0; fault = h.1 }
-    go ending.WriteFailed h = record { world = w; shown = shown; wrote = let P : List ℕ → Type 0 = λ l. AppendsFront out.before out.now l in subst P same h.0; failed = h.1 }
+    go ending.WriteFailed h =
+        record { world = w; shown = shown; wrote = let P : List ℕ → Type 0 = λ l. AppendsFront out.before out.now l in subst P same h.0; failed = h.1 }
     go ending.Usage h = absurd h
     go ending.ReadFailed h = absurd h
     go (ending.Refused r) h = absurd h
@@ -77,15 +88,19 @@ trace_ends t number lenders first w out end specs is played h = go end h
     go ending.TooLong h = absurd h
 
 -- a text that was read whole, and how its playing ended
-pub show_ends : PlaysKeepTheHeadline → (number : ℕ) (source out : Stream) (text : List ℕ) (end : Ending) → WasReadWhole source.before source.now text → length text ≤ TEXT_LIMIT → TextEnds (trace None text) number out end → ShowEnds number source out end
+pub show_ends :
+    PlaysKeepTheHeadline → (number : ℕ) (source out : Stream) (text : List ℕ) (end : Ending) → WasReadWhole source.before source.now text
+    → length text ≤ TEXT_LIMIT → TextEnds (trace None text) number out end → ShowEnds number source out end
 show_ends keep number source out text end read within h = go (trace None text) end refl h
   where
     reads : (t : Script) → trace None text ≡ Ok t → ReadTrace source t
     reads t e = record { text = text; was_read = read; within = within; is_trace = e }
 
     go : (r : Result Script ScriptRefused) (end : Ending) → trace None text ≡ r → TextEnds r number out end → ShowEnds number source out end
-    go (Ok t) ending.Done e h = record { trace = t; read = reads t e; plays = h; headline = keep text t number h.shown.first h.world h.shown.played e h.shown.is_first }
-    go (Ok t) ending.Faulted e h = record { trace = t; read = reads t e; plays = h; headline = keep text t number h.shown.first h.world h.shown.played e h.shown.is_first }
+    go (Ok t) ending.Done e h =
+        record { trace = t; read = reads t e; plays = h; headline = keep text t number h.shown.first h.world h.shown.played e h.shown.is_first }
+    go (Ok t) ending.Faulted e h =
+        record { trace = t; read = reads t e; plays = h; headline = keep text t number h.shown.first h.world h.shown.played e h.shown.is_first }
     go (Ok t) ending.Usage e h = absurd h
     go (Ok t) ending.ReadFailed e h = absurd h
     go (Ok t) ending.WriteFailed e h = record { trace = t; read = reads t e; plays = h }
@@ -118,7 +133,9 @@ completes number source out ending.Usage text t h told fits is no_fault no_write
 completes number source out ending.ReadFailed text t h told fits is no_fault no_write = absurd (no_fault h.0.failed)
 completes number source out ending.WriteFailed text t h told fits is no_fault no_write = absurd (no_write h.plays.failed)
 completes number source out (ending.Refused refused) text t h told fits is no_fault no_write =
-    absurd (not_both text t refused is (subst (λ x. trace None x ≡ Err refused) (sym (read_whole_is source.before source.now text h.0.text told h.0.was_read)) h.0.is_refused))
+    absurd
+    (not_both text t refused is
+    (subst (λ x. trace None x ≡ Err refused) (sym (read_whole_is source.before source.now text h.0.text told h.0.was_read)) h.0.is_refused))
 completes number source out ending.NoMemory text t h told fits is no_fault no_write = inr (inr refl)
 completes number source out ending.NotLegal text t h told fits is no_fault no_write = absurd h
 completes number source out ending.HostFailed text t h told fits is no_fault no_write = absurd h
@@ -126,8 +143,11 @@ completes number source out ending.TooLong text t h told fits is no_fault no_wri
     let longer = read_length source.before source.now text h.0.bytes told h.0.was_read in absurd (omega (arith, longer, h.0.too_long))
 
 -- a text that was read as a trace isn't refused
-read_not : (source : Stream) (text : List ℕ) (t : Script) (refused : ScriptRefused) → source.before ≡ Some text → trace None text ≡ Err refused → ReadTrace source t → ⊥
-read_not source text t refused told is read = not_both text t refused (subst (λ x. trace None x ≡ Ok t) (sym (read_whole_is source.before source.now text read.text told read.was_read)) read.is_trace) is
+read_not :
+    (source : Stream) (text : List ℕ) (t : Script) (refused : ScriptRefused) → source.before ≡ Some text → trace None text ≡ Err refused → ReadTrace source t
+    → ⊥
+read_not source text t refused told is read =
+    not_both text t refused (subst (λ x. trace None x ≡ Ok t) (sym (read_whole_is source.before source.now text read.text told read.was_read)) read.is_trace) is
 
 pub refuses : ShowsRefuse
 refuses number source out ending.Done text refused h told fits is no_fault no_write = absurd (read_not source text h.trace refused told is h.read)
@@ -137,7 +157,9 @@ refuses number source out ending.ReadFailed text refused h told fits is no_fault
 refuses number source out ending.WriteFailed text refused h told fits is no_fault no_write = absurd (no_write h.plays.failed)
 refuses number source out (ending.Refused other) text refused h told fits is no_fault no_write =
     let P : List ℕ → Type 0 = λ x. trace None x ≡ Err other in
-    inl (ap (λ (r : ScriptRefused). ending.Refused r) (same_fault text refused other is (subst P (sym (read_whole_is source.before source.now text h.0.text told h.0.was_read)) h.0.is_refused)))
+    inl
+    (ap (λ (r : ScriptRefused). ending.Refused r)
+    (same_fault text refused other is (subst P (sym (read_whole_is source.before source.now text h.0.text told h.0.was_read)) h.0.is_refused)))
 refuses number source out ending.NoMemory text refused h told fits is no_fault no_write = inr refl
 refuses number source out ending.NotLegal text refused h told fits is no_fault no_write = absurd h
 refuses number source out ending.HostFailed text refused h told fits is no_fault no_write = absurd h

@@ -69,10 +69,16 @@ all_in : (made : List (Input × Seen)) (H : History) → HoldsEntriesSeen made H
 all_in [] H h = tt
 all_in ((i, s) ∷ made) H h = go (λ (H : History). all_in made H) (entry_seen s) H refl h
   where
-    go : ((H : History) → HoldsEntriesSeen made H → AllIn H made) → (o : Option EntryNo) (H : History) → entry_seen s ≡ o → HoldsEntry (HoldsEntriesSeen made) made H o → AllIn H ((i, s) ∷ made)
+    go :
+        ((H : History) → HoldsEntriesSeen made H → AllIn H made) → (o : Option EntryNo) (H : History) → entry_seen s ≡ o
+        → HoldsEntry (HoldsEntriesSeen made) made H o → AllIn H ((i, s) ∷ made)
     go earlier None H e h = (let P : Option EntryNo → Type 0 = IsIn H in subst P (sym e) tt, earlier H h)
     go earlier (Some x) [] e h = absurd h
-    go earlier (Some x) (row ∷ H) e h = (let P : Option EntryNo → Type 0 = IsIn (row ∷ H) in let below : x.0 < length (row ∷ H) = omega (arith, h.0) in subst P (sym e) below, all_stay row H made (earlier H h.2))
+    go earlier (Some x) (row ∷ H) e h = (
+      let P : Option EntryNo → Type 0 = IsIn (row ∷ H) in let below : x.0 < length (row ∷ H) = omega (arith, h.0) in
+          subst P (sym e) below,
+      all_stay row H made (earlier H h.2),
+    )
 
 -- what stands behind others
 rest_in : (H : History) (xs ys : List (Input × Seen)) → AllIn H (xs ++ ys) → AllIn H ys
@@ -96,8 +102,10 @@ line_in H (l ∷ log) (suc i) e s all is = line_in H log i e s all.1 is
 module _ {D F : Type 0} (disk : DiskMeaning D) (fabric : FabricMeaning F) (laws : Promises fabric) where
   pub entries_stand : (w : WorldOf D F) → HoldsAfterEach disk fabric → IsReached disk fabric w.core w.log → EntriesStand w.log w.core.device.history
   entries_stand w always r i e s is =
-      let began : Began disk fabric r.sizes r.lenders r.first r.first_fabric = record { blank = r.blank; is_of = laws.fresh_is_of r.first_fabric _ r.fresh; few = r.few } in
-      let holds : Holds (is_some (disk.means r.first).blocks) fabric.answers r.sizes (made_of r.written) w.core.device = always r.sizes r.lenders r.first r.first_fabric (made_of r.written) w.core.device w.core.disk w.core.fabric began r.run in
+      let began : Began disk fabric r.sizes r.lenders r.first r.first_fabric =
+      record { blank = r.blank; is_of = laws.fresh_is_of r.first_fabric _ r.fresh; few = r.few } in
+      let holds : Holds (is_some (disk.means r.first).blocks) fabric.answers r.sizes (made_of r.written) w.core.device =
+      always r.sizes r.lenders r.first r.first_fabric (made_of r.written) w.core.device w.core.disk w.core.fabric began r.run in
       let H : History = w.core.device.history in
       let lines : LinesIn H (logged_of r.written) = lines_in H r.written (all_in (made_of r.written) H holds.entries) in
       has_entry H s (line_in H (logged_of r.written) i e s lines (ap (λ l. slice_get l i) (sym r.logged) ∙ is))

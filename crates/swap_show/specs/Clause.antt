@@ -109,7 +109,8 @@ ShowEnds number source out ending.NotLegal = ⊥
 ShowEnds number source out ending.HostFailed = ⊥
 ShowEnds number source out ending.TooLong = ReadTooMuch source × TookNothing out
 
--- Where a trace is told and keeps the limit, and nothing fails, the call ends with a played trace's transcript, or for want
+-- Where a trace is told and keeps the limit, and nothing fails, the call ends with a played trace's transcript, or for
+-- want
 -- of memory.
 abbrev pub ShowsComplete : Type 0
 ShowsComplete =

@@ -28,7 +28,8 @@ pub record IsFirst (t : Script) (w : WorldOf Drive Harbor) : Type 0 where
 
 -- The machine's run behind a played world: what had an effect, a Round by its parts, with what was seen of it. The log
 -- is its. The history is one of an array of pages that starts as zeros, and holds each caller's answered calls once, in
--- its order. It is exactly the entries that were seen, and a failure has its cause: the counts of its own call, and for a
+-- its order. It is exactly the entries that were seen, and a failure has its cause: the counts of its own call, and for
+-- a
 -- page-in its own failed read.
 pub record IsRunOf (t : Script) (first w : WorldOf Drive Harbor) : Type 0 where
   pub written : List Written
@@ -47,7 +48,8 @@ KeepsLent from acts =
     (later earlier : List Act) (d : Device) (k : Drive) (h : Harbor) → acts ≡ later ++ earlier
     → IsActed drive.Moves harbor.Moves from.core.device from.core.disk from.core.fabric earlier d k h → IsLent d h
 
--- what holds of a trace that was played: its run, and what is kept along the acts that connect the lenders and those that
+-- what holds of a trace that was played: its run, and what is kept along the acts that connect the lenders and those
+-- that
 -- carry the trace out
 pub record IsHeadline (t : Script) (number : ℕ) (first w : WorldOf Drive Harbor)
     (played : IsPlayedOut drive.Moves harbor.Moves t number first w) : Type 0 where

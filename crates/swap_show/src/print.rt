@@ -29,7 +29,8 @@ fn print_log<D: DiskPort, F: Fabric, K: Sink>(
     out: &mut K,
 ) -> Result<(), WriteFailed>
     ensures ok { OnOk result (Appends (K.taken out.old) (K.taken out.new) (log_lines world.now)) }
-    ensures err { OnErr result (AppendsFront (K.taken out.old) (K.taken out.new) (log_lines world.now)) }
+    ensures err { OnErr result
+        (AppendsFront (K.taken out.old) (K.taken out.new) (log_lines world.now)) }
     ensures cause { HasCause (K.faults out.old) (K.faults out.new) result }
 {
     entries_stand(world);
@@ -42,16 +43,19 @@ fn print_log<D: DiskPort, F: Fabric, K: Sink>(
     Ok(())
 }
 
-/// Writes the transcript of a world's log: the geometry, the lenders, a line of each logged event, and the number of
-/// entries. After a failure a front of it was taken.
+/// Writes the transcript of a world's log: the geometry, the lenders, a line of each logged event,
+/// and the number of entries. After a failure a front of it was taken.
 pub fn print_world<D: DiskPort, F: Fabric, K: Sink>(
     world: &World<D, F>,
     lenders: &[LenderSpec],
     line: &mut LineBuf,
     out: &mut K,
 ) -> Result<(), WriteFailed>
-    ensures ok { OnOk result (Appends (K.taken out.old) (K.taken out.new) (world_transcript lenders.now world.now)) }
-    ensures err { OnErr result (AppendsFront (K.taken out.old) (K.taken out.new) (world_transcript lenders.now world.now)) }
+    ensures ok { OnOk result
+        (Appends (K.taken out.old) (K.taken out.new) (world_transcript lenders.now world.now)) }
+    ensures err { OnErr result
+        (AppendsFront (K.taken out.old) (K.taken out.new)
+        (world_transcript lenders.now world.now)) }
     ensures cause { HasCause (K.faults out.old) (K.faults out.new) result }
 {
     let geometry = world.device().geometry();

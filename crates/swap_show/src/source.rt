@@ -97,7 +97,8 @@ fn play_text<K: Sink, G: Gate, R: Threads + Wait + Sync>(
     gate: &G,
 ) -> Ending
     requires { length text.now ≤ TEXT_LIMIT }
-    ensures ends { TextEnds (trace_of None text.now) number (written_to K.Sink out.old out.new) result }
+    ensures ends { TextEnds (trace_of None text.now) number
+        (written_to K.Sink out.old out.new) result }
     ensures later { K.faults out.old ≤ K.faults out.new }
 {
     match read_trace(text, None) {
@@ -106,13 +107,15 @@ fn play_text<K: Sink, G: Gate, R: Threads + Wait + Sync>(
     }
 }
 
-/// Reads a trace, plays it over a disk and lenders in memory, and writes the transcript of the log. The order is: the read
-/// and its length as they come, the lines, memory, the run, the write. Each caller runs in a thread of its own; the Rounds
-/// that pace the calls are drawn from `number`.
+/// Reads a trace, plays it over a disk and lenders in memory, and writes the transcript of the log.
+/// The order is: the read and its length as they come, the lines, memory, the run, the write. Each
+/// caller runs in a thread of its own; the Rounds that pace the calls are drawn from `number`.
 ///
-/// It waits: its promise holds if it returns. `ReadFailed` comes only where the count of `source` rose in this call, and
-/// `WriteFailed` only where that of `out` did; `Refused` exactly where a line is at fault, `TooLong` exactly where more was
-/// read than a text may have, and `Faulted` exactly where a call failed of what was played.
+/// It waits: its promise holds if it returns. `ReadFailed` comes only where the count of `source`
+/// rose in this call, and
+/// `WriteFailed` only where that of `out` did; `Refused` exactly where a line is at fault,
+/// `TooLong` exactly where more was read than a text may have, and `Faulted` exactly where a call
+/// failed of what was played.
 pub fn play_source<S: Source, K: Sink, G: Gate, R: Threads + Wait + Sync>(
     rt: &R,
     alloc: Global,
@@ -121,7 +124,8 @@ pub fn play_source<S: Source, K: Sink, G: Gate, R: Threads + Wait + Sync>(
     out: &mut K,
     gate: &G,
 ) -> Ending
-    ensures ends { ShowEnds number (read_of S.Source source.old source.new) (written_to K.Sink out.old out.new) result }
+    ensures ends { ShowEnds number (read_of S.Source source.old source.new)
+        (written_to K.Sink out.old out.new) result }
     ensures later { K.faults out.old ≤ K.faults out.new }
 {
     plays_keep_the_headline();

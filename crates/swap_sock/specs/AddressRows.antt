@@ -8,7 +8,9 @@ address a b c d port = Some (record { a = a; b = b; c = c; d = d; port = port })
 
 abbrev pub AddressRows : Type 0
 AddressRows =
-    (address_in (codes "127.0.0.1:7070") ≡ address 127 0 0 1 7070) × (address_in (codes "255.255.255.255:65535") ≡ address 255 255 255 255 65535) × (address_in (codes "0.0.0.0:0") ≡ address 0 0 0 0 0)
+    (address_in (codes "127.0.0.1:7070") ≡ address 127 0 0 1 7070)
+    × (address_in (codes "255.255.255.255:65535") ≡ address 255 255 255 255 65535)
+    × (address_in (codes "0.0.0.0:0") ≡ address 0 0 0 0 0)
     × (address_in (codes "256.0.0.1:1") ≡ None)
     × (address_in (codes "1.2.3.4:65536") ≡ None)
     × (address_in (codes "01.2.3.4:5") ≡ None)

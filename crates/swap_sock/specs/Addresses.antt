@@ -47,4 +47,6 @@ address_in text =
     let second = after dot text in
     let third = after dot second in
     let fourth = after dot third in
-    assembled (at_most 255 (number (before dot text))) (at_most 255 (number (before dot second))) (at_most 255 (number (before dot third))) (at_most 255 (number (before colon fourth))) (at_most 65535 (number (after colon fourth)))
+    assembled (at_most 255 (number (before dot text))) (at_most 255 (number (before dot second)))
+    (at_most 255 (number (before dot third))) (at_most 255 (number (before colon fourth)))
+    (at_most 65535 (number (after colon fourth)))

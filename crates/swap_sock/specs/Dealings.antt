@@ -25,7 +25,8 @@ abbrev pub noted_given : {N P Q : Type 0} → N → P → Books N P Q → Books 
 noted_given name given b = record b { names = b.names ++ name ∷ []; given = b.given ++ given ∷ [] }
 
 abbrev pub gave_one : {N P Q : Type 0} → N → P → Dealings N P Q → Dealings N P Q
-gave_one name given d = record d { asked = raised d.asked; gave = raised d.gave; told = option_map (noted_given name given) d.told }
+gave_one name given d =
+    record d { asked = raised d.asked; gave = raised d.gave; told = option_map (noted_given name given) d.told }
 
 -- one was asked for by this name, and none was given
 abbrev pub noted_name : {N P Q : Type 0} → N → Books N P Q → Books N P Q

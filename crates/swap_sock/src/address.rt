@@ -15,7 +15,8 @@ pub struct Address {
 }
 
 impl Address {
-    /// Reads `A.B.C.D:PORT`, each number in decimal without leading zeros. None exactly where the text isn't of that form.
+    /// Reads `A.B.C.D:PORT`, each number in decimal without leading zeros. None exactly where the
+    /// text isn't of that form.
     pub fn read(text: &str) -> Option<Address>
         ensures { result ≡ address_in text.now }
     {

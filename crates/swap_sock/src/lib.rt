@@ -1,4 +1,5 @@
-//! Where a paging device and a lender get their disks, links and doors from: a host, and doors that links come in by.
+//! Where a paging device and a lender get their disks, links and doors from: a host, and doors that
+//! links come in by.
 #![tactic(auto)]
 
 ghost use Rattle.swap_sock.specs.AddressRows.{AddressRows};

@@ -52,7 +52,8 @@ impl Counts {
     }
 }
 
-/// A door in memory: links without bytes come in by it, as many as it is asked for. It tells no more than their number.
+/// A door in memory: links without bytes come in by it, as many as it is asked for. It tells no
+/// more than their number.
 #[derive(Debug, Drop)]
 pub struct MemDoor {
     alloc: Global,
@@ -85,7 +86,9 @@ impl Door for MemDoor {
 
     fn back(&mut self, reader: MemSource, end: LinkEnd<MemSink>)
         ensures later { 0 ≤ 0 }
-        ensures links { mem_links self.new.links.asked self.new.links.gave self.new.links.back ≡ got_back (left_by reader end) (mem_links self.old.links.asked self.old.links.gave self.old.links.back) }
+        ensures links { mem_links self.new.links.asked self.new.links.gave self.new.links.back
+            ≡ got_back (left_by reader end)
+            (mem_links self.old.links.asked self.old.links.gave self.old.links.back) }
     {
         drop(reader);
         drop(end);
@@ -93,9 +96,9 @@ impl Door for MemDoor {
     }
 }
 
-/// A host in memory, which fails at the calls that are listed by their numbers from 0, those that give something back not
-/// counted. It gives disks and lenders in memory, each with 8 slots, 2 of headroom and 2 extra, and doors whose links
-/// have no bytes. It tells no more than their numbers.
+/// A host in memory, which fails at the calls that are listed by their numbers from 0, those that
+/// give something back not counted. It gives disks and lenders in memory, each with 8 slots, 2 of
+/// headroom and 2 extra, and doors whose links have no bytes. It tells no more than their numbers.
 #[derive(Drop)]
 pub struct MemHost {
     alloc: Global,
@@ -130,7 +133,8 @@ impl MemHost {
     /// Whether the next call fails; it counts as made.
     fn fails(&mut self) -> bool
         ensures fails { result ≡ is_listed self.old.failing.items self.old.calls }
-        ensures faults { self.new.faults ≡ (if result then raised self.old.faults else self.old.faults) }
+        ensures faults { self.new.faults
+            ≡ (if result then raised self.old.faults else self.old.faults) }
         ensures later { self.old.faults ≤ self.new.faults }
         ensures rose { result ≡ true → Rose self.old.faults self.new.faults }
         ensures calls { self.new.calls ≡ raised self.old.calls }

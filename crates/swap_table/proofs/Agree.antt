@@ -32,7 +32,9 @@ use Rattle.swap_table.proofs.Lists.{All-set, All-get_or, All-map, All-implies, A
 array-out_same : (zeros : List ℕ) (H : History) (c : Caller) (p : Page) (bytes : List ℕ) → array zeros (pushed H c p op.PageOut bytes) p ≡ bytes
 array-out_same zeros H c p bytes = ap (λ b. cond b bytes (array zeros H p)) (eq-eqb p.0 p.0 refl)
 
-array-out_other : (zeros : List ℕ) (H : History) (c : Caller) (p r : Page) (bytes : List ℕ) → (r.0 ≡ p.0 → ⊥) → array zeros (pushed H c p op.PageOut bytes) r ≡ array zeros H r
+array-out_other :
+    (zeros : List ℕ) (H : History) (c : Caller) (p r : Page) (bytes : List ℕ) → (r.0 ≡ p.0 → ⊥)
+    → array zeros (pushed H c p op.PageOut bytes) r ≡ array zeros H r
 array-out_other zeros H c p r bytes ne = ap (λ b. cond b bytes (array zeros H r)) (not_eqb p.0 r.0 (λ e. ne (sym e)))
 
 -- the places of a page after they were set
@@ -51,10 +53,16 @@ holds_same a a' b b' c c' ea eb ec h =
 state-set_other : (cs : Calls) (c e : Caller) (call : Call) → (e.0 ≡ c.0 → ⊥) → state_of (set cs c.0 call) e ≡ state_of cs e
 state-set_other cs c e call ne = ap (λ (x : Call). x.state) (get_or-set_other cs c.0 e.0 call idle ne)
 
-expected_call : (T : Bool) (N C : ℕ) (q : Queue) (cs : Calls) (c : Caller) (call : Call) (f : Flight) → ((p : Page) → WaitsFor p (state_of cs c) → ⊥) → IsExpected T N C q cs f → IsExpected T N C q (set cs c.0 call) f
+expected_call :
+    (T : Bool) (N C : ℕ) (q : Queue) (cs : Calls) (c : Caller) (call : Call) (f : Flight) → ((p : Page) → WaitsFor p (state_of cs c) → ⊥)
+    → IsExpected T N C q cs f → IsExpected T N C q (set cs c.0 call) f
 expected_call T N C q cs c call (Write p bytes) idles h = h
-expected_call T N C q cs c call (Read e p) idles h =
-    (h.0, h.1, by_caller (λ x. WaitsFor p (state_of cs x) → WaitsFor p (state_of (set cs c.0 call) x)) c e (λ w. absurd (idles p w)) (λ ne w. let P : CallState → Type 0 = λ s. WaitsFor p s in subst P (sym (state-set_other cs c e call ne)) w) h.2)
+expected_call T N C q cs c call (Read e p) idles h = (
+  h.0,
+  h.1,
+  by_caller (λ x. WaitsFor p (state_of cs x) → WaitsFor p (state_of (set cs c.0 call) x)) c e (λ w. absurd (idles p w))
+      (λ ne w. let P : CallState → Type 0 = λ s. WaitsFor p s in subst P (sym (state-set_other cs c e call ne)) w) h.2,
+)
 
 pub get_or-map_idle : (f : Call → Call) (cs : Calls) (i : ℕ) → f idle ≡ idle → get_or (map f cs) i idle ≡ f (get_or cs i idle)
 get_or-map_idle f [] i e = sym e
@@ -88,19 +96,25 @@ expected_newer T N C q cs r (Read e p) h =
     (h.0, h.1, let P : CallState → Type 0 = λ s. WaitsFor p s in subst P (sym (state-paged_out cs r e)) (waits_newer p r (state_of cs e) h.2))
 
 -- the queue's flying copies are as they were where they matter
-expected_queue : (T : Bool) (N C : ℕ) (q q' : Queue) (cs : Calls) (f : Flight) → ((p : Page) (bytes : List ℕ) → f ≡ Write p bytes → flying q' p ≡ flying q p) → IsExpected T N C q cs f → IsExpected T N C q' cs f
+expected_queue :
+    (T : Bool) (N C : ℕ) (q q' : Queue) (cs : Calls) (f : Flight) → ((p : Page) (bytes : List ℕ) → f ≡ Write p bytes → flying q' p ≡ flying q p)
+    → IsExpected T N C q cs f → IsExpected T N C q' cs f
 expected_queue T N C q q' cs (Write p bytes) same h = (h.0, let P : Option Copy → Type 0 = λ o. IsCopyOf T bytes o in subst P (sym (same p bytes refl)) h.1)
 expected_queue T N C q q' cs (Read e p) same h = h
 
 -- a write in flight isn't of a page where none flies
-pub other_write : (T : Bool) (N C : ℕ) (q : Queue) (cs : Calls) (p : Page) (f : Flight) → flying q p ≡ None → IsExpected T N C q cs f → same_which (which.Write p) (which_of f) ≡ false
+pub other_write :
+    (T : Bool) (N C : ℕ) (q : Queue) (cs : Calls) (p : Page) (f : Flight) → flying q p ≡ None → IsExpected T N C q cs f
+    → same_which (which.Write p) (which_of f) ≡ false
 other_write T N C q cs p (Read e r) none h = refl
 other_write T N C q cs p (Write r bytes) none h =
     not_eqb p.0 r.0 (λ e.
     let P : Option Copy → Type 0 = λ o. IsCopyOf T bytes o in
     let there : flying q r ≡ None = subst (λ n. flying q (record { 0 = n }) ≡ None) e none in subst P there h.1)
 
-pub other_read : (T : Bool) (N C : ℕ) (q : Queue) (cs : Calls) (c : Caller) (f : Flight) → ((p : Page) → WaitsFor p (state_of cs c) → ⊥) → IsExpected T N C q cs f → same_which (which.Read c) (which_of f) ≡ false
+pub other_read :
+    (T : Bool) (N C : ℕ) (q : Queue) (cs : Calls) (c : Caller) (f : Flight) → ((p : Page) → WaitsFor p (state_of cs c) → ⊥) → IsExpected T N C q cs f
+    → same_which (which.Read c) (which_of f) ≡ false
 other_read T N C q cs c (Write r bytes) idles h = refl
 other_read T N C q cs c (Read e p) idles h =
     not_eqb c.0 e.0 (λ same. idles p (subst (λ n. WaitsFor p (state_of cs (record { 0 = n }))) (sym same) h.2))
@@ -116,7 +130,8 @@ none_first None (Some y) e = cc
 none_first (Some x) b e = cc
 
 in_line_same : (N : ℕ) (q q' : Queue) (p : Page) → places_of q' p ≡ places_of q p → IsInLine N q p → IsInLine N q' p
-in_line_same N q q' p e h = (h.0, let P : Places → Type 0 = λ x. IsSome x.next in subst P (sym e) h.1, let P : Places → Type 0 = λ x. x.flying ≡ None in subst P (sym e) h.2)
+in_line_same N q q' p e h =
+    (h.0, let P : Places → Type 0 = λ x. IsSome x.next in subst P (sym e) h.1, let P : Places → Type 0 = λ x. x.flying ≡ None in subst P (sym e) h.2)
 
 newest_same : (q q' : Queue) (p : Page) → places_of q' p ≡ places_of q p → newest q' p ≡ newest q p
 newest_same q q' p e = ap (λ (x : Places). first_of x.next x.flying) e
@@ -124,7 +139,9 @@ newest_same q q' p e = ap (λ (x : Places). first_of x.next x.flying) e
 flying_same : (q q' : Queue) (p : Page) → places_of q' p ≡ places_of q p → flying q' p ≡ flying q p
 flying_same q q' p e = ap (λ (x : Places). x.flying) e
 
-brings_same : (T : Bool) (A : List ℕ → List ℕ → Type 0) (q q' : Queue) (a a' : List ℕ) (p : Page) (bytes : List ℕ) (v : Via) (how : Arrived) → newest q' p ≡ newest q p → a' ≡ a → Brings T A q a p bytes v how → Brings T A q' a' p bytes v how
+brings_same :
+    (T : Bool) (A : List ℕ → List ℕ → Type 0) (q q' : Queue) (a a' : List ℕ) (p : Page) (bytes : List ℕ) (v : Via) (how : Arrived) → newest q' p ≡ newest q p
+    → a' ≡ a → Brings T A q a p bytes v how → Brings T A q' a' p bytes v how
 brings_same T A q q' a a' p bytes v arrived.Waiting en ea h = en ∙ h
 brings_same T A q q' a a' p bytes v arrived.Came en ea h = let P : List ℕ → Type 0 = λ x. MayGive T A (origin_of v) x bytes in subst P (sym ea) h
 brings_same T A q q' a a' p bytes v arrived.Failed en ea h = tt
@@ -138,18 +155,25 @@ apart-append (r ∷ ps) p a all = (All-append _ ps (p ∷ []) a.0 (all.0, tt), a
 waits : Bool → List Page → Page → List Page
 waits b line p = cond b (line ++ p ∷ []) line
 
-in_line_waits : (N : ℕ) (q : Queue) (b : Bool) (line : List Page) (p : Page) → AllByRecursion (IsInLine N q) line → (b ≡ true → IsInLine N q p) → AllByRecursion (IsInLine N q) (cond b (line ++ p ∷ []) line)
+in_line_waits :
+    (N : ℕ) (q : Queue) (b : Bool) (line : List Page) (p : Page) → AllByRecursion (IsInLine N q) line → (b ≡ true → IsInLine N q p)
+    → AllByRecursion (IsInLine N q) (cond b (line ++ p ∷ []) line)
 in_line_waits N q true line p all one = All-append _ line (p ∷ []) all (one refl, tt)
 in_line_waits N q false line p all one = all
 
-apart_waits : (b : Bool) (line : List Page) (p : Page) → AreApart line → (b ≡ true → AllByRecursion (λ (r : Page). p.0 ≡ r.0 → ⊥) line) → AreApart (cond b (line ++ p ∷ []) line)
+apart_waits :
+    (b : Bool) (line : List Page) (p : Page) → AreApart line → (b ≡ true → AllByRecursion (λ (r : Page). p.0 ≡ r.0 → ⊥) line)
+    → AreApart (cond b (line ++ p ∷ []) line)
 apart_waits true line p a all = apart-append line p a (all refl)
 apart_waits false line p a all = a
 
 abbrev pub IdleFor : Calls → Caller → Type 0
 IdleFor cs c = (r : Page) → WaitsFor r (state_of cs c) → ⊥
 
-fair_out : (T : Bool) (A : List ℕ → List ℕ → Type 0) (N : ℕ) (z : List ℕ) (H : History) (c : Caller) (p : Page) (bytes : List ℕ) (q q' : Queue) (x : Places) (own : List ℕ) (state : CallState) → q'.places ≡ set q.places p.0 x → IsFair T A N z H q own state → IsFair T A N z (pushed H c p op.PageOut bytes) q' own (calls.newer_if_reads p state)
+fair_out :
+    (T : Bool) (A : List ℕ → List ℕ → Type 0) (N : ℕ) (z : List ℕ) (H : History) (c : Caller) (p : Page) (bytes : List ℕ) (q q' : Queue) (x : Places)
+    (own : List ℕ) (state : CallState)
+    → q'.places ≡ set q.places p.0 x → IsFair T A N z H q own state → IsFair T A N z (pushed H c p op.PageOut bytes) q' own (calls.newer_if_reads p state)
 fair_out T A N z H c p bytes q q' x own Idle e h = tt
 fair_out T A N z H c p bytes q q' x own (Room r since) e h = h
 fair_out T A N z H c p bytes q q' x own (Reading r newest v how newer since) e h = (
@@ -160,9 +184,11 @@ fair_out T A N z H c p bytes q q' x own (Reading r newest v how newer since) e h
       brings_same T A q q' _ _ r own v how (newest_same q q' r (places-other q q' p r x ne e)) (array-out_other z H c p r bytes ne) (h.1 parts.0),
 )
 
-pub enter_agrees : (T : Bool) (A : List ℕ → List ℕ → Type 0) (N C : ℕ) (z : List ℕ) (H : History) (q : Queue) (bl : Option (List (List ℕ))) (fs : List Flight) (fin : Option Finished) (cs : Calls) (c : Caller) (p : Page) (bytes : List ℕ)
+pub enter_agrees : (T : Bool) (A : List ℕ → List ℕ → Type 0) (N C : ℕ) (z : List ℕ) (H : History) (q : Queue) (bl : Option (List (List ℕ))) (fs : List Flight)
+    (fin : Option Finished) (cs : Calls) (c : Caller) (p : Page) (bytes : List ℕ)
     → Agrees T A N C z H q bl fs fin cs → p.0 < N → IdleFor cs c
-    → Agrees T A N C z (pushed H c p op.PageOut bytes) (queue.put q p (record { entry = next_name H; bytes = bytes })) bl fs fin (calls.ended (calls.paged_out cs p) c)
+    → Agrees T A N C z (pushed H c p op.PageOut bytes) (queue.put q p (record { entry = next_name H; bytes = bytes })) bl fs fin
+    (calls.ended (calls.paged_out cs p) c)
 enter_agrees T A N C z H q bl fs fin cs c p bytes k within idles =
     let copy : Copy = record { entry = next_name H; bytes = bytes } in
     let x : Places = record { flying = flying q p; next = Some copy } in
@@ -177,31 +203,46 @@ enter_agrees T A N C z H q bl fs fin cs c p bytes k within idles =
       calls_len = length-set (calls.paged_out cs p) c.0 idle ∙ length-map cs _ ∙ k.calls_len;
       held =
           λ r in_range.
-          by_page (λ r. r.0 < N → HoldsPage (places_of q' r) (block_in bl r) (array z (pushed H c p op.PageOut bytes) r)) p r (λ _. holds_same x (places_of q' p) (block_in bl p) (block_in bl p) bytes (array z (pushed H c p op.PageOut bytes) p) here refl (array-out_same z H c p bytes) refl) (λ ne h. holds_same (places_of q r) (places_of q' r) (block_in bl r) (block_in bl r) (array z H r) (array z (pushed H c p op.PageOut bytes) r) (there r ne) refl (array-out_other z H c p r bytes ne) (k.held r h))
+          by_page (λ r. r.0 < N → HoldsPage (places_of q' r) (block_in bl r) (array z (pushed H c p op.PageOut bytes) r)) p r
+          (λ _.
+          holds_same x (places_of q' p) (block_in bl p) (block_in bl p) bytes (array z (pushed H c p op.PageOut bytes) p) here refl
+          (array-out_same z H c p bytes) refl)
+          (λ ne h.
+          holds_same (places_of q r) (places_of q' r) (block_in bl r) (block_in bl r) (array z H r) (array z (pushed H c p op.PageOut bytes) r)
+          (there r ne) refl (array-out_other z H c p r bytes ne) (k.held r h))
           in_range;
       expected =
           All-implies (IsExpected T N C q cs) _ fs (λ f h.
           expected_call T N C q' (calls.paged_out cs p) c idle f (λ r w.
-          idles r (newer_waits r p (state_of cs c) (let P : CallState → Type 0 = λ s. WaitsFor r s in subst P (state-paged_out cs p c) w))) (expected_newer T N C q' cs p f (expected_queue T N C q q' cs f (λ r b _.
+          idles r (newer_waits r p (state_of cs c) (let P : CallState → Type 0 = λ s. WaitsFor r s in subst P (state-paged_out cs p c) w)))
+          (expected_newer T N C q' cs p f (expected_queue T N C q q' cs f (λ r b _.
           by_page (λ r. flying q' r ≡ flying q r) p r (ap (λ (y : Places). y.flying) here) (λ ne. flying_same q q' r (there r ne))) h))) k.expected;
       distinct = k.distinct;
       writes = k.writes ∙ sym (count_by-set_same flies q.places p.0 x _ fits refl);
       under_way = k.under_way;
       in_line =
           in_line_waits N q' (is_none (newest q p)) q.line p (All-implies (IsInLine N q) (IsInLine N q') q.line (λ r h.
-          by_page (λ r. IsInLine N q r → IsInLine N q' r) p r (λ h. (h.0, ap (λ (y : Places). is_some y.next) here, ap (λ (y : Places). y.flying) here ∙ h.2)) (λ ne h. in_line_same N q q' r (there r ne) h) h) k.in_line) (λ none.
+          by_page (λ r. IsInLine N q r → IsInLine N q' r) p r (λ h. (h.0, ap (λ (y : Places). is_some y.next) here, ap (λ (y : Places). y.flying) here ∙ h.2))
+          (λ ne h. in_line_same N q q' r (there r ne) h) h)
+          k.in_line)
+          (λ none.
           (within, ap (λ (y : Places). is_some y.next) here, ap (λ (y : Places). y.flying) here ∙ (none_first (next q p) (flying q p) none).1));
       apart =
           apart_waits (is_none (newest q p)) q.line p k.apart (λ none.
           All-implies (IsInLine N q) _ q.line (λ r h same.
           some_not_none (next q r) h.1 (subst (λ n. next q (record { 0 = n }) ≡ None) same (none_first (next q p) (flying q p) none).0)) k.in_line);
       fair =
-          All-set (λ (call : Call). IsFair T A N z (pushed H c p op.PageOut bytes) q' call.bytes call.state) (calls.paged_out cs p) c.0 idle (All-map (λ (call : Call). IsFair T A N z H q call.bytes call.state) (λ (call : Call). IsFair T A N z (pushed H c p op.PageOut bytes) q' call.bytes call.state) _ cs (λ call h. fair_out T A N z H c p bytes q q' x call.bytes call.state refl h) k.fair) tt;
+          All-set (λ (call : Call). IsFair T A N z (pushed H c p op.PageOut bytes) q' call.bytes call.state) (calls.paged_out cs p) c.0 idle
+          (All-map (λ (call : Call). IsFair T A N z H q call.bytes call.state)
+          (λ (call : Call). IsFair T A N z (pushed H c p op.PageOut bytes) q' call.bytes call.state) _ cs
+          (λ call h. fair_out T A N z H c p bytes q q' x call.bytes call.state refl h) k.fair)
+          tt;
       faithful = (tt, k.faithful);
     }
 
 -- a call that doesn't wait is replaced
-pub call_agrees : (T : Bool) (A : List ℕ → List ℕ → Type 0) (N C : ℕ) (z : List ℕ) (H : History) (q : Queue) (bl : Option (List (List ℕ))) (fs : List Flight) (fin : Option Finished) (cs : Calls) (c : Caller) (call : Call)
+pub call_agrees : (T : Bool) (A : List ℕ → List ℕ → Type 0) (N C : ℕ) (z : List ℕ) (H : History) (q : Queue) (bl : Option (List (List ℕ))) (fs : List Flight)
+    (fin : Option Finished) (cs : Calls) (c : Caller) (call : Call)
     → Agrees T A N C z H q bl fs fin cs → IdleFor cs c → IsFair T A N z H q call.bytes call.state → Agrees T A N C z H q bl fs fin (set cs c.0 call)
 call_agrees T A N C z H q bl fs fin cs c call k idles fair =
     record {
@@ -221,27 +262,34 @@ call_agrees T A N C z H q bl fs fin cs c call k idles fair =
     }
 
 -- an entry that is no page-out leaves the array
-fair_in : (T : Bool) (A : List ℕ → List ℕ → Type 0) (N : ℕ) (z : List ℕ) (H : History) (row : Row) (q : Queue) (own : List ℕ) (state : CallState) → ((r : Page) → array z (row ∷ H) r ≡ array z H r) → IsFair T A N z H q own state → IsFair T A N z (row ∷ H) q own state
+fair_in :
+    (T : Bool) (A : List ℕ → List ℕ → Type 0) (N : ℕ) (z : List ℕ) (H : History) (row : Row) (q : Queue) (own : List ℕ) (state : CallState)
+    → ((r : Page) → array z (row ∷ H) r ≡ array z H r) → IsFair T A N z H q own state → IsFair T A N z (row ∷ H) q own state
 fair_in T A N z H row q own Idle same h = tt
 fair_in T A N z H row q own (Room r since) same h = h
 fair_in T A N z H row q own (Reading r newest v how newer since) same h = (h.0, λ e. brings_same T A q q _ _ r own v how refl (same r) (h.1 e))
 
-pub row_agrees : (T : Bool) (A : List ℕ → List ℕ → Type 0) (N C : ℕ) (z : List ℕ) (H : History) (row : Row) (q : Queue) (bl : Option (List (List ℕ))) (fs : List Flight) (fin : Option Finished) (cs : Calls)
-    → Agrees T A N C z H q bl fs fin cs → ((r : Page) → array z (row ∷ H) r ≡ array z H r) → GivesWhatItMay T A z H row row.entry.op → Agrees T A N C z (row ∷ H) q bl fs fin cs
+pub row_agrees : (T : Bool) (A : List ℕ → List ℕ → Type 0) (N C : ℕ) (z : List ℕ) (H : History) (row : Row) (q : Queue) (bl : Option (List (List ℕ)))
+    (fs : List Flight) (fin : Option Finished) (cs : Calls)
+    → Agrees T A N C z H q bl fs fin cs → ((r : Page) → array z (row ∷ H) r ≡ array z H r) → GivesWhatItMay T A z H row row.entry.op
+    → Agrees T A N C z (row ∷ H) q bl fs fin cs
 row_agrees T A N C z H row q bl fs fin cs k same gives =
     record {
       tells = k.tells;
       places_len = k.places_len;
       blocks_len = k.blocks_len;
       calls_len = k.calls_len;
-      held = λ r in_range. holds_same (places_of q r) (places_of q r) (block_in bl r) (block_in bl r) (array z H r) (array z (row ∷ H) r) refl refl (same r) (k.held r in_range);
+      held =
+          λ r in_range.
+          holds_same (places_of q r) (places_of q r) (block_in bl r) (block_in bl r) (array z H r) (array z (row ∷ H) r) refl refl (same r) (k.held r in_range);
       expected = k.expected;
       distinct = k.distinct;
       writes = k.writes;
       under_way = k.under_way;
       in_line = k.in_line;
       apart = k.apart;
-      fair = All-implies (λ (call : Call). IsFair T A N z H q call.bytes call.state) _ cs (λ call h. fair_in T A N z H row q call.bytes call.state same h) k.fair;
+      fair =
+          All-implies (λ (call : Call). IsFair T A N z H q call.bytes call.state) _ cs (λ call h. fair_in T A N z H row q call.bytes call.state same h) k.fair;
       faithful = (gives, k.faithful);
     }
 
@@ -252,7 +300,8 @@ other_sym (which.Write p) (which.Read c) e = refl
 other_sym (which.Read c) (which.Write p) e = refl
 other_sym (which.Read c) (which.Read d) e = not_eqb d.0 c.0 (λ same. eqb-false c.0 d.0 e (sym same))
 
-distinct-append : (fs : List Flight) (f : Flight) → AreDistinct fs → AllByRecursion (λ g. same_which (which_of f) (which_of g) ≡ false) fs → AreDistinct (fs ++ f ∷ [])
+distinct-append :
+    (fs : List Flight) (f : Flight) → AreDistinct fs → AllByRecursion (λ g. same_which (which_of f) (which_of g) ≡ false) fs → AreDistinct (fs ++ f ∷ [])
 distinct-append [] f d all = (tt, tt)
 distinct-append (g ∷ fs) f d all = (All-append (IsOther g) fs (f ∷ []) d.0 (other_sym (which_of f) (which_of g) all.0, tt), distinct-append fs f d.1 all.1)
 
@@ -263,12 +312,15 @@ under_way-append bl fs more (Some f) u =
     (find-append (is_flight_of (which_of f.flight)) fs more ∙ ap (λ o. option_or o (find (is_flight_of (which_of f.flight)) more)) u.0, u.1)
 
 -- a read begins
-pub read_agrees : (T : Bool) (A : List ℕ → List ℕ → Type 0) (N C : ℕ) (z : List ℕ) (H : History) (q : Queue) (bl : Option (List (List ℕ))) (fs : List Flight) (fin : Option Finished) (cs : Calls) (c : Caller) (p : Page) (e : EntryNo) (since : ℕ)
-    → Agrees T A N C z H q bl fs fin cs → IdleFor cs c → c.0 < C → p.0 < N → newest q p ≡ None → Agrees T A N C z H q bl (fs ++ Read c p ∷ []) fin (calls.reads cs c p e via.Disk since)
+pub read_agrees : (T : Bool) (A : List ℕ → List ℕ → Type 0) (N C : ℕ) (z : List ℕ) (H : History) (q : Queue) (bl : Option (List (List ℕ))) (fs : List Flight)
+    (fin : Option Finished) (cs : Calls) (c : Caller) (p : Page) (e : EntryNo) (since : ℕ)
+    → Agrees T A N C z H q bl fs fin cs → IdleFor cs c → c.0 < C → p.0 < N → newest q p ≡ None
+    → Agrees T A N C z H q bl (fs ++ Read c p ∷ []) fin (calls.reads cs c p e via.Disk since)
 read_agrees T A N C z H q bl fs fin cs c p e since before idles caller_in page_in none =
     let call : Call = record { state = Reading p e via.Disk arrived.Waiting false since; bytes = [] } in
     let fits : c.0 < length cs = omega (arith, before.calls_len) in
-    let state : state_of (set cs c.0 call) c ≡ Reading p e via.Disk arrived.Waiting false since = ap (λ (x : Call). x.state) (get_or-set_same cs c.0 call idle fits) in
+    let state : state_of (set cs c.0 call) c ≡ Reading p e via.Disk arrived.Waiting false since =
+    ap (λ (x : Call). x.state) (get_or-set_same cs c.0 call idle fits) in
     let P : CallState → Type 0 = λ s. WaitsFor p s in
     let k : Agrees T A N C z H q bl fs fin (set cs c.0 call) = call_agrees T A N C z H q bl fs fin cs c call before idles (page_in, λ _. none) in
     record {
@@ -301,13 +353,17 @@ first_some : (a f : Option Copy) (copy : Copy) → a ≡ Some copy → first_of 
 first_some None f copy e = cc
 first_some (Some x) f copy e = refl
 
-fair_same : (T : Bool) (A : List ℕ → List ℕ → Type 0) (N : ℕ) (z : List ℕ) (H : History) (q q' : Queue) (own : List ℕ) (state : CallState) → ((r : Page) → newest q' r ≡ newest q r) → IsFair T A N z H q own state → IsFair T A N z H q' own state
+fair_same :
+    (T : Bool) (A : List ℕ → List ℕ → Type 0) (N : ℕ) (z : List ℕ) (H : History) (q q' : Queue) (own : List ℕ) (state : CallState)
+    → ((r : Page) → newest q' r ≡ newest q r) → IsFair T A N z H q own state → IsFair T A N z H q' own state
 fair_same T A N z H q q' own Idle same h = tt
 fair_same T A N z H q q' own (Room r since) same h = h
 fair_same T A N z H q q' own (Reading r newest v how newer since) same h = (h.0, λ e. brings_same T A q q' _ _ r own v how (same r) refl (h.1 e))
 
-pub start_agrees : (T : Bool) (A : List ℕ → List ℕ → Type 0) (N C : ℕ) (z : List ℕ) (H : History) (q : Queue) (bl : Option (List (List ℕ))) (fs : List Flight) (fin : Option Finished) (cs : Calls) (p : Page) (line : List Page) (copy : Copy)
-    → Agrees T A N C z H q bl fs fin cs → q.line ≡ p ∷ line → next q p ≡ Some copy → Agrees T A N C z H (queue.start_of q (p ∷ line)) bl (fs ++ Write p (kept_by bl copy.bytes) ∷ []) fin cs
+pub start_agrees : (T : Bool) (A : List ℕ → List ℕ → Type 0) (N C : ℕ) (z : List ℕ) (H : History) (q : Queue) (bl : Option (List (List ℕ))) (fs : List Flight)
+    (fin : Option Finished) (cs : Calls) (p : Page) (line : List Page) (copy : Copy)
+    → Agrees T A N C z H q bl fs fin cs → q.line ≡ p ∷ line → next q p ≡ Some copy
+    → Agrees T A N C z H (queue.start_of q (p ∷ line)) bl (fs ++ Write p (kept_by bl copy.bytes) ∷ []) fin cs
 start_agrees T A N C z H q bl fs fin cs p line copy k is_line is_next =
     let x : Places = record { flying = next q p; next = None } in
     let q' : Queue = queue.start_of q (p ∷ line) in
@@ -319,7 +375,8 @@ start_agrees T A N C z H q bl fs fin cs p line copy k is_line is_next =
     let there : (r : Page) → (r.0 ≡ p.0 → ⊥) → places_of q' r ≡ places_of q r = λ r ne. places-other q q' p r x ne refl in
     let flies_copy : flying q' p ≡ Some copy = ap (λ (y : Places). y.flying) here ∙ is_next in
     let newest_there : (r : Page) → newest q' r ≡ newest q r = λ r.
-    by_page (λ r. newest q' r ≡ newest q r) p r (ap (λ (y : Places). first_of y.next y.flying) here ∙ sym (first_some (next q p) (flying q p) copy is_next)) (λ ne. newest_same q q' r (there r ne)) in
+    by_page (λ r. newest q' r ≡ newest q r) p r (ap (λ (y : Places). first_of y.next y.flying) here ∙ sym (first_some (next q p) (flying q p) copy is_next))
+    (λ ne. newest_same q q' r (there r ne)) in
     let P : Option Copy → Type 0 = λ o. IsCopyOf T (kept_by bl copy.bytes) o in
     let page_in : p.0 < N = front.0 in
     record {
@@ -329,20 +386,35 @@ start_agrees T A N C z H q bl fs fin cs p line copy k is_line is_next =
       calls_len = k.calls_len;
       held =
           λ r in_range.
-          by_page (λ r. r.0 < N → HoldsPage (places_of q' r) (block_in bl r) (array z H r)) p r (λ i. holds_same x (places_of q' p) (block_in bl p) (block_in bl p) (array z H p) (array z H p) here refl refl (started_copy (next q p) (flying q p) copy _ _ is_next (k.held p i))) (λ ne i.
+          by_page (λ r. r.0 < N → HoldsPage (places_of q' r) (block_in bl r) (array z H r)) p r
+          (λ i.
+          holds_same x (places_of q' p) (block_in bl p) (block_in bl p) (array z H p) (array z H p) here refl refl
+          (started_copy (next q p) (flying q p) copy _ _ is_next (k.held p i)))
+          (λ ne i.
           holds_same (places_of q r) (places_of q' r) (block_in bl r) (block_in bl r) (array z H r) (array z H r) (there r ne) refl refl (k.held r i)) in_range;
       expected =
           All-append (IsExpected T N C q' cs) fs (Write p (kept_by bl copy.bytes) ∷ []) (All-implies (IsExpected T N C q cs) _ fs (λ f h.
           expected_queue T N C q q' cs f (λ r b e.
-          by_page (λ r. IsExpected T N C q cs (Write r b) → flying q' r ≡ flying q r) p r (λ w. absurd (let Q : Option Copy → Type 0 = λ o. IsCopyOf T b o in subst Q front.2 w.1)) (λ ne _. flying_same q q' r (there r ne)) (subst (λ g. IsExpected T N C q cs g) e h)) h) k.expected) ((page_in, subst P (sym flies_copy) (λ told. kept_told bl copy.bytes (k.tells ∙ told))), tt);
-      distinct = distinct-append fs (Write p (kept_by bl copy.bytes)) k.distinct (All-implies (IsExpected T N C q cs) _ fs (λ f h. other_write T N C q cs p f front.2 h) k.expected);
+          by_page (λ r. IsExpected T N C q cs (Write r b) → flying q' r ≡ flying q r) p r
+          (λ w. absurd (let Q : Option Copy → Type 0 = λ o. IsCopyOf T b o in subst Q front.2 w.1)) (λ ne _. flying_same q q' r (there r ne))
+          (subst (λ g. IsExpected T N C q cs g) e h))
+          h)
+          k.expected)
+          ((page_in, subst P (sym flies_copy) (λ told. kept_told bl copy.bytes (k.tells ∙ told))), tt);
+      distinct =
+          distinct-append fs (Write p (kept_by bl copy.bytes)) k.distinct
+          (All-implies (IsExpected T N C q cs) _ fs (λ f h. other_write T N C q cs p f front.2 h) k.expected);
       writes =
           count_by-append_one is_write fs (Write p (kept_by bl copy.bytes)) ∙ ap (λ n. n + 1) k.writes
           ∙ sym (count_by-set_more flies q.places p.0 x _ fits (ap is_some is_next) (ap is_some front.2));
       under_way = under_way-append bl fs (Write p (kept_by bl copy.bytes) ∷ []) fin k.under_way;
-      in_line = All-implies (λ (r : Page). IsInLine N q r × (r.0 ≡ p.0 → ⊥)) (IsInLine N q') line (λ r h. in_line_same N q q' r (there r h.1) h.0) (both _ _ line members.1 apart.0);
+      in_line =
+          All-implies (λ (r : Page). IsInLine N q r × (r.0 ≡ p.0 → ⊥)) (IsInLine N q') line (λ r h. in_line_same N q q' r (there r h.1) h.0)
+          (both _ _ line members.1 apart.0);
       apart = apart.1;
-      fair = All-implies (λ (call : Call). IsFair T A N z H q call.bytes call.state) _ cs (λ call h. fair_same T A N z H q q' call.bytes call.state newest_there h) k.fair;
+      fair =
+          All-implies (λ (call : Call). IsFair T A N z H q call.bytes call.state) _ cs
+          (λ call h. fair_same T A N z H q q' call.bytes call.state newest_there h) k.fair;
       faithful = k.faithful;
     }
 
@@ -374,7 +446,9 @@ left_other : (w : DiskWhich) (fs : List Flight) → AreDistinct fs → AllByRecu
 left_other w [] d = tt
 left_other w (f ∷ fs) d = go (same_which w (which_of f)) refl (left_other w fs d.1)
   where
-    go : (b : Bool) → same_which w (which_of f) ≡ b → AllByRecursion (λ g. same_which w (which_of g) ≡ false) (without w fs) → AllByRecursion (λ g. same_which w (which_of g) ≡ false) (cond b fs (f ∷ without w fs))
+    go :
+        (b : Bool) → same_which w (which_of f) ≡ b → AllByRecursion (λ g. same_which w (which_of g) ≡ false) (without w fs)
+        → AllByRecursion (λ g. same_which w (which_of g) ≡ false) (cond b fs (f ∷ without w fs))
     go true e rest = subst (λ v. AllByRecursion (λ g. same_which v (which_of g) ≡ false) fs) (sym (same_is w (which_of f) e)) d.0
     go false e rest = (e, rest)
 
@@ -391,34 +465,43 @@ found_is : (w : DiskWhich) (fs : List Flight) (f : Flight) → find (is_flight_o
 found_is w [] f e = cc
 found_is w (g ∷ fs) f e = go (is_flight_of w g) refl e (found_is w fs f)
   where
-    go : (b : Bool) → is_flight_of w g ≡ b → cond b (Some g) (find (is_flight_of w) fs) ≡ Some f → (find (is_flight_of w) fs ≡ Some f → w ≡ which_of f) → w ≡ which_of f
+    go :
+        (b : Bool) → is_flight_of w g ≡ b → cond b (Some g) (find (is_flight_of w) fs) ≡ Some f → (find (is_flight_of w) fs ≡ Some f → w ≡ which_of f)
+        → w ≡ which_of f
     go true is e rest = let same : g ≡ f = cc in same_is w (which_of g) is ∙ ap which_of same
     go false is e rest = rest e
 
 -- how many writes are left in flight
-writes-without_write : (p : Page) (fs : List Flight) (f : Flight) → find (is_flight_of (which.Write p)) fs ≡ Some f → writes_in (without (which.Write p) fs) + 1 ≡ writes_in fs
+writes-without_write :
+    (p : Page) (fs : List Flight) (f : Flight) → find (is_flight_of (which.Write p)) fs ≡ Some f → writes_in (without (which.Write p) fs) + 1 ≡ writes_in fs
 writes-without_write p [] f e = cc
 writes-without_write p (Read c r ∷ fs) f e =
     let rest = writes-without_write p fs f e in
     omega (arith, rest, count_by-cons is_write (Read c r) fs, count_by-cons is_write (Read c r) (without (which.Write p) fs))
 writes-without_write p (Write r bytes ∷ fs) f e = go (p.0 == r.0) e (writes-without_write p fs f)
   where
-    go : (b : Bool) → cond b (Some (Write r bytes)) (find (is_flight_of (which.Write p)) fs) ≡ Some f → (find (is_flight_of (which.Write p)) fs ≡ Some f → writes_in (without (which.Write p) fs) + 1 ≡ writes_in fs)
+    go :
+        (b : Bool) → cond b (Some (Write r bytes)) (find (is_flight_of (which.Write p)) fs) ≡ Some f
+        → (find (is_flight_of (which.Write p)) fs ≡ Some f → writes_in (without (which.Write p) fs) + 1 ≡ writes_in fs)
         → writes_in (cond b fs (Write r bytes ∷ without (which.Write p) fs)) + 1 ≡ writes_in (Write r bytes ∷ fs)
     go true e rest = omega (arith, count_by-cons is_write (Write r bytes) fs)
     go false e rest =
         let more = rest e in
-        let a : writes_in (Write r bytes ∷ without (which.Write p) fs) ≡ 1 + writes_in (without (which.Write p) fs) = count_by-cons is_write (Write r bytes) (without (which.Write p) fs) in
+        let a : writes_in (Write r bytes ∷ without (which.Write p) fs) ≡ 1 + writes_in (without (which.Write p) fs) =
+        count_by-cons is_write (Write r bytes) (without (which.Write p) fs) in
         let b : writes_in (Write r bytes ∷ fs) ≡ 1 + writes_in fs = count_by-cons is_write (Write r bytes) fs in
         ap (λ n. n + 1) a ∙ omega (arith, more, b)
 
 writes-without_read : (c : Caller) (fs : List Flight) → writes_in (without (which.Read c) fs) ≡ writes_in fs
 writes-without_read c [] = refl
 writes-without_read c (Write r bytes ∷ fs) =
-    count_by-cons is_write (Write r bytes) (without (which.Read c) fs) ∙ ap (λ n. 1 + n) (writes-without_read c fs) ∙ sym (count_by-cons is_write (Write r bytes) fs)
+    count_by-cons is_write (Write r bytes) (without (which.Read c) fs) ∙ ap (λ n. 1 + n) (writes-without_read c fs)
+    ∙ sym (count_by-cons is_write (Write r bytes) fs)
 writes-without_read c (Read e r ∷ fs) = go (c.0 == e.0) (writes-without_read c fs)
   where
-    go : (b : Bool) → writes_in (without (which.Read c) fs) ≡ writes_in fs → writes_in (cond b fs (Read e r ∷ without (which.Read c) fs)) ≡ writes_in (Read e r ∷ fs)
+    go :
+        (b : Bool) → writes_in (without (which.Read c) fs) ≡ writes_in fs
+        → writes_in (cond b fs (Read e r ∷ without (which.Read c) fs)) ≡ writes_in (Read e r ∷ fs)
     go true rest = sym (count_by-cons is_write (Read e r) fs ∙ zero-add _)
     go false rest = count_by-cons is_write (Read e r) (without (which.Read c) fs) ∙ ap (λ n. 0 + n) rest ∙ sym (count_by-cons is_write (Read e r) fs)
 
@@ -431,7 +514,9 @@ pub some_first : (a f : Option Copy) → is_some f ≡ true → is_some (first_o
 some_first None f e = e
 some_first (Some x) f e = refl
 
-fair_wrote : (T : Bool) (A : List ℕ → List ℕ → Type 0) (N : ℕ) (z : List ℕ) (H : History) (q q' : Queue) (p : Page) (own : List ℕ) (state : CallState) → is_some (newest q p) ≡ true → ((r : Page) → (r.0 ≡ p.0 → ⊥) → newest q' r ≡ newest q r) → IsFair T A N z H q own state → IsFair T A N z H q' own state
+fair_wrote :
+    (T : Bool) (A : List ℕ → List ℕ → Type 0) (N : ℕ) (z : List ℕ) (H : History) (q q' : Queue) (p : Page) (own : List ℕ) (state : CallState)
+    → is_some (newest q p) ≡ true → ((r : Page) → (r.0 ≡ p.0 → ⊥) → newest q' r ≡ newest q r) → IsFair T A N z H q own state → IsFair T A N z H q' own state
 fair_wrote T A N z H q q' p own Idle holds there h = tt
 fair_wrote T A N z H q q' p own (Room r since) holds there h = h
 fair_wrote T A N z H q q' p own (Reading r newest_ v how newer since) holds there h = (h.0, λ e. go how (h.1 e))
@@ -443,8 +528,10 @@ fair_wrote T A N z H q q' p own (Reading r newest_ v how newer since) holds ther
     go arrived.Failed b = tt
     go arrived.Lost b = tt
 
-pub wrote_agrees : (T : Bool) (A : List ℕ → List ℕ → Type 0) (N C : ℕ) (z : List ℕ) (H : History) (q : Queue) (bl : Option (List (List ℕ))) (fs : List Flight) (fin : Option Finished) (cs : Calls) (p : Page) (bytes : List ℕ) (kept : Option Copy) (again : Bool)
-    → Agrees T A N C z H q bl fs fin cs → find (is_flight_of (which.Write p)) fs ≡ Some (Write p bytes) → (again ≡ true → is_some kept ≡ true) → HoldsPage (record { flying = None; next = kept }) (block_in bl p) (array z H p)
+pub wrote_agrees : (T : Bool) (A : List ℕ → List ℕ → Type 0) (N C : ℕ) (z : List ℕ) (H : History) (q : Queue) (bl : Option (List (List ℕ))) (fs : List Flight)
+    (fin : Option Finished) (cs : Calls) (p : Page) (bytes : List ℕ) (kept : Option Copy) (again : Bool)
+    → Agrees T A N C z H q bl fs fin cs → find (is_flight_of (which.Write p)) fs ≡ Some (Write p bytes) → (again ≡ true → is_some kept ≡ true)
+    → HoldsPage (record { flying = None; next = kept }) (block_in bl p) (array z H p)
     → Agrees T A N C z H (queue.with_places q p (record { flying = None; next = kept }) again) bl (without (which.Write p) fs) None cs
 wrote_agrees T A N C z H q bl fs fin cs p bytes kept again k there_is waits_ holds =
     let w : IsExpected T N C q cs (Write p bytes) = found (IsExpected T N C q cs) (which.Write p) fs (Write p bytes) there_is k.expected in
@@ -461,12 +548,14 @@ wrote_agrees T A N C z H q bl fs fin cs p bytes kept again k there_is waits_ hol
       calls_len = k.calls_len;
       held =
           λ r in_range.
-          by_page (λ r. r.0 < N → HoldsPage (places_of q' r) (block_in bl r) (array z H r)) p r (λ i. holds_same x (places_of q' p) (block_in bl p) (block_in bl p) (array z H p) (array z H p) here refl refl holds) (λ ne i.
+          by_page (λ r. r.0 < N → HoldsPage (places_of q' r) (block_in bl r) (array z H r)) p r
+          (λ i. holds_same x (places_of q' p) (block_in bl p) (block_in bl p) (array z H p) (array z H p) here refl refl holds) (λ ne i.
           holds_same (places_of q r) (places_of q' r) (block_in bl r) (block_in bl r) (array z H r) (array z H r) (there r ne) refl refl (k.held r i)) in_range;
       expected =
           All-implies (λ f. IsExpected T N C q cs f × (same_which (which.Write p) (which_of f) ≡ false)) _ (without (which.Write p) fs) (λ f h.
           expected_queue T N C q q' cs f (λ r c e.
-          flying_same q q' r (there r (λ same. eqb-false p.0 r.0 (subst (λ g. same_which (which.Write p) (which_of g) ≡ false) e h.1) (sym same)))) h.0) (both _ _ _ (All-without (IsExpected T N C q cs) (which.Write p) fs k.expected) (left_other (which.Write p) fs k.distinct));
+          flying_same q q' r (there r (λ same. eqb-false p.0 r.0 (subst (λ g. same_which (which.Write p) (which_of g) ≡ false) e h.1) (sym same)))) h.0)
+          (both _ _ _ (All-without (IsExpected T N C q cs) (which.Write p) fs k.expected) (left_other (which.Write p) fs k.distinct));
       distinct = distinct-without (which.Write p) fs k.distinct;
       writes =
           let less = writes-without_write p fs (Write p bytes) there_is in
@@ -475,7 +564,10 @@ wrote_agrees T A N C z H q bl fs fin cs p bytes kept again k there_is waits_ hol
       under_way = tt;
       in_line =
           in_line_waits N q' again q.line p (All-implies (IsInLine N q) (IsInLine N q') q.line (λ r h.
-          by_page (λ r. IsInLine N q r → IsInLine N q' r) p r (λ h. absurd (some_not_none (flying q p) flies_copy h.2)) (λ ne h. in_line_same N q q' r (there r ne) h) h) k.in_line) (λ e.
+          by_page (λ r. IsInLine N q r → IsInLine N q' r) p r (λ h. absurd (some_not_none (flying q p) flies_copy h.2))
+          (λ ne h. in_line_same N q q' r (there r ne) h) h)
+          k.in_line)
+          (λ e.
           (w.0, ap (λ (y : Places). is_some y.next) here ∙ waits_ e, ap (λ (y : Places). y.flying) here));
       apart =
           apart_waits again q.line p k.apart (λ _.
@@ -488,7 +580,9 @@ wrote_agrees T A N C z H q bl fs fin cs p bytes kept again k there_is waits_ hol
     }
 
 -- a read came back
-expected_other_call : (T : Bool) (N C : ℕ) (q : Queue) (cs : Calls) (c : Caller) (call : Call) (f : Flight) → same_which (which.Read c) (which_of f) ≡ false → IsExpected T N C q cs f → IsExpected T N C q (set cs c.0 call) f
+expected_other_call :
+    (T : Bool) (N C : ℕ) (q : Queue) (cs : Calls) (c : Caller) (call : Call) (f : Flight) → same_which (which.Read c) (which_of f) ≡ false
+    → IsExpected T N C q cs f → IsExpected T N C q (set cs c.0 call) f
 expected_other_call T N C q cs c call (Write p bytes) other h = h
 expected_other_call T N C q cs c call (Read e p) other h =
     (h.0, h.1, let P : CallState → Type 0 = λ s. WaitsFor p s in subst P (sym (state-set_other cs c e call (λ same. eqb-false c.0 e.0 other (sym same)))) h.2)
@@ -503,19 +597,25 @@ IsBrought blocks page bytes arrived.Failed = Unit {0}
 IsBrought blocks page bytes _ = ⊥
 
 -- two that a told block equals are equal
-block_is : (T : Bool) (bl : Option (List (List ℕ))) (p : Page) (bytes content : List ℕ) → is_some bl ≡ T → IsBlock (block_in bl p) bytes → IsBlock (block_in bl p) content → T ≡ true → bytes ≡ content
+block_is :
+    (T : Bool) (bl : Option (List (List ℕ))) (p : Page) (bytes content : List ℕ) → is_some bl ≡ T → IsBlock (block_in bl p) bytes
+    → IsBlock (block_in bl p) content → T ≡ true → bytes ≡ content
 block_is T None p bytes content tells a b told = cc
 block_is T (Some blocks) p bytes content tells a b told = sym a ∙ b
 
-brings_block : (T : Bool) (A : List ℕ → List ℕ → Type 0) (q : Queue) (bl : Option (List (List ℕ))) (p : Page) (content bytes : List ℕ) (how : Arrived) → is_some bl ≡ T → HoldsPage (places_of q p) (block_in bl p) content → newest q p ≡ None → IsBrought bl p bytes how → Brings T A q content p bytes via.Disk how
+brings_block :
+    (T : Bool) (A : List ℕ → List ℕ → Type 0) (q : Queue) (bl : Option (List (List ℕ))) (p : Page) (content bytes : List ℕ) (how : Arrived) → is_some bl ≡ T
+    → HoldsPage (places_of q p) (block_in bl p) content → newest q p ≡ None → IsBrought bl p bytes how → Brings T A q content p bytes via.Disk how
 brings_block T A q bl p content bytes arrived.Waiting tells holds none b = absurd b
 brings_block T A q bl p content bytes arrived.Came tells holds none b =
     block_is T bl p bytes content tells b (subst (λ o. MatchOption o (IsBlock (block_in bl p) content) (λ (copy : Copy). copy.bytes ≡ content)) none holds)
 brings_block T A q bl p content bytes arrived.Failed tells holds none b = tt
 brings_block T A q bl p content bytes arrived.Lost tells holds none b = absurd b
 
-fair_read : (T : Bool) (A : List ℕ → List ℕ → Type 0) (N : ℕ) (z : List ℕ) (H : History) (q : Queue) (bl : Option (List (List ℕ))) (p : Page) (call : Call) (own : List ℕ) (bytes : List ℕ) (how : Arrived) (state : CallState)
-    → is_some bl ≡ T → ((r : Page) → r.0 < N → HoldsPage (places_of q r) (block_in bl r) (array z H r)) → WaitsFor p state → IsBrought bl p bytes how → IsFair T A N z H q own state
+fair_read : (T : Bool) (A : List ℕ → List ℕ → Type 0) (N : ℕ) (z : List ℕ) (H : History) (q : Queue) (bl : Option (List (List ℕ))) (p : Page) (call : Call)
+    (own : List ℕ) (bytes : List ℕ) (how : Arrived) (state : CallState)
+    → is_some bl ≡ T → ((r : Page) → r.0 < N → HoldsPage (places_of q r) (block_in bl r) (array z H r)) → WaitsFor p state → IsBrought bl p bytes how
+    → IsFair T A N z H q own state
     → let after : Call = calls.arrives how bytes call state in IsFair T A N z H q after.bytes after.state
 fair_read T A N z H q bl p call own bytes how Idle tells held w b h = absurd w
 fair_read T A N z H q bl p call own bytes how (Room r since) tells held w b h = absurd w
@@ -526,12 +626,14 @@ fair_read T A N z H q bl p call own bytes how (Reading r newest_ via.Disk arrive
 fair_read T A N z H q bl p call own bytes how (Reading r newest_ via.Disk arrived.Lost newer since) tells held w b h = absurd w
 fair_read T A N z H q bl p call own bytes how (Reading r newest_ (via.Lender l) arrived newer since) tells held w b h = absurd w
 
-pub read_back_agrees : (T : Bool) (A : List ℕ → List ℕ → Type 0) (N C : ℕ) (z : List ℕ) (H : History) (q : Queue) (bl : Option (List (List ℕ))) (fs : List Flight) (fin : Option Finished) (cs : Calls) (c : Caller) (p : Page) (bytes : List ℕ) (how : Arrived)
+pub read_back_agrees : (T : Bool) (A : List ℕ → List ℕ → Type 0) (N C : ℕ) (z : List ℕ) (H : History) (q : Queue) (bl : Option (List (List ℕ)))
+    (fs : List Flight) (fin : Option Finished) (cs : Calls) (c : Caller) (p : Page) (bytes : List ℕ) (how : Arrived)
     → Agrees T A N C z H q bl fs fin cs → IsExpected T N C q cs (Read c p) → IsBrought bl p bytes how
     → Agrees T A N C z H q bl (without (which.Read c) fs) None (set cs c.0 (calls.arrives how bytes (call_of cs c) (state_of cs c)))
 read_back_agrees T A N C z H q bl fs fin cs c p bytes how k w b =
     let call : Call = calls.arrives how bytes (call_of cs c) (state_of cs c) in
-    let mine : IsFair T A N z H q (call_of cs c).bytes (state_of cs c) = All-get_or (λ (call : Call). IsFair T A N z H q call.bytes call.state) cs c.0 idle k.fair tt in
+    let mine : IsFair T A N z H q (call_of cs c).bytes (state_of cs c) =
+    All-get_or (λ (call : Call). IsFair T A N z H q call.bytes call.state) cs c.0 idle k.fair tt in
     record {
       tells = k.tells;
       places_len = k.places_len;
@@ -539,13 +641,17 @@ read_back_agrees T A N C z H q bl fs fin cs c p bytes how k w b =
       calls_len = length-set cs c.0 call ∙ k.calls_len;
       held = k.held;
       expected =
-          All-implies (λ f. IsExpected T N C q cs f × (same_which (which.Read c) (which_of f) ≡ false)) _ (without (which.Read c) fs) (λ f h. expected_other_call T N C q cs c call f h.1 h.0) (both _ _ _ (All-without (IsExpected T N C q cs) (which.Read c) fs k.expected) (left_other (which.Read c) fs k.distinct));
+          All-implies (λ f. IsExpected T N C q cs f × (same_which (which.Read c) (which_of f) ≡ false)) _ (without (which.Read c) fs)
+          (λ f h. expected_other_call T N C q cs c call f h.1 h.0)
+          (both _ _ _ (All-without (IsExpected T N C q cs) (which.Read c) fs k.expected) (left_other (which.Read c) fs k.distinct));
       distinct = distinct-without (which.Read c) fs k.distinct;
       writes = writes-without_read c fs ∙ k.writes;
       under_way = tt;
       in_line = k.in_line;
       apart = k.apart;
-      fair = All-set (λ (call : Call). IsFair T A N z H q call.bytes call.state) cs c.0 call k.fair (fair_read T A N z H q bl p (call_of cs c) (call_of cs c).bytes bytes how (state_of cs c) k.tells k.held w.2 b mine);
+      fair =
+          All-set (λ (call : Call). IsFair T A N z H q call.bytes call.state) cs c.0 call k.fair
+          (fair_read T A N z H q bl p (call_of cs c) (call_of cs c).bytes bytes how (state_of cs c) k.tells k.held w.2 b mine);
       faithful = k.faithful;
     }
 
@@ -560,11 +666,16 @@ first_flies None None A B P e h = cc
 first_flies None (Some x) A B P e h = h
 first_flies (Some x) f A B P e h = h
 
-settled_holds : (T : Bool) (N C : ℕ) (z : List ℕ) (H : History) (q : Queue) (cs : Calls) (blocks : List (List ℕ)) (f : Flight) (ok : Bool) (left : List ℕ) (r : Page)
-    → IsExpected T N C q cs f → HoldsPage (places_of q r) (Some (get_or blocks r.0 [])) (array z H r) → HoldsPage (places_of q r) (Some (get_or (settled_with blocks f ok left) r.0 [])) (array z H r)
+settled_holds : (T : Bool) (N C : ℕ) (z : List ℕ) (H : History) (q : Queue) (cs : Calls) (blocks : List (List ℕ)) (f : Flight) (ok : Bool) (left : List ℕ)
+    (r : Page)
+    → IsExpected T N C q cs f → HoldsPage (places_of q r) (Some (get_or blocks r.0 [])) (array z H r)
+    → HoldsPage (places_of q r) (Some (get_or (settled_with blocks f ok left) r.0 [])) (array z H r)
 settled_holds T N C z H q cs blocks (Read c p) ok left r w h = h
 settled_holds T N C z H q cs blocks (Write p bytes) ok left r w h =
-    by_page (λ r. HoldsPage (places_of q r) (Some (get_or blocks r.0 [])) (array z H r) → HoldsPage (places_of q r) (Some (get_or (settled_with blocks (Write p bytes) ok left) r.0 [])) (array z H r)) p r
+    by_page
+    (λ r. HoldsPage (places_of q r) (Some (get_or blocks r.0 [])) (array z H r)
+    → HoldsPage (places_of q r) (Some (get_or (settled_with blocks (Write p bytes) ok left) r.0 [])) (array z H r))
+    p r
     (λ h. first_flies (next q p) (flying q p) _ _ _ (copy_flies T bytes (flying q p) w.1) h)
     (λ ne h. let P : List ℕ → Type 0 = λ b. HoldsPage (places_of q r) (Some b) (array z H r) in subst P (sym (other ok ne)) h)
     h
@@ -573,12 +684,16 @@ settled_holds T N C z H q cs blocks (Write p bytes) ok left r w h =
     other true ne = get_or-set_other blocks p.0 r.0 bytes [] ne
     other false ne = get_or-set_other blocks p.0 r.0 left [] ne
 
-is_settled : (T : Bool) (N C : ℕ) (q : Queue) (cs : Calls) (blocks : List (List ℕ)) (f : Flight) (ok : Bool) (left : List ℕ) → length blocks ≡ N → IsExpected T N C q cs f → IsSettled (Some (settled_with blocks f ok left)) f ok
+is_settled :
+    (T : Bool) (N C : ℕ) (q : Queue) (cs : Calls) (blocks : List (List ℕ)) (f : Flight) (ok : Bool) (left : List ℕ) → length blocks ≡ N
+    → IsExpected T N C q cs f
+    → IsSettled (Some (settled_with blocks f ok left)) f ok
 is_settled T N C q cs blocks (Read c p) ok left len w = tt
 is_settled T N C q cs blocks (Write p bytes) true left len w = λ _. get_or-set_same blocks p.0 bytes [] (omega (arith, len, w.0))
 is_settled T N C q cs blocks (Write p bytes) false left len w = λ e. cc
 
-pub finish_agrees : (T : Bool) (A : List ℕ → List ℕ → Type 0) (N C : ℕ) (z : List ℕ) (H : History) (q : Queue) (blocks : List (List ℕ)) (fs : List Flight) (cs : Calls) (w : DiskWhich) (f : Flight) (ok : Bool) (left : List ℕ)
+pub finish_agrees : (T : Bool) (A : List ℕ → List ℕ → Type 0) (N C : ℕ) (z : List ℕ) (H : History) (q : Queue) (blocks : List (List ℕ)) (fs : List Flight)
+    (cs : Calls) (w : DiskWhich) (f : Flight) (ok : Bool) (left : List ℕ)
     → Agrees T A N C z H q (Some blocks) fs None cs → find (is_flight_of w) fs ≡ Some f
     → Agrees T A N C z H q (Some (settled_with blocks f ok left)) fs (Some (record { flight = f; ok = ok })) cs
 finish_agrees T A N C z H q blocks fs cs w f ok left k there_is =
@@ -592,7 +707,8 @@ finish_agrees T A N C z H q blocks fs cs w f ok left k there_is =
       expected = k.expected;
       distinct = k.distinct;
       writes = k.writes;
-      under_way = (subst (λ v. find (is_flight_of v) fs ≡ Some f) (found_is w fs f there_is) there_is, is_settled T N C q cs blocks f ok left k.blocks_len expected);
+      under_way =
+          (subst (λ v. find (is_flight_of v) fs ≡ Some f) (found_is w fs f there_is) there_is, is_settled T N C q cs blocks f ok left k.blocks_len expected);
       in_line = k.in_line;
       apart = k.apart;
       fair = k.fair;

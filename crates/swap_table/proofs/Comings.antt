@@ -27,7 +27,9 @@ Hands far may page (event.Crash l) = far l
 Hands far may page (event.Host l used word) = far l
 Hands far may page e = Unit {0}
 
-pub names_there : (s : Sizes) (n : ℕ) (far : Lender → Type 0) (may : List ℕ → Type 0) (d : Device) (page : List ℕ) (e : Event) → IsInRange s n e → Hands far may page e → Names (of_sizes s n far may) d page e
+pub names_there :
+    (s : Sizes) (n : ℕ) (far : Lender → Type 0) (may : List ℕ → Type 0) (d : Device) (page : List ℕ) (e : Event) → IsInRange s n e → Hands far may page e
+    → Names (of_sizes s n far may) d page e
 names_there s n far may d page (event.PageOut c p) range hands = (range.1, hands)
 names_there s n far may d page (event.PageIn c p) range hands = range
 names_there s n far may d page (event.Finish c) range hands = range
@@ -52,13 +54,17 @@ names_anything d page (event.Host l used word) = tt
 names_anything d page e = tt
 
 module _ {D F : Type 0} (disk_moves : D → (c : DiskCall) → DiskAnswer c → D → Type 0) (moves : F → (c : FabricCall) → FabricAnswer c → F → Type 0) where
-  pub happens_comes : (d : Device) (k : D) (f : F) (page : List ℕ) (e : Event) → Leads disk_moves moves (happens d page e) k f (λ a _ _. ComesTo d page e a.0 a.1)
+  pub happens_comes :
+      (d : Device) (k : D) (f : F) (page : List ℕ) (e : Event) → Leads disk_moves moves (happens d page e) k f (λ a _ _. ComesTo d page e a.0 a.1)
   happens_comes d k f page e =
       Leads-implies disk_moves moves (happens d page e) k f _ _ (λ a _ _ r. r.1.1)
-      (Goes-leads (Move anything) disk_moves moves (λ _ _ _. Unit {0}) (λ s asked t k k' f f' m went h. tt) (λ (a : Device × Seen) s. (s ≡ quiet a.0) × ComesTo d page e a.0 a.1) k f (happens_fares anything d page e (names_anything d page e)) tt)
+      (Goes-leads (Move anything) disk_moves moves (λ _ _ _. Unit {0}) (λ s asked t k k' f f' m went h. tt)
+      (λ (a : Device × Seen) s. (s ≡ quiet a.0) × ComesTo d page e a.0 a.1) k f (happens_fares anything d page e (names_anything d page e)) tt)
 
 -- what requests leave, and the loss of a link keeps, holds once a device's links were used
-pub linked_keep : (P : Device → Type 0) → ((e : Device) (r : Remote) (made : ℕ) → P e → P (record e { remote = r; links_made = made })) → ((e : Device) (l : Lender) → P e → P (lost e l)) → (d d' : Device) → Linked d d' → P d → P d'
+pub linked_keep :
+    (P : Device → Type 0) → ((e : Device) (r : Remote) (made : ℕ) → P e → P (record e { remote = r; links_made = made }))
+    → ((e : Device) (l : Lender) → P e → P (lost e l)) → (d d' : Device) → Linked d d' → P d → P d'
 linked_keep P same loses d d' as_was h = h
 linked_keep P same loses d d' (sent_on {e = e} linked r made) h = same e r made (linked_keep P same loses d e linked h)
 linked_keep P same loses d d' (let_go {e = e} linked l) h = loses e l (linked_keep P same loses d e linked h)

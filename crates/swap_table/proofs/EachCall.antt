@@ -47,10 +47,14 @@ there d = of_sizes d.sizes d.lenders anyone any
 
 module _ {D F : Type 0} (disk : DiskMeaning D) (follows : FollowsItsMoves disk) (fabric : FabricMeaning F) (laws : Promises fabric) where
   -- what goes by moves and leaves the device quiet keeps it
-  pub goes_keep : {R : Type 0} (T : Bool) (d : Device) (p : Prog (Device × R)) (k : D) (f : F) → Goes (Move (there d)) (λ (a : Device × R) s. s ≡ quiet a.0) (quiet d) p → AgreeWith disk fabric T d k f → AgreesAfter disk fabric T p d k f
+  pub goes_keep :
+      {R : Type 0} (T : Bool) (d : Device) (p : Prog (Device × R)) (k : D) (f : F) → Goes (Move (there d)) (λ (a : Device × R) s. s ≡ quiet a.0) (quiet d) p
+      → AgreeWith disk fabric T d k f → AgreesAfter disk fabric T p d k f
   goes_keep {R} T d p k f g h =
-      let first : Agrees (quiet d) k f × Accounted (quiet d) k f = (record { fits = record { disk = h.0.disk; serves = h.0.serves }; is = refl; of_f = h.1 }, h.0.accounts) in
-      Leads-implies disk.moves fabric.moves p k f _ _ then_kept (Goes-leads (Move (there d)) disk.moves fabric.moves (λ s k f. Agrees s k f × Accounted s k f) each (λ (a : Device × R) s. s ≡ quiet a.0) k f g first)
+      let first : Agrees (quiet d) k f × Accounted (quiet d) k f =
+      (record { fits = record { disk = h.0.disk; serves = h.0.serves }; is = refl; of_f = h.1 }, h.0.accounts) in
+      Leads-implies disk.moves fabric.moves p k f _ _ then_kept
+      (Goes-leads (Move (there d)) disk.moves fabric.moves (λ s k f. Agrees s k f × Accounted s k f) each (λ (a : Device × R) s. s ≡ quiet a.0) k f g first)
     where
       Agrees : Speaker → D → F → Type 0
       Agrees = keep.Agrees disk follows fabric laws T (of_device d) anyone any
@@ -59,18 +63,26 @@ module _ {D F : Type 0} (disk : DiskMeaning D) (follows : FollowsItsMoves disk) 
       Accounted s k f = accounting.AccountsOf disk follows fabric laws T (of_device d) anyone any s.device k
 
       each : EachKeeps disk.moves fabric.moves (Move (there d)) (λ s k f. Agrees s k f × Accounted s k f)
-      each = beside (Move (there d)) disk.moves fabric.moves Agrees Accounted (keep.each_keeps disk follows fabric laws T (of_device d) anyone any) (accounting.each_accounts disk follows fabric laws T (of_device d) anyone any)
+      each =
+          beside (Move (there d)) disk.moves fabric.moves Agrees Accounted (keep.each_keeps disk follows fabric laws T (of_device d) anyone any)
+          (accounting.each_accounts disk follows fabric laws T (of_device d) anyone any)
 
-      then_kept : (a : Device × R) (k : D) (f : F) → ((s : Speaker) × (s ≡ quiet a.0) × (Agrees s k f × Accounted s k f)) → AgreeWith disk fabric T a.0 k f × (of_device a.0 ≡ of_device d)
+      then_kept :
+          (a : Device × R) (k : D) (f : F) → ((s : Speaker) × (s ≡ quiet a.0) × (Agrees s k f × Accounted s k f))
+          → AgreeWith disk fabric T a.0 k f × (of_device a.0 ≡ of_device d)
       then_kept a k f (s, is, (agree, accounted)) =
           let now : Agrees (quiet a.0) k f = subst (λ x. Agrees x k f) is agree in
           let then : Accounted (quiet a.0) k f = subst (λ x. Accounted x k f) is accounted in
           ((record { disk = now.fits.disk; serves = now.fits.serves; accounts = then }, now.of_f ∙ sym now.is), now.is)
 
-  pub fares_keep : {R : Type 0} (T : Bool) (d : Device) (page : List ℕ) (e : Event) (see : R → Seen) (p : Prog (Device × R)) (k : D) (f : F) → walk.Fares (there d) d page e see d p → AgreeWith disk fabric T d k f → AgreesAfter disk fabric T p d k f
+  pub fares_keep :
+      {R : Type 0} (T : Bool) (d : Device) (page : List ℕ) (e : Event) (see : R → Seen) (p : Prog (Device × R)) (k : D) (f : F)
+      → walk.Fares (there d) d page e see d p → AgreeWith disk fabric T d k f → AgreesAfter disk fabric T p d k f
   fares_keep T d page e see p k f g h = goes_keep T d p k f (Goes-implies (Move (there d)) _ _ (λ a s q. q.0) g) h
 
-  fares_to_keep : {R : Type 0} (T : Bool) (d : Device) (page : List ℕ) (e : Event) (see : R → Seen) (p : Prog (Device × R)) (k : D) (f : F) → walk.FaresTo (there d) d page e see p → AgreeWith disk fabric T d k f → AgreesAfter disk fabric T p d k f
+  fares_to_keep :
+      {R : Type 0} (T : Bool) (d : Device) (page : List ℕ) (e : Event) (see : R → Seen) (p : Prog (Device × R)) (k : D) (f : F)
+      → walk.FaresTo (there d) d page e see p → AgreeWith disk fabric T d k f → AgreesAfter disk fabric T p d k f
   fares_to_keep T d page e see p k f g h = goes_keep T d p k f (Goes-implies (Move (there d)) _ _ (λ a s q. q.0) g) h
 
   pub each_call_keeps : EachCallKeeps disk fabric
@@ -92,8 +104,18 @@ module _ {D F : Type 0} (disk : DiskMeaning D) (follows : FollowsItsMoves disk) 
   }
 
   pub new_agrees : NewAgrees disk fabric
-  new_agrees s n k f blank is few = (record { disk = new_fits fabric.answers s n (disk.means k) blank; serves = new_serves (fabric.keeps f) (fabric.owes f) s n few; accounts = new_accounts fabric.answers s n (disk.means k).flights }, is)
+  new_agrees s n k f blank is few = (
+    record {
+      disk = new_fits fabric.answers s n (disk.means k) blank;
+      serves = new_serves (fabric.keeps f) (fabric.owes f) s n few;
+      accounts = new_accounts fabric.answers s n (disk.means k).flights;
+    },
+    is,
+  )
 
   -- an event
-  pub happens_kept : (T : Bool) (d : Device) (k : D) (f : F) (page : List ℕ) (e : Event) → AgreeWith disk fabric T d k f → IsInRange d.sizes d.lenders e → AgreesAfter disk fabric T (happens d page e) d k f
-  happens_kept T d k f page e h range = fares_to_keep T d page e _ _ k f (walk.happens_fares (there d) d page e (names_there d.sizes d.lenders anyone any d page e range (hands_any page e))) h
+  pub happens_kept :
+      (T : Bool) (d : Device) (k : D) (f : F) (page : List ℕ) (e : Event) → AgreeWith disk fabric T d k f → IsInRange d.sizes d.lenders e
+      → AgreesAfter disk fabric T (happens d page e) d k f
+  happens_kept T d k f page e h range =
+      fares_to_keep T d page e _ _ k f (walk.happens_fares (there d) d page e (names_there d.sizes d.lenders anyone any d page e range (hands_any page e))) h

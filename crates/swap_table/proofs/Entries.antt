@@ -41,7 +41,8 @@ last_out [] p e is = cc
 last_out (row ∷ H) p e is = go (is_out_of p row) refl is (last_out H p e)
   where
     go : (b : Bool) → is_out_of p row ≡ b → cond b (Some (next_name H)) (last H p) ≡ Some e → (last H p ≡ Some e → IsOut H p e) → IsOut (row ∷ H) p e
-    go true out is rest = let same : next_name H ≡ e = cc in subst (λ (x : EntryNo). IsOut (row ∷ H) p x) same (subst (λ o. IsOutIn p o) (sym (named_last H row)) out)
+    go true out is rest =
+        let same : next_name H ≡ e = cc in subst (λ (x : EntryNo). IsOut (row ∷ H) p x) same (subst (λ o. IsOutIn p o) (sym (named_last H row)) out)
     go false out is rest = (out_on H row p e (rest is)).0
 
 -- the last page-out of a page has its content
@@ -49,7 +50,9 @@ pub last_bytes : (z : List ℕ) (H : History) (p : Page) (e : EntryNo) → last 
 last_bytes z [] p e is = cc
 last_bytes z (row ∷ H) p e is = go (is_out_of p row) is (last_bytes z H p e)
   where
-    go : (b : Bool) → cond b (Some (next_name H)) (last H p) ≡ Some e → (last H p ≡ Some e → bytes_of H e ≡ array z H p) → bytes_of (row ∷ H) e ≡ cond b row.bytes (array z H p)
+    go :
+        (b : Bool) → cond b (Some (next_name H)) (last H p) ≡ Some e → (last H p ≡ Some e → bytes_of H e ≡ array z H p)
+        → bytes_of (row ∷ H) e ≡ cond b row.bytes (array z H p)
     go true is rest = let same : next_name H ≡ e = cc in subst (λ (x : EntryNo). bytes_of (row ∷ H) x ≡ row.bytes) same (ap bytes_in (named_last H row))
     go false is rest = ap bytes_in (named_on H row e (last_within H p e is)) ∙ rest is
 
@@ -63,7 +66,8 @@ none_later (row ∷ H) p e g is out = go (is_out_of p row) refl is (none_later H
     here false same out off = out
 
     go : (b : Bool) → is_out_of p row ≡ b → cond b (Some (next_name H)) (last H p) ≡ Some e → (last H p ≡ Some e → IsOut H p g → g.0 ≤ e.0) → g.0 ≤ e.0
-    go true eb is rest = let same : next_name H ≡ e = cc in let less = out_within (row ∷ H) p g out in subst (λ (x : EntryNo). g.0 ≤ x.0) same (omega (arith, less))
+    go true eb is rest =
+        let same : next_name H ≡ e = cc in let less = out_within (row ∷ H) p g out in subst (λ (x : EntryNo). g.0 ≤ x.0) same (omega (arith, less))
     go false eb is rest = rest is (here (length H == g.0) refl out (λ yes. both eb yes))
       where
         both : {b : Bool} → b ≡ false → b ≡ true → ⊥

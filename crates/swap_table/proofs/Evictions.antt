@@ -29,9 +29,11 @@ use Rattle.swap_table.proofs.Lendings.{KeepsButLease}
 use Rattle.swap_table.proofs.Returns.{IsAtRest, mapped_rests, drained_fits, drained_lease, drained_awaited, drained_elsewhere, drained_page}
 
 -- a mapped slab is taken back: its bits are cleared, and it drains
-pub evicted_serves : (keeps keeps' : Keeping) (owes owes' : Owing) (s : Sizes) (n : ℕ) (H : History) (cs : Calls) (r : Remote) (l : Lender) (t : Slab) (lease : Lease) (flying : ℕ)
+pub evicted_serves : (keeps keeps' : Keeping) (owes owes' : Owing) (s : Sizes) (n : ℕ) (H : History) (cs : Calls) (r : Remote) (l : Lender) (t : Slab)
+    (lease : Lease) (flying : ℕ)
     → Serves keeps owes s n H cs r → t.0 < s.slabs → slabs.state_of r.slabs t ≡ Mapped l lease flying → length (remote.evicted s r t).bits ≡ length r.bits
-    → ((q : Page) → q.0 < pages_of s → has_page (remote.evicted s r t) q ≡ cond (slab_of s q.0 == t.0) false (has_page r q)) → KeepsAll keeps keeps' → OwesAll owes owes' → Serves keeps' owes' s n H cs (remote.evicted s r t)
+    → ((q : Page) → q.0 < pages_of s → has_page (remote.evicted s r t) q ≡ cond (slab_of s q.0 == t.0) false (has_page r q)) → KeepsAll keeps keeps'
+    → OwesAll owes owes' → Serves keeps' owes' s n H cs (remote.evicted s r t)
 evicted_serves keeps keeps' owes owes' s n H cs r l t lease flying k within is bits_len bit kept owed =
     let slab_in : t.0 < length r.slabs = subst (λ m. t.0 < m) (sym k.slabs_len) within in
     let state : SlabState = slabs.after_evict (slabs.state_of r.slabs t) in
@@ -39,7 +41,9 @@ evicted_serves keeps keeps' owes owes' s n H cs r l t lease flying k within is b
     let states' : List SlabState = slabs.with_state r.slabs t state in
     let before : SlabFits s r.links t (Mapped l lease flying) = let P : SlabState → Type 0 = λ y. SlabFits s r.links t y in subst P is (k.slab t within) in
     let rests : IsAtRest (slabs.state_of r.slabs t) = mapped_rests l lease flying (slabs.state_of r.slabs t) is in
-    let away : (m : Lender) → (m.0 ≡ l.0 → ⊥) → IsLeasedFrom m (slabs.state_of r.slabs t) → ⊥ = λ m other h. let P : SlabState → Type 0 = λ y. IsLeasedFrom m y in let h' : IsLeasedFrom m (Mapped l lease flying) = subst P is h in other (sym h') in
+    let away : (m : Lender) → (m.0 ≡ l.0 → ⊥) → IsLeasedFrom m (slabs.state_of r.slabs t) → ⊥ = λ m other h. let P : SlabState
+    → Type 0 = λ y. IsLeasedFrom m y in
+    let h' : IsLeasedFrom m (Mapped l lease flying) = subst P is h in other (sym h') in
     let f : LinkFits owes s n H cs r.slabs l (link_of r.links l) = k.link l in
     record {
       slabs_len = length-set r.slabs t.0 state ∙ k.slabs_len;
@@ -47,11 +51,14 @@ evicted_serves keeps keeps' owes owes' s n H cs r l t lease flying k within is b
       links_len = k.links_len;
       few = k.few;
       calls_len = k.calls_len;
-      single = single_fewer r.slabs t state slab_in (λ m j h. ap (slabs.has_lease m j) is ∙ drained_lease l m lease j flying (sym (ap (slabs.has_lease m j) is_state) ∙ h)) k.single;
+      single =
+          single_fewer r.slabs t state slab_in
+          (λ m j h. ap (slabs.has_lease m j) is ∙ drained_lease l m lease j flying (sym (ap (slabs.has_lease m j) is_state) ∙ h)) k.single;
       slab =
           λ u u_in.
           by_slab (λ u. SlabFits s r.links u (slabs.state_of r.slabs u) → SlabFits s r.links u (slabs.state_of states' u)) t u
-          (λ _. let P : SlabState → Type 0 = λ y. SlabFits s r.links t y in subst P (sym (state-same r.slabs t state slab_in ∙ is_state)) (drained_fits s r.links l t lease flying before.0 before.1))
+          (λ _. let P : SlabState → Type 0 = λ y. SlabFits s r.links t y in
+          subst P (sym (state-same r.slabs t state slab_in ∙ is_state)) (drained_fits s r.links l t lease flying before.0 before.1))
           (λ other h. let P : SlabState → Type 0 = λ y. SlabFits s r.links u y in subst P (sym (state-other r.slabs t u state other)) h) (k.slab u u_in);
       link =
           λ m.
@@ -64,20 +71,28 @@ evicted_serves keeps keeps' owes owes' s n H cs r l t lease flying k within is b
             ordered = f.ordered;
             owed = λ up. let o = f.owed up in record { pages = o.pages; owed = owed l o.pages o.owed; reads = o.reads };
           })
-          (λ other. link_stays owes owes' s n H cs r.slabs states' m (link_of r.links m) (λ y h. drained_elsewhere s H cs r.slabs t state m y rests (away m other) h) (owed m) (k.link m));
+          (λ other.
+          link_stays owes owes' s n H cs r.slabs states' m (link_of r.links m) (λ y h. drained_elsewhere s H cs r.slabs t state m y rests (away m other) h)
+          (owed m) (k.link m));
       page =
           λ q q_in.
-          by_slab (λ u. (u.0 ≡ slab_of s q.0) → PageFits keeps s H r.links q (has_page r q) (slabs.state_of r.slabs u) → PageFits keeps' s H r.links q (has_page (remote.evicted s r t) q) (slabs.state_of states' u)) t (slab_for s q)
+          by_slab
+          (λ u. (u.0 ≡ slab_of s q.0) → PageFits keeps s H r.links q (has_page r q) (slabs.state_of r.slabs u)
+          → PageFits keeps' s H r.links q (has_page (remote.evicted s r t) q) (slabs.state_of states' u))
+          t
+          (slab_for s q)
           (λ same _.
           let clear : has_page (remote.evicted s r t) q ≡ false = bit q q_in ∙ ap (λ b. cond b false (has_page r q)) (eq-eqb (slab_of s q.0) t.0 (sym same)) in
           let Q : SlabState → Type 0 = λ y. PageFits keeps' s H r.links q (has_page (remote.evicted s r t) q) y in
-          subst Q (sym (state-same r.slabs t state slab_in ∙ is_state)) (drained_page keeps' s H r.links q (has_page (remote.evicted s r t) q) l lease flying clear))
+          subst Q (sym (state-same r.slabs t state slab_in ∙ is_state))
+          (drained_page keeps' s H r.links q (has_page (remote.evicted s r t) q) l lease flying clear))
           (λ other _ h.
           let stays : has_page (remote.evicted s r t) q ≡ has_page r q = bit q q_in ∙ ap (λ b. cond b false (has_page r q)) (ne (slab_of s q.0) t.0 other) in
           let Q : SlabState → Type 0 = λ y. PageFits keeps' s H r.links q (has_page (remote.evicted s r t) q) y in
           let R : Bool → Type 0 = λ b. PageFits keeps' s H r.links q b (state_for s r.slabs q) in
           subst Q (sym (state-other r.slabs t (slab_for s q) state other))
-          (subst R (sym stays) (page_stays keeps keeps' s H r.links r.links q (has_page r q) (state_for s r.slabs q) (λ m j has. (refl, kept m j (place_of s q.0))) h)))
+          (subst R (sym stays)
+          (page_stays keeps keeps' s H r.links r.links q (has_page r q) (state_for s r.slabs q) (λ m j has. (refl, kept m j (place_of s q.0))) h)))
           refl (k.page q q_in);
     }
   where
@@ -89,7 +104,10 @@ evicted_serves keeps keeps' owes owes' s n H cs r l t lease flying k within is b
         go false e = refl
 
 -- a lease is given back that no slab has
-pub given_serves : (keeps keeps' : Keeping) (owes owes' : Owing) (s : Sizes) (n : ℕ) (H : History) (cs : Calls) (r : Remote) (l : Lender) (lease : Lease) → slabs.by_lease r.slabs l lease ≡ None → KeepsButLease l lease keeps keeps' → OwesAll owes owes' → Serves keeps owes s n H cs r → Serves keeps' owes' s n H cs r
+pub given_serves :
+    (keeps keeps' : Keeping) (owes owes' : Owing) (s : Sizes) (n : ℕ) (H : History) (cs : Calls) (r : Remote) (l : Lender) (lease : Lease)
+    → slabs.by_lease r.slabs l lease ≡ None → KeepsButLease l lease keeps keeps' → OwesAll owes owes' → Serves keeps owes s n H cs r
+    → Serves keeps' owes' s n H cs r
 given_serves keeps keeps' owes owes' s n H cs r l lease free kept owed k = record {
   slabs_len = k.slabs_len;
   bits_len = k.bits_len;
@@ -102,14 +120,22 @@ given_serves keeps keeps' owes owes' s n H cs r l lease free kept owed k = recor
   page =
       λ q within.
       page_stays keeps keeps' s H r.links r.links q (has_page r q) (state_for s r.slabs q)
-      (λ m j has. (refl, λ bytes. kept m j (place_of s q.0) bytes (λ em ej. not_both (unleased r.slabs l lease (slab_for s q) free) (same_lease l m lease j (state_for s r.slabs q) em ej has)))) (k.page q within);
+      (λ m j has. (
+        refl,
+        λ bytes.
+            kept m j (place_of s q.0) bytes
+            (λ em ej. not_both (unleased r.slabs l lease (slab_for s q) free) (same_lease l m lease j (state_for s r.slabs q) em ej has)),
+      ))
+      (k.page q within);
 }
   where
     not_both : {b : Bool} → b ≡ false → b ≡ true → ⊥
     not_both a b = cc
 
 -- no slab has a lease that its only slab gave up
-pub given_free : (states : List SlabState) (t : Slab) (l : Lender) (lease : Lease) → AreSingle states → slabs.has_lease l lease (slabs.state_of states t) ≡ true → slabs.by_lease (slabs.with_state states t Local) l lease ≡ None
+pub given_free :
+    (states : List SlabState) (t : Slab) (l : Lender) (lease : Lease) → AreSingle states → slabs.has_lease l lease (slabs.state_of states t) ≡ true
+    → slabs.by_lease (slabs.with_state states t Local) l lease ≡ None
 given_free states t l lease single has = go (position (λ state. slabs.has_lease l lease state) (slabs.with_state states t Local)) refl
   where
     not_both : false ≡ true → ⊥
@@ -118,14 +144,20 @@ given_free states t l lease single has = go (position (λ state. slabs.has_lease
     within : t.0 < length states
     within = lease_in_range states l lease t has
 
-    go : (o : Option ℕ) → position (λ state. slabs.has_lease l lease state) (slabs.with_state states t Local) ≡ o → option_map {U = Slab} (λ (i : ℕ). record { 0 = i }) o ≡ None
+    go :
+        (o : Option ℕ) → position (λ state. slabs.has_lease l lease state) (slabs.with_state states t Local) ≡ o
+        → option_map {U = Slab} (λ (i : ℕ). record { 0 = i }) o ≡ None
     go None is = refl
     go (Some i) is =
-        let found : slabs.has_lease l lease (slabs.state_of (slabs.with_state states t Local) (record { 0 = i })) ≡ true = (position-Some (λ state. slabs.has_lease l lease state) (slabs.with_state states t Local) i Local is).1 in
+        let found : slabs.has_lease l lease (slabs.state_of (slabs.with_state states t Local) (record { 0 = i })) ≡ true =
+        (position-Some (λ state. slabs.has_lease l lease state) (slabs.with_state states t Local) i Local is).1 in
         absurd
         (by_slab (λ u. slabs.has_lease l lease (slabs.state_of (slabs.with_state states t Local) u) ≡ true → ⊥) t (record { 0 = i })
         (λ h. not_both (sym (ap (slabs.has_lease l lease) (state-same states t Local within)) ∙ h))
-        (λ other h. other (only_slab states l lease t (record { 0 = i }) single has (sym (ap (slabs.has_lease l lease) (state-other states t (record { 0 = i }) Local other)) ∙ h)))
+        (λ other h.
+        other
+        (only_slab states l lease t (record { 0 = i }) single has
+        (sym (ap (slabs.has_lease l lease) (state-other states t (record { 0 = i }) Local other)) ∙ h)))
         found)
 
 -- one that gave it up as its last request was answered, or as it was taken back
@@ -136,21 +168,28 @@ lease_is a b false e = cc
 own_lease : (l : Lender) (k : Lease) (m : Lender) (j : Lease) → m.0 ≡ l.0 → j ≡ k → ((m.0 == l.0) && (j.0 == k.0)) ≡ true
 own_lease l k m j em ej = ap (λ b. b && (j.0 == k.0)) (eq-eqb m.0 l.0 em) ∙ eq-eqb j.0 k.0 (ap (λ (x : Lease). x.0) ej)
 
-pub settled_free : (states : List SlabState) (t : Slab) (l : Lender) (lease : Lease) → AreSingle states → IsLeasedFrom l (slabs.state_of states t) → slabs.settled_lease (slabs.state_of states t) ≡ Some lease → slabs.by_lease (slabs.settled states t) l lease ≡ None
+pub settled_free :
+    (states : List SlabState) (t : Slab) (l : Lender) (lease : Lease) → AreSingle states → IsLeasedFrom l (slabs.state_of states t)
+    → slabs.settled_lease (slabs.state_of states t) ≡ Some lease → slabs.by_lease (slabs.settled states t) l lease ≡ None
 settled_free states t l lease single at gives = go (slabs.state_of states t) refl at gives
   where
-    go : (state : SlabState) → slabs.state_of states t ≡ state → IsLeasedFrom l state → slabs.settled_lease state ≡ Some lease → slabs.by_lease (slabs.with_state states t (slabs.after_settled (slabs.state_of states t))) l lease ≡ None
+    go :
+        (state : SlabState) → slabs.state_of states t ≡ state → IsLeasedFrom l state → slabs.settled_lease state ≡ Some lease
+        → slabs.by_lease (slabs.with_state states t (slabs.after_settled (slabs.state_of states t))) l lease ≡ None
     go Local is at gives = absurd at
     go (Asking pair) is at gives = absurd at
     go (Borrowing m) is at gives = absurd at
     go (Mapped m k flying) is at gives = cc
     go (Draining m k flying) is at gives =
         let given = lease_is k lease ((flying - 1) == 0) gives in
-        let home : slabs.after_settled (slabs.state_of states t) ≡ Local = ap slabs.after_settled is ∙ ap (λ b. cond b Local (Draining m k (flying - 1))) given.0 in
+        let home : slabs.after_settled (slabs.state_of states t) ≡ Local =
+        ap slabs.after_settled is ∙ ap (λ b. cond b Local (Draining m k (flying - 1))) given.0 in
         let P : SlabState → Type 0 = λ y. slabs.by_lease (slabs.with_state states t y) l lease ≡ None in
         subst P (sym home) (given_free states t l lease single (ap (slabs.has_lease l lease) is ∙ own_lease l lease m k at given.1))
 
-pub evicted_free : (states : List SlabState) (t : Slab) (l : Lender) (k lease : Lease) (flying : ℕ) → AreSingle states → slabs.state_of states t ≡ Mapped l k flying → slabs.evicted_lease (slabs.state_of states t) ≡ Some lease → slabs.by_lease (slabs.evicted states t) l lease ≡ None
+pub evicted_free :
+    (states : List SlabState) (t : Slab) (l : Lender) (k lease : Lease) (flying : ℕ) → AreSingle states → slabs.state_of states t ≡ Mapped l k flying
+    → slabs.evicted_lease (slabs.state_of states t) ≡ Some lease → slabs.by_lease (slabs.evicted states t) l lease ≡ None
 evicted_free states t l k lease flying single is gives =
     let given = lease_is k lease (flying == 0) (sym (ap slabs.evicted_lease is) ∙ gives) in
     let home : slabs.after_evict (slabs.state_of states t) ≡ Local = ap slabs.after_evict is ∙ ap (λ b. cond b Local (Draining l k flying)) given.0 in
@@ -174,7 +213,9 @@ mapped_by_is states l k t found = by_place (position (λ state. slabs.has_lease 
     both_of true b e = (refl, e)
     both_of false b e = cc
 
-    of_state : (state : SlabState) → slabs.state_of states t ≡ state → slabs.has_lease l k state ≡ true → slabs.is_mapped state ≡ true → t.0 < length states → MappedBy states l k t
+    of_state :
+        (state : SlabState) → slabs.state_of states t ≡ state → slabs.has_lease l k state ≡ true → slabs.is_mapped state ≡ true → t.0 < length states
+        → MappedBy states l k t
     of_state Local is has maps within = cc
     of_state (Asking pair) is has maps within = cc
     of_state (Borrowing m) is has maps within = cc
@@ -184,22 +225,28 @@ mapped_by_is states l k t found = by_place (position (λ state. slabs.has_lease 
         record {
           flying = flying;
           within = within;
-          is = is ∙ ap (λ n. Mapped (record { 0 = n }) j flying) (eqb-true m.0 l.0 same.0) ∙ ap (λ n. Mapped l (record { 0 = n }) flying) (eqb-true j.0 k.0 same.1);
+          is =
+              is ∙ ap (λ n. Mapped (record { 0 = n }) j flying) (eqb-true m.0 l.0 same.0)
+              ∙ ap (λ n. Mapped l (record { 0 = n }) flying) (eqb-true j.0 k.0 same.1);
         }
 
-    by_place : (o : Option ℕ) → position (λ state. slabs.has_lease l k state) states ≡ o → remote.only_mapped states (option_map {U = Slab} (λ (i : ℕ). record { 0 = i }) o) ≡ Some t → MappedBy states l k t
+    by_place :
+        (o : Option ℕ) → position (λ state. slabs.has_lease l k state) states ≡ o
+        → remote.only_mapped states (option_map {U = Slab} (λ (i : ℕ). record { 0 = i }) o) ≡ Some t → MappedBy states l k t
     by_place None at found = cc
     by_place (Some i) at found =
         let there = position-Some (λ state. slabs.has_lease l k state) states i Local at in
         let u : Slab = record { 0 = i } in
         let same = slab_is u (slabs.is_mapped (slabs.state_of states u)) found in
-        let P : Slab → Type 0 = λ x. (slabs.has_lease l k (slabs.state_of states x) ≡ true) × (slabs.is_mapped (slabs.state_of states x) ≡ true) × (x.0 < length states) in
+        let P : Slab
+        → Type 0 = λ x. (slabs.has_lease l k (slabs.state_of states x) ≡ true) × (slabs.is_mapped (slabs.state_of states x) ≡ true) × (x.0 < length states) in
         let facts : P t = subst P same.1 (there.1, same.0, there.0) in
         of_state (slabs.state_of states t) refl facts.0 facts.1 facts.2
 
 -- a slab that asks is one of the slabs
 pub asks_within : (states : List SlabState) (l : Lender) (t : Slab) → slabs.asks l (slabs.state_of states t) ≡ true → t.0 < length states
-asks_within states l t asks = ⊎_elim (λ lt. lt) (λ ge. absurd (not_both (sym (ap (slabs.asks l) (get_or_past states t.0 Local ge)) ∙ asks))) (cases_lt t.0 (length states))
+asks_within states l t asks =
+    ⊎_elim (λ lt. lt) (λ ge. absurd (not_both (sym (ap (slabs.asks l) (get_or_past states t.0 Local ge)) ∙ asks))) (cases_lt t.0 (length states))
   where
     not_both : false ≡ true → ⊥
     not_both e = cc

@@ -47,7 +47,10 @@ abbrev pub is_waiting : Arrived → Bool
 is_waiting arrived.Waiting = true
 is_waiting _ = false
 
-not_waiting : (p : Page) (n : EntryNo) (v : Via) (how : Arrived) (newer : Bool) (since : ℕ) (r : Page) → is_waiting how ≡ false → WaitsFor r (Reading p n v how newer since) → ⊥
+not_waiting :
+    (p : Page) (n : EntryNo) (v : Via) (how : Arrived) (newer : Bool) (since : ℕ) (r : Page) → is_waiting how ≡ false
+    → WaitsFor r (Reading p n v how newer since)
+    → ⊥
 not_waiting p n via.Disk arrived.Waiting newer since r e w = cc
 not_waiting p n via.Disk arrived.Came newer since r e w = w
 not_waiting p n via.Disk arrived.Failed newer since r e w = w
@@ -55,20 +58,26 @@ not_waiting p n via.Disk arrived.Lost newer since r e w = w
 not_waiting p n (via.Lender l) how newer since r e w = w
 
 -- the moves
-pub enter_fits : (T : Bool) (A : List ℕ → List ℕ → Type 0) (d : Device) (p : Port) (c : Caller) (page : Page) (bytes : List ℕ) → FitsDisk T A d p → IdleFor d.calls c → page.0 < pages_of d.sizes → FitsDisk T A (enter d c page bytes) p
+pub enter_fits :
+    (T : Bool) (A : List ℕ → List ℕ → Type 0) (d : Device) (p : Port) (c : Caller) (page : Page) (bytes : List ℕ) → FitsDisk T A d p → IdleFor d.calls c
+    → page.0 < pages_of d.sizes → FitsDisk T A (enter d c page bytes) p
 enter_fits T A d p c page bytes k idles within = record {
   sizes = k.sizes;
   in_order = enter_keeps d c page bytes k.in_order;
   agrees = enter_agrees T A _ _ (zeros d.sizes) d.history d.queue p.blocks p.flights p.finished d.calls c page bytes k.agrees within idles;
 }
 
-pub give_fits : (T : Bool) (A : List ℕ → List ℕ → Type 0) (d : Device) (p : Port) (c : Caller) (page : Page) (named : Option EntryNo) (from : Origin) (bytes : List ℕ)
-    → FitsDisk T A d p → IdleFor d.calls c → named ≡ last d.history page → is_zero from ≡ is_none named → MayGive T A from (array (zeros d.sizes) d.history page) bytes
+pub give_fits : (T : Bool) (A : List ℕ → List ℕ → Type 0) (d : Device) (p : Port) (c : Caller) (page : Page) (named : Option EntryNo) (from : Origin)
+    (bytes : List ℕ)
+    → FitsDisk T A d p → IdleFor d.calls c → named ≡ last d.history page → is_zero from ≡ is_none named
+    → MayGive T A from (array (zeros d.sizes) d.history page) bytes
     → FitsDisk T A (give d c page named from bytes) p
 give_fits T A d p c page named from bytes k idles is_last is_from gives = record {
   sizes = k.sizes;
   in_order = give_keeps d c page named from bytes k.in_order is_last is_from;
-  agrees = row_agrees T A _ _ (zeros d.sizes) d.history _ d.queue p.blocks p.flights p.finished (calls.ended d.calls c) (call_agrees T A _ _ (zeros d.sizes) d.history d.queue p.blocks p.flights p.finished d.calls c idle k.agrees idles tt) (λ r. refl) gives;
+  agrees =
+      row_agrees T A _ _ (zeros d.sizes) d.history _ d.queue p.blocks p.flights p.finished (calls.ended d.calls c)
+      (call_agrees T A _ _ (zeros d.sizes) d.history d.queue p.blocks p.flights p.finished d.calls c idle k.agrees idles tt) (λ r. refl) gives;
 }
 
 pub fault_fits : (T : Bool) (A : List ℕ → List ℕ → Type 0) (d : Device) (p : Port) (c : Caller) (page : Page) (kind : CallKind) (since at : ℕ) (bytes : List ℕ)
@@ -76,10 +85,14 @@ pub fault_fits : (T : Bool) (A : List ℕ → List ℕ → Type 0) (d : Device) 
 fault_fits T A d p c page kind since at bytes k idles later = record {
   sizes = k.sizes;
   in_order = fault_keeps d c page kind since at bytes k.in_order later;
-  agrees = row_agrees T A _ _ (zeros d.sizes) d.history _ d.queue p.blocks p.flights p.finished (calls.ended d.calls c) (call_agrees T A _ _ (zeros d.sizes) d.history d.queue p.blocks p.flights p.finished d.calls c idle k.agrees idles tt) (λ r. refl) tt;
+  agrees =
+      row_agrees T A _ _ (zeros d.sizes) d.history _ d.queue p.blocks p.flights p.finished (calls.ended d.calls c)
+      (call_agrees T A _ _ (zeros d.sizes) d.history d.queue p.blocks p.flights p.finished d.calls c idle k.agrees idles tt) (λ r. refl) tt;
 }
 
-pub room_wait_fits : (T : Bool) (A : List ℕ → List ℕ → Type 0) (d : Device) (p : Port) (c : Caller) (page : Page) (bytes : List ℕ) → FitsDisk T A d p → IdleFor d.calls c → page.0 < pages_of d.sizes → FitsDisk T A (wait_for_room d c page bytes) p
+pub room_wait_fits :
+    (T : Bool) (A : List ℕ → List ℕ → Type 0) (d : Device) (p : Port) (c : Caller) (page : Page) (bytes : List ℕ) → FitsDisk T A d p → IdleFor d.calls c
+    → page.0 < pages_of d.sizes → FitsDisk T A (wait_for_room d c page bytes) p
 room_wait_fits T A d p c page bytes k idles within = record {
   sizes = k.sizes;
   in_order = room_wait_keeps d c page bytes k.in_order;
@@ -92,47 +105,71 @@ pub disk_wait_fits : (T : Bool) (A : List ℕ → List ℕ → Type 0) (d : Devi
 disk_wait_fits T A d p c page n k idles caller_in within is_last none = record {
   sizes = k.sizes;
   in_order = disk_wait_keeps d c page n k.in_order is_last;
-  agrees = read_agrees T A _ _ (zeros d.sizes) d.history d.queue p.blocks p.flights p.finished d.calls c page n d.failed_reads k.agrees idles caller_in within none;
+  agrees =
+      read_agrees T A _ _ (zeros d.sizes) d.history d.queue p.blocks p.flights p.finished d.calls c page n d.failed_reads k.agrees idles caller_in within none;
 }
 
-pub start_fits : (T : Bool) (A : List ℕ → List ℕ → Type 0) (d : Device) (p : Port) (page : Page) (line : List Page) (copy : Copy) → FitsDisk T A d p → d.queue.line ≡ page ∷ line → next d.queue page ≡ Some copy
+pub start_fits :
+    (T : Bool) (A : List ℕ → List ℕ → Type 0) (d : Device) (p : Port) (page : Page) (line : List Page) (copy : Copy) → FitsDisk T A d p
+    → d.queue.line ≡ page ∷ line → next d.queue page ≡ Some copy
     → FitsDisk T A (record d { queue = queue.start d.queue }) (started p (Write page (kept_by p.blocks copy.bytes)))
 start_fits T A d p page line copy k is_line is_next =
-    let P : Queue → Type 0 = λ q. Agrees T A (pages_of d.sizes) d.sizes.callers (zeros d.sizes) d.history q p.blocks (p.flights ++ Write page (kept_by p.blocks copy.bytes) ∷ []) p.finished d.calls in
+    let P : Queue
+    → Type 0 =
+    λ q.
+    Agrees T A (pages_of d.sizes) d.sizes.callers (zeros d.sizes) d.history q p.blocks
+    (p.flights ++ Write page (kept_by p.blocks copy.bytes) ∷ []) p.finished d.calls in
     record {
       sizes = k.sizes;
       in_order = record { ordered = k.in_order.ordered; calls = k.in_order.calls };
-      agrees = subst P (sym (ap (queue.start_of d.queue) is_line)) (start_agrees T A _ _ (zeros d.sizes) d.history d.queue p.blocks p.flights p.finished d.calls page line copy k.agrees is_line is_next);
+      agrees =
+          subst P (sym (ap (queue.start_of d.queue) is_line))
+          (start_agrees T A _ _ (zeros d.sizes) d.history d.queue p.blocks p.flights p.finished d.calls page line copy k.agrees is_line is_next);
     }
 
 -- what the disk gave back
-after_ok : (T : Bool) (bl : Option (List (List ℕ))) (page : Page) (a f : Option Copy) (copy : Copy) (bytes content : List ℕ) → is_some bl ≡ T → f ≡ Some copy → (T ≡ true → copy.bytes ≡ bytes) → IsBlock (block_in bl page) bytes
-    → MatchOption (first_of a f) (IsBlock (block_in bl page) content) (λ (x : Copy). x.bytes ≡ content) → HoldsPage (record { flying = None; next = a }) (block_in bl page) content
+after_ok :
+    (T : Bool) (bl : Option (List (List ℕ))) (page : Page) (a f : Option Copy) (copy : Copy) (bytes content : List ℕ) → is_some bl ≡ T → f ≡ Some copy
+    → (T ≡ true → copy.bytes ≡ bytes) → IsBlock (block_in bl page) bytes
+    → MatchOption (first_of a f) (IsBlock (block_in bl page) content) (λ (x : Copy). x.bytes ≡ content)
+    → HoldsPage (record { flying = None; next = a }) (block_in bl page) content
 after_ok T bl page (Some x) f copy bytes content tells e same settled h = h
 after_ok T bl page None None copy bytes content tells e same settled h = cc
 after_ok T None page None (Some x) copy bytes content tells e same settled h = tt
 after_ok T (Some blocks) page None (Some x) copy bytes content tells e same settled h =
     let is : x ≡ copy = cc in settled ∙ sym (same (sym tells)) ∙ sym (ap (λ (y : Copy). y.bytes) is) ∙ h
 
-after_bad : (bl : Option (List ℕ)) (a f : Option Copy) (copy : Copy) (content : List ℕ) → f ≡ Some copy → MatchOption (first_of a f) (IsBlock bl content) (λ (x : Copy). x.bytes ≡ content) → HoldsPage (record { flying = None; next = first_of a f }) bl content
+after_bad :
+    (bl : Option (List ℕ)) (a f : Option Copy) (copy : Copy) (content : List ℕ) → f ≡ Some copy
+    → MatchOption (first_of a f) (IsBlock bl content) (λ (x : Copy). x.bytes ≡ content) → HoldsPage (record { flying = None; next = first_of a f }) bl content
 after_bad bl (Some x) f copy content e h = h
 after_bad bl None None copy content e h = cc
 after_bad bl None (Some x) copy content e h = h
 
-wrote_back : (T : Bool) (A : List ℕ → List ℕ → Type 0) (d : Device) (p now : Port) (page : Page) (bytes : List ℕ) (ok : Bool) (copy : Option Copy) → AgreesAt T A d p → now.blocks ≡ p.blocks → now.flights ≡ without (which.Write page) p.flights → now.finished ≡ None
-    → find (is_flight_of (which.Write page)) p.flights ≡ Some (Write page bytes) → (ok ≡ true → IsBlock (block_in p.blocks page) bytes) → flying d.queue page ≡ copy
+wrote_back :
+    (T : Bool) (A : List ℕ → List ℕ → Type 0) (d : Device) (p now : Port) (page : Page) (bytes : List ℕ) (ok : Bool) (copy : Option Copy) → AgreesAt T A d p
+    → now.blocks ≡ p.blocks → now.flights ≡ without (which.Write page) p.flights → now.finished ≡ None
+    → find (is_flight_of (which.Write page)) p.flights ≡ Some (Write page bytes) → (ok ≡ true → IsBlock (block_in p.blocks page) bytes)
+    → flying d.queue page ≡ copy
     → AgreesAt T A (wrote d page copy ok).0 now
 wrote_back T A d p now page bytes ok None h eb ef en there settled e =
-    let w : IsExpected T (pages_of d.sizes) d.sizes.callers d.queue d.calls (Write page bytes) = found (IsExpected T (pages_of d.sizes) d.sizes.callers d.queue d.calls) (which.Write page) p.flights (Write page bytes) there h.expected in
+    let w : IsExpected T (pages_of d.sizes) d.sizes.callers d.queue d.calls (Write page bytes) =
+    found (IsExpected T (pages_of d.sizes) d.sizes.callers d.queue d.calls) (which.Write page) p.flights (Write page bytes) there h.expected in
     absurd (let P : Option Copy → Type 0 = λ o. IsCopyOf T bytes o in subst P e w.1)
 wrote_back T A d p now page bytes true (Some copy) h eb ef en there settled e =
-    let w : IsExpected T (pages_of d.sizes) d.sizes.callers d.queue d.calls (Write page bytes) = found (IsExpected T (pages_of d.sizes) d.sizes.callers d.queue d.calls) (which.Write page) p.flights (Write page bytes) there h.expected in
+    let w : IsExpected T (pages_of d.sizes) d.sizes.callers d.queue d.calls (Write page bytes) =
+    found (IsExpected T (pages_of d.sizes) d.sizes.callers d.queue d.calls) (which.Write page) p.flights (Write page bytes) there h.expected in
     let of_copy : IsCopyOf T bytes (Some copy) = let P : Option Copy → Type 0 = λ o. IsCopyOf T bytes o in subst P e w.1 in
-    rw (eb, ef, en) (wrote_agrees T A _ _ (zeros d.sizes) d.history d.queue p.blocks p.flights p.finished d.calls page bytes (next d.queue page) (is_some (next d.queue page)) h there (λ x. x)
+    rw (eb, ef, en)
+    (wrote_agrees T A _ _ (zeros d.sizes) d.history d.queue p.blocks p.flights p.finished d.calls page bytes (next d.queue page)
+    (is_some (next d.queue page)) h there (λ x. x)
     (after_ok T p.blocks page (next d.queue page) (flying d.queue page) copy bytes _ h.tells e of_copy (settled refl) (h.held page w.0)))
 wrote_back T A d p now page bytes false (Some copy) h eb ef en there settled e =
-    let w : IsExpected T (pages_of d.sizes) d.sizes.callers d.queue d.calls (Write page bytes) = found (IsExpected T (pages_of d.sizes) d.sizes.callers d.queue d.calls) (which.Write page) p.flights (Write page bytes) there h.expected in
-    rw (eb, ef, en) (wrote_agrees T A _ _ (zeros d.sizes) d.history d.queue p.blocks p.flights p.finished d.calls page bytes (newest d.queue page) true h there (λ _. some_first (next d.queue page) (flying d.queue page) (copy_flies T bytes (flying d.queue page) w.1))
+    let w : IsExpected T (pages_of d.sizes) d.sizes.callers d.queue d.calls (Write page bytes) =
+    found (IsExpected T (pages_of d.sizes) d.sizes.callers d.queue d.calls) (which.Write page) p.flights (Write page bytes) there h.expected in
+    rw (eb, ef, en)
+    (wrote_agrees T A _ _ (zeros d.sizes) d.history d.queue p.blocks p.flights p.finished d.calls page bytes (newest d.queue page) true h there
+    (λ _. some_first (next d.queue page) (flying d.queue page) (copy_flies T bytes (flying d.queue page) w.1))
     (after_bad (block_in p.blocks page) (next d.queue page) (flying d.queue page) copy _ e (h.held page w.0)))
 
 not_finished : (f : Finished) (o : Option Finished) → o ≡ None → o ≡ Some f → ⊥
@@ -140,7 +177,9 @@ not_finished f None e h = cc
 not_finished f (Some g) e h = cc
 
 -- where blocks are told, the block of a write that came back ok holds its bytes
-is_settled : (bl : Option (List (List ℕ))) (fs : List Flight) (fin : Option Finished) (page : Page) (bytes given : List ℕ) (ok : Bool) → IsUnderWay bl fs fin → TakesTold bl fin (Write page bytes) ok given → ok ≡ true → IsBlock (block_in bl page) bytes
+is_settled :
+    (bl : Option (List (List ℕ))) (fs : List Flight) (fin : Option Finished) (page : Page) (bytes given : List ℕ) (ok : Bool) → IsUnderWay bl fs fin
+    → TakesTold bl fin (Write page bytes) ok given → ok ≡ true → IsBlock (block_in bl page) bytes
 is_settled None fs fin page bytes given ok u told is_ok = tt
 is_settled (Some blocks) fs None page bytes given ok u told is_ok = absurd (not_finished _ None refl told.0)
 is_settled (Some blocks) fs (Some f) page bytes given ok u told is_ok =
@@ -150,18 +189,29 @@ is_settled (Some blocks) fs (Some f) page bytes given ok u told is_ok =
     let settled : IsSettled (Some blocks) (Write page bytes) ok = subst P same u.1 in settled is_ok
 
 -- a read that came back ok gives its page's block, where blocks are told
-is_brought : (bl : Option (List (List ℕ))) (fin : Option Finished) (c : Caller) (page : Page) (bytes : List ℕ) → TakesTold bl fin (Read c page) true bytes → IsBrought bl page bytes arrived.Came
+is_brought :
+    (bl : Option (List (List ℕ))) (fin : Option Finished) (c : Caller) (page : Page) (bytes : List ℕ) → TakesTold bl fin (Read c page) true bytes
+    → IsBrought bl page bytes arrived.Came
 is_brought None fin c page bytes told = tt
 is_brought (Some blocks) fin c page bytes told = sym told.1
 
-took_agrees : (T : Bool) (A : List ℕ → List ℕ → Type 0) (d : Device) (p now : Port) (flight : Flight) (ok : Bool) (bytes : List ℕ) → AgreesAt T A d p → now.blocks ≡ p.blocks → now.flights ≡ without (which_of flight) p.flights → now.finished ≡ None
-    → find (is_flight_of (which_of flight)) p.flights ≡ Some flight → TakesTold p.blocks p.finished flight ok bytes → AgreesAt T A (took d (which_of flight) (page_of flight) ok bytes).0 now
+took_agrees :
+    (T : Bool) (A : List ℕ → List ℕ → Type 0) (d : Device) (p now : Port) (flight : Flight) (ok : Bool) (bytes : List ℕ) → AgreesAt T A d p
+    → now.blocks ≡ p.blocks → now.flights ≡ without (which_of flight) p.flights → now.finished ≡ None
+    → find (is_flight_of (which_of flight)) p.flights ≡ Some flight → TakesTold p.blocks p.finished flight ok bytes
+    → AgreesAt T A (took d (which_of flight) (page_of flight) ok bytes).0 now
 took_agrees T A d p now (Write page written) ok bytes h eb ef en there told =
-    wrote_back T A d p now page written ok (flying d.queue page) h eb ef en there (is_settled p.blocks p.flights p.finished page written bytes ok h.under_way told) refl
+    wrote_back T A d p now page written ok (flying d.queue page) h eb ef en there
+    (is_settled p.blocks p.flights p.finished page written bytes ok h.under_way told) refl
 took_agrees T A d p now (Read c page) true bytes h eb ef en there told =
-    rw (eb, ef, en) (read_back_agrees T A _ _ (zeros d.sizes) d.history d.queue p.blocks p.flights p.finished d.calls c page bytes arrived.Came h (found (IsExpected T (pages_of d.sizes) d.sizes.callers d.queue d.calls) (which.Read c) p.flights (Read c page) there h.expected) (is_brought p.blocks p.finished c page bytes told))
+    rw (eb, ef, en)
+    (read_back_agrees T A _ _ (zeros d.sizes) d.history d.queue p.blocks p.flights p.finished d.calls c page bytes arrived.Came h
+    (found (IsExpected T (pages_of d.sizes) d.sizes.callers d.queue d.calls) (which.Read c) p.flights (Read c page) there h.expected)
+    (is_brought p.blocks p.finished c page bytes told))
 took_agrees T A d p now (Read c page) false bytes h eb ef en there told =
-    rw (eb, ef, en) (read_back_agrees T A _ _ (zeros d.sizes) d.history d.queue p.blocks p.flights p.finished d.calls c page [] arrived.Failed h (found (IsExpected T (pages_of d.sizes) d.sizes.callers d.queue d.calls) (which.Read c) p.flights (Read c page) there h.expected) tt)
+    rw (eb, ef, en)
+    (read_back_agrees T A _ _ (zeros d.sizes) d.history d.queue p.blocks p.flights p.finished d.calls c page [] arrived.Failed h
+    (found (IsExpected T (pages_of d.sizes) d.sizes.callers d.queue d.calls) (which.Read c) p.flights (Read c page) there h.expected) tt)
 
 wrote_of : (d : Device) (page : Page) (copy : Option Copy) (ok : Bool) → of_device (wrote d page copy ok).0 ≡ of_device d
 wrote_of d page None ok = refl
@@ -177,7 +227,9 @@ pub took_back_of : (d : Device) (taken : Option Taken) → of_device (took_back 
 took_back_of d None = refl
 took_back_of d (Some t) = took_of d t.done.which t.done.page t.done.ok t.bytes
 
-pub took_back_fits : (T : Bool) (A : List ℕ → List ℕ → Type 0) (d : Device) (p now : Port) (taken : Option Taken) → FitsDisk T A d p → now.sizes ≡ p.sizes → Takes p taken now → FitsDisk T A (took_back d taken).0 now
+pub took_back_fits :
+    (T : Bool) (A : List ℕ → List ℕ → Type 0) (d : Device) (p now : Port) (taken : Option Taken) → FitsDisk T A d p → now.sizes ≡ p.sizes → Takes p taken now
+    → FitsDisk T A (took_back d taken).0 now
 took_back_fits T A d p now None k es takes = record {
   sizes = es ∙ k.sizes;
   in_order = k.in_order;
@@ -189,7 +241,8 @@ took_back_fits T A d p now (Some t) k es takes =
     let is_page : t.done.page ≡ page_of f = ap (λ (x : DiskDone). x.page) takes.is in
     let there : find (is_flight_of (which_of f)) p.flights ≡ Some f = subst (λ w. find (is_flight_of w) p.flights ≡ Some f) is_which takes.was in
     let left : now.flights ≡ without (which_of f) p.flights = takes.flights ∙ ap (λ w. without w p.flights) is_which in
-    let agrees : AgreesAt T A (took d (which_of f) (page_of f) t.done.ok t.bytes).0 now = took_agrees T A d p now f t.done.ok t.bytes k.agrees takes.blocks left takes.finished there takes.told in
+    let agrees : AgreesAt T A (took d (which_of f) (page_of f) t.done.ok t.bytes).0 now =
+    took_agrees T A d p now f t.done.ok t.bytes k.agrees takes.blocks left takes.finished there takes.told in
     let P : DiskWhich → Type 0 = λ w. AgreesAt T A (took d w t.done.page t.done.ok t.bytes).0 now in
     let Q : Page → Type 0 = λ r. AgreesAt T A (took d (which_of f) r t.done.ok t.bytes).0 now in
     record {
@@ -199,17 +252,27 @@ took_back_fits T A d p now (Some t) k es takes =
     }
 
 -- an operation of a disk in memory finishes, or nothing does
-lets_finish_by : (T : Bool) (A : List ℕ → List ℕ → Type 0) (d : Device) (p now : Port) (w : DiskWhich) (ok answer : Bool) (bl : Option (List (List ℕ))) (fin : Option Finished) (flight : Option Flight)
-    → FitsDisk T A d p → p.blocks ≡ bl → p.finished ≡ fin → find (is_flight_of w) p.flights ≡ flight → LetsFinish p bl fin flight ok answer now → FitsDisk T A d now
+lets_finish_by : (T : Bool) (A : List ℕ → List ℕ → Type 0) (d : Device) (p now : Port) (w : DiskWhich) (ok answer : Bool) (bl : Option (List (List ℕ)))
+    (fin : Option Finished) (flight : Option Flight)
+    → FitsDisk T A d p → p.blocks ≡ bl → p.finished ≡ fin → find (is_flight_of w) p.flights ≡ flight → LetsFinish p bl fin flight ok answer now
+    → FitsDisk T A d now
 lets_finish_by T A d p now w ok answer None fin flight k eb ef el h = subst (λ x. FitsDisk T A d x) (sym h.1) k
 lets_finish_by T A d p now w ok answer (Some blocks) (Some f) flight k eb ef el h = subst (λ x. FitsDisk T A d x) (sym h.1) k
 lets_finish_by T A d p now w ok answer (Some blocks) None None k eb ef el h = subst (λ x. FitsDisk T A d x) (sym h.1) k
 lets_finish_by T A d p now w ok answer (Some blocks) None (Some f) k eb ef el h =
     let before : Agrees T A (pages_of d.sizes) d.sizes.callers (zeros d.sizes) d.history d.queue (Some blocks) p.flights None d.calls =
-    let P : Option (List (List ℕ)) → Type 0 = λ b. Agrees T A (pages_of d.sizes) d.sizes.callers (zeros d.sizes) d.history d.queue b p.flights p.finished d.calls in
-    let Q : Option Finished → Type 0 = λ g. Agrees T A (pages_of d.sizes) d.sizes.callers (zeros d.sizes) d.history d.queue (Some blocks) p.flights g d.calls in subst Q ef (subst P eb k.agrees) in
+    let P : Option (List (List ℕ))
+    → Type 0 = λ b. Agrees T A (pages_of d.sizes) d.sizes.callers (zeros d.sizes) d.history d.queue b p.flights p.finished d.calls in
+    let Q : Option Finished → Type 0 = λ g. Agrees T A (pages_of d.sizes) d.sizes.callers (zeros d.sizes) d.history d.queue (Some blocks) p.flights g d.calls in
+    subst Q ef (subst P eb k.agrees) in
     subst (λ x. FitsDisk T A d x) (sym h.1.is)
-    (record { sizes = k.sizes; in_order = k.in_order; agrees = finish_agrees T A _ _ (zeros d.sizes) d.history d.queue blocks p.flights d.calls w f ok h.1.left before el })
+    (record {
+      sizes = k.sizes;
+      in_order = k.in_order;
+      agrees = finish_agrees T A _ _ (zeros d.sizes) d.history d.queue blocks p.flights d.calls w f ok h.1.left before el;
+    })
 
-pub lets_finish_fits : (T : Bool) (A : List ℕ → List ℕ → Type 0) (d : Device) (p now : Port) (w : DiskWhich) (ok answer : Bool) → FitsDisk T A d p → LetsFinish p p.blocks p.finished (find (is_flight_of w) p.flights) ok answer now → FitsDisk T A d now
+pub lets_finish_fits :
+    (T : Bool) (A : List ℕ → List ℕ → Type 0) (d : Device) (p now : Port) (w : DiskWhich) (ok answer : Bool) → FitsDisk T A d p
+    → LetsFinish p p.blocks p.finished (find (is_flight_of w) p.flights) ok answer now → FitsDisk T A d now
 lets_finish_fits T A d p now w ok answer k h = lets_finish_by T A d p now w ok answer p.blocks p.finished (find (is_flight_of w) p.flights) k refl refl refl h

@@ -17,14 +17,22 @@ abbrev leased : Lender → Lease → SlabState → Bool
 leased l k state = slabs.has_lease l k state
 
 -- a slab has a new state with the same lease
-pub single_same : (states : List SlabState) (t : Slab) (x : SlabState) → t.0 < length states → ((l : Lender) (k : Lease) → slabs.has_lease l k x ≡ slabs.has_lease l k (slabs.state_of states t)) → AreSingle states → AreSingle (slabs.with_state states t x)
+pub single_same :
+    (states : List SlabState) (t : Slab) (x : SlabState) → t.0 < length states
+    → ((l : Lender) (k : Lease) → slabs.has_lease l k x ≡ slabs.has_lease l k (slabs.state_of states t)) → AreSingle states
+    → AreSingle (slabs.with_state states t x)
 single_same states t x within same h l k = let e = count_by-set_same (leased l k) states t.0 x Local within (same l k) in subst (λ n. n ≤ 1) (sym e) (h l k)
 
 -- a slab has a new state that has no lease but those that it had
-pub single_fewer : (states : List SlabState) (t : Slab) (x : SlabState) → t.0 < length states → ((l : Lender) (k : Lease) → slabs.has_lease l k x ≡ true → slabs.has_lease l k (slabs.state_of states t) ≡ true) → AreSingle states → AreSingle (slabs.with_state states t x)
+pub single_fewer :
+    (states : List SlabState) (t : Slab) (x : SlabState) → t.0 < length states
+    → ((l : Lender) (k : Lease) → slabs.has_lease l k x ≡ true → slabs.has_lease l k (slabs.state_of states t) ≡ true) → AreSingle states
+    → AreSingle (slabs.with_state states t x)
 single_fewer states t x within fewer h l k = go (slabs.has_lease l k x) refl (slabs.has_lease l k (slabs.state_of states t)) refl
   where
-    go : (b : Bool) → slabs.has_lease l k x ≡ b → (c : Bool) → slabs.has_lease l k (slabs.state_of states t) ≡ c → count_by (leased l k) (slabs.with_state states t x) ≤ 1
+    go :
+        (b : Bool) → slabs.has_lease l k x ≡ b → (c : Bool) → slabs.has_lease l k (slabs.state_of states t) ≡ c
+        → count_by (leased l k) (slabs.with_state states t x) ≤ 1
     go true now true was = let e = count_by-set_same (leased l k) states t.0 x Local within (now ∙ sym was) in subst (λ n. n ≤ 1) (sym e) (h l k)
     go false now false was = let e = count_by-set_same (leased l k) states t.0 x Local within (now ∙ sym was) in subst (λ n. n ≤ 1) (sym e) (h l k)
     go true now false was = let e : true ≡ false = sym (fewer l k now) ∙ was in cc
@@ -38,7 +46,9 @@ no_place f (Some n) e = cc
 unleased_count : (states : List SlabState) (l : Lender) (k : Lease) → slabs.by_lease states l k ≡ None → count_by (leased l k) states ≡ 0
 unleased_count states l k none = count_none (leased l k) states (no_place (λ n. record { 0 = n }) (position (leased l k) states) none)
 
-pub unleased : (states : List SlabState) (l : Lender) (lease : Lease) (u : Slab) → slabs.by_lease states l lease ≡ None → slabs.has_lease l lease (slabs.state_of states u) ≡ false
+pub unleased :
+    (states : List SlabState) (l : Lender) (lease : Lease) (u : Slab) → slabs.by_lease states l lease ≡ None
+    → slabs.has_lease l lease (slabs.state_of states u) ≡ false
 unleased states l lease u none = go (slabs.has_lease l lease (slabs.state_of states u)) refl
   where
     go : (b : Bool) → slabs.has_lease l lease (slabs.state_of states u) ≡ b → b ≡ false
@@ -46,11 +56,15 @@ unleased states l lease u none = go (slabs.has_lease l lease (slabs.state_of sta
     go true is =
         let within : u.0 < length states = lease_in_range states l lease u is in
         let zero_ = unleased_count states l lease none in
-        let one_ : one_if true ≤ count_by (leased l lease) states = subst (λ b. one_if b ≤ count_by (leased l lease) states) is (get_or-le-sum_by (λ (x : SlabState). one_if (leased l lease x)) states u.0 Local within) in
+        let one_ : one_if true ≤ count_by (leased l lease) states =
+        subst (λ b. one_if b ≤ count_by (leased l lease) states) is
+        (get_or-le-sum_by (λ (x : SlabState). one_if (leased l lease x)) states u.0 Local within) in
         absurd (omega (arith, zero_, one_))
 
 -- a slab that borrows is lent a lease that no slab of the lender has
-pub single_lent : (states : List SlabState) (t : Slab) (l : Lender) (lease : Lease) → t.0 < length states → slabs.state_of states t ≡ Borrowing l → slabs.by_lease states l lease ≡ None → AreSingle states → AreSingle (slabs.with_state states t (Mapped l lease 0))
+pub single_lent :
+    (states : List SlabState) (t : Slab) (l : Lender) (lease : Lease) → t.0 < length states → slabs.state_of states t ≡ Borrowing l
+    → slabs.by_lease states l lease ≡ None → AreSingle states → AreSingle (slabs.with_state states t (Mapped l lease 0))
 single_lent states t l lease within is new h m k = go (slabs.has_lease m k (Mapped l lease 0)) refl
   where
     was : slabs.has_lease m k (slabs.state_of states t) ≡ false
@@ -66,7 +80,8 @@ single_lent states t l lease within is new h m k = go (slabs.has_lease m k (Mapp
         let parts = both (l.0 == m.0) (lease.0 == k.0) now in
         let P : ℕ → Type 0 = λ n. slabs.by_lease states (record { 0 = n }) k ≡ None in
         let Q : ℕ → Type 0 = λ n. slabs.by_lease states l (record { 0 = n }) ≡ None in
-        let none : count_by (leased m k) states ≡ 0 = unleased_count states m k (subst P (eqb-true l.0 m.0 parts.0) (subst Q (eqb-true lease.0 k.0 parts.1) new)) in
+        let none : count_by (leased m k) states ≡ 0 =
+        unleased_count states m k (subst P (eqb-true l.0 m.0 parts.0) (subst Q (eqb-true lease.0 k.0 parts.1) new)) in
         let e = count_by-set_more (leased m k) states t.0 (Mapped l lease 0) Local within now was in omega (arith, e, none)
 
 -- slabs that are lost give their leases up
@@ -86,15 +101,20 @@ single_lost states l h m k = let fewer = lost_count states in omega (arith, fewe
         let rest = lost_count xs in omega (arith, a, b, one, rest)
 
 -- only one slab has a lease
-pub only_slab : (states : List SlabState) (l : Lender) (k : Lease) (s t : Slab) → AreSingle states → slabs.has_lease l k (slabs.state_of states s) ≡ true → slabs.has_lease l k (slabs.state_of states t) ≡ true → t.0 ≡ s.0
+pub only_slab :
+    (states : List SlabState) (l : Lender) (k : Lease) (s t : Slab) → AreSingle states → slabs.has_lease l k (slabs.state_of states s) ≡ true
+    → slabs.has_lease l k (slabs.state_of states t) ≡ true → t.0 ≡ s.0
 only_slab states l k s t h here there =
     ⊎_elim (λ e. e)
     (λ (ne : t.0 ≢ s.0).
     let within : s.0 < length states = lease_in_range states l k s here in
     let within' : t.0 < length states = lease_in_range states l k t there in
     let gone = count_by-set_less (leased l k) states s.0 Local Local within refl here in
-    let still : slabs.has_lease l k (get_or (set states s.0 Local) t.0 Local) ≡ true = ap (leased l k) (get_or-set_other states s.0 t.0 Local Local ne) ∙ there in
-    let one_ : one_if true ≤ count_by (leased l k) (set states s.0 Local) = subst (λ b. one_if b ≤ count_by (leased l k) (set states s.0 Local)) still (get_or-le-sum_by (λ (x : SlabState). one_if (leased l k x)) (set states s.0 Local) t.0 Local (omega (arith, length-set states s.0 Local, within'))) in
+    let still : slabs.has_lease l k (get_or (set states s.0 Local) t.0 Local) ≡ true =
+    ap (leased l k) (get_or-set_other states s.0 t.0 Local Local ne) ∙ there in
+    let one_ : one_if true ≤ count_by (leased l k) (set states s.0 Local) =
+    subst (λ b. one_if b ≤ count_by (leased l k) (set states s.0 Local)) still
+    (get_or-le-sum_by (λ (x : SlabState). one_if (leased l k x)) (set states s.0 Local) t.0 Local (omega (arith, length-set states s.0 Local, within'))) in
     absurd (omega (arith, gone, h l k, one_)))
     (cases_eq t.0 s.0)
 

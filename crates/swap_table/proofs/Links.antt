@@ -34,11 +34,13 @@ link-other links l m x other = get_or-set_other links l.0 m.0 x down other
 pub state-same : (states : List SlabState) (t : Slab) (x : SlabState) → t.0 < length states → slabs.state_of (slabs.with_state states t x) t ≡ x
 state-same states t x within = get_or-set_same states t.0 x Local within
 
-pub state-other : (states : List SlabState) (t u : Slab) (x : SlabState) → (u.0 ≡ t.0 → ⊥) → slabs.state_of (slabs.with_state states t x) u ≡ slabs.state_of states u
+pub state-other :
+    (states : List SlabState) (t u : Slab) (x : SlabState) → (u.0 ≡ t.0 → ⊥) → slabs.state_of (slabs.with_state states t x) u ≡ slabs.state_of states u
 state-other states t u x other = get_or-set_other states t.0 u.0 x Local other
 
 -- how many requests are for a slab, with one more at the end, and without the first
-pub flying-append : (s : Sizes) (t : Slab) (ring : List Request) (x : Request) → flying_for s t (ring ++ x ∷ []) ≡ flying_for s t ring + one_if (is_for_slab s t x)
+pub flying-append :
+    (s : Sizes) (t : Slab) (ring : List Request) (x : Request) → flying_for s t (ring ++ x ∷ []) ≡ flying_for s t ring + one_if (is_for_slab s t x)
 flying-append s t ring x = count_by-append_one (is_for_slab s t) ring x
 
 pub flying-cons : (s : Sizes) (t : Slab) (x : Request) (ring : List Request) → flying_for s t (x ∷ ring) ≡ one_if (is_for_slab s t x) + flying_for s t ring
@@ -55,7 +57,8 @@ first_of-assoc (Some x) b c = refl
 
 pub latest-append : (page : Page) (ring : List Request) (x : Request) → latest page (ring ++ x ∷ []) ≡ first_of (entry_to page x) (latest page ring)
 latest-append page [] x = sym (first_of-none (entry_to page x))
-latest-append page (y ∷ ring) x = ap (λ o. first_of o (entry_to page y)) (latest-append page ring x) ∙ first_of-assoc (entry_to page x) (latest page ring) (entry_to page y)
+latest-append page (y ∷ ring) x =
+    ap (λ o. first_of o (entry_to page y)) (latest-append page ring x) ∙ first_of-assoc (entry_to page x) (latest page ring) (entry_to page y)
 
 -- a page's own writes, and those of another page
 pub entry_to-own : (page : Page) (e : EntryNo) → entry_to page (Write page e) ≡ Some e

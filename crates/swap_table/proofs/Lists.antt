@@ -21,7 +21,8 @@ All-get_or P [] i d all p = p
 All-get_or P (y ∷ ys) zero d all p = all.0
 All-get_or P (y ∷ ys) (suc i) d all p = All-get_or P ys i d all.1 p
 
-pub All-map : {X Y : Type 0} (P : X → Type 0) (Q : Y → Type 0) (f : X → Y) (xs : List X) → ((x : X) → P x → Q (f x)) → AllByRecursion P xs → AllByRecursion Q (map f xs)
+pub All-map :
+    {X Y : Type 0} (P : X → Type 0) (Q : Y → Type 0) (f : X → Y) (xs : List X) → ((x : X) → P x → Q (f x)) → AllByRecursion P xs → AllByRecursion Q (map f xs)
 All-map P Q f [] each all = tt
 All-map P Q f (x ∷ xs) each all = (each x all.0, All-map P Q f xs each all.1)
 
@@ -72,18 +73,23 @@ abbrev pub one_if : Bool → ℕ
 one_if b = cond b 1 0
 
 -- counting after one place was set
-pub count_by-set_same : {X : Type 0} (p : X → Bool) (xs : List X) (i : ℕ) (y d : X) → i < length xs → p y ≡ p (get_or xs i d) → count_by p (set xs i y) ≡ count_by p xs
+pub count_by-set_same :
+    {X : Type 0} (p : X → Bool) (xs : List X) (i : ℕ) (y d : X) → i < length xs → p y ≡ p (get_or xs i d) → count_by p (set xs i y) ≡ count_by p xs
 count_by-set_same p xs i y d h e =
     let s = sum_by-set (λ x. one_if (p x)) xs i y d h in
     let same : one_if (p y) ≡ one_if (p (get_or xs i d)) = ap one_if e in omega (arith, s, same)
 
-pub count_by-set_more : {X : Type 0} (p : X → Bool) (xs : List X) (i : ℕ) (y d : X) → i < length xs → p y ≡ true → p (get_or xs i d) ≡ false → count_by p (set xs i y) ≡ count_by p xs + 1
+pub count_by-set_more :
+    {X : Type 0} (p : X → Bool) (xs : List X) (i : ℕ) (y d : X) → i < length xs → p y ≡ true → p (get_or xs i d) ≡ false
+    → count_by p (set xs i y) ≡ count_by p xs + 1
 count_by-set_more p xs i y d h now was =
     let s = sum_by-set (λ x. one_if (p x)) xs i y d h in
     let one : one_if (p y) ≡ one_if true = ap one_if now in
     let none : one_if (p (get_or xs i d)) ≡ one_if false = ap one_if was in omega (arith, s, one, none)
 
-pub count_by-set_less : {X : Type 0} (p : X → Bool) (xs : List X) (i : ℕ) (y d : X) → i < length xs → p y ≡ false → p (get_or xs i d) ≡ true → count_by p (set xs i y) + 1 ≡ count_by p xs
+pub count_by-set_less :
+    {X : Type 0} (p : X → Bool) (xs : List X) (i : ℕ) (y d : X) → i < length xs → p y ≡ false → p (get_or xs i d) ≡ true
+    → count_by p (set xs i y) + 1 ≡ count_by p xs
 count_by-set_less p xs i y d h now was =
     let s = sum_by-set (λ x. one_if (p x)) xs i y d h in
     let one : one_if (p (get_or xs i d)) ≡ one_if true = ap one_if was in

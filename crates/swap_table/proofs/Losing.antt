@@ -49,7 +49,9 @@ lost_ins W d l c p h = go h
     idle_state (Room q since) e = cc
     idle_state (Reading q n v how newer since) e = cc
 
-    same_state : (n : EntryNo) (v : Via) (how : Arrived) (newer : Bool) (since : ℕ) → may_read (Reading p n v how newer since) ≡ true → calls.lost_if_through l (Reading p n v how newer since) ≡ Reading p n v how newer since
+    same_state :
+        (n : EntryNo) (v : Via) (how : Arrived) (newer : Bool) (since : ℕ) → may_read (Reading p n v how newer since) ≡ true
+        → calls.lost_if_through l (Reading p n v how newer since) ≡ Reading p n v how newer since
     same_state n v arrived.Waiting newer since e = cc
     same_state n via.Disk arrived.Came newer since e = refl
     same_state n via.Disk arrived.Failed newer since e = refl
@@ -60,7 +62,8 @@ lost_ins W d l c p h = go h
 
     go : Ins W d c p → Ins W (lost d l) c p
     go (new_in idle within) = new_in (ap is_idle is ∙ idle_state (state_of d.calls c) idle) within
-    go (late_in {n = n} {v = v} {how = how} {newer = newer} {since = since} state may) = late_in (is ∙ ap (calls.lost_if_through l) state ∙ same_state n v how newer since may) may
+    go (late_in {n = n} {v = v} {how = how} {newer = newer} {since = since} state may) =
+        late_in (is ∙ ap (calls.lost_if_through l) state ∙ same_state n v how newer since may) may
 
 -- what a link was used for after another use
 pub linked_trans : (d e f : Device) → Linked d e → Linked e f → Linked d f
@@ -91,7 +94,9 @@ pub leaves_all : (W : Within) (d : Device) → Leaves W d d
 leaves_all W d = record { linked = as_was; history = refl; queue = refl; slabs = refl; down = λ l off. off; ins = λ c p may. may }
 
 -- links, by whether they are up
-up_set : (links : List LinkState) (i j : ℕ) (x : LinkState) → (x.up ≡ true → (get_or links i down).up ≡ true) → (get_or links j down).up ≡ false → (get_or (set links i x) j down).up ≡ false
+up_set :
+    (links : List LinkState) (i j : ℕ) (x : LinkState) → (x.up ≡ true → (get_or links i down).up ≡ true) → (get_or links j down).up ≡ false
+    → (get_or (set links i x) j down).up ≡ false
 up_set [] i j x keeps off = off
 up_set (y ∷ links) zero zero x keeps off = go x.up refl
   where
@@ -128,7 +133,9 @@ pub remote_ins : (W : Within) (d : Device) (r : remote.Remote) (c : Caller) (p :
 remote_ins W d r c p (new_in idle within) = new_in idle within
 remote_ins W d r c p (late_in state may) = late_in state may
 
-leaves_slab : (W : Within) (d : Device) (t : Slab) (state : SlabState) → Leaves W d (record d { remote = record d.remote { slabs = slabs.with_state d.remote.slabs t state } })
+leaves_slab :
+    (W : Within) (d : Device) (t : Slab) (state : SlabState)
+    → Leaves W d (record d { remote = record d.remote { slabs = slabs.with_state d.remote.slabs t state } })
 leaves_slab W d t state = record {
   linked = sent_on as_was _ _;
   history = refl;
@@ -139,7 +146,9 @@ leaves_slab W d t state = record {
 }
 
 -- a request was sent for a slab, which has a new state
-pub leaves_sent : (W : Within) (d : Device) (t : Slab) (state : SlabState) (l : Lender) (x : Request) → Leaves W d (record d { remote = record d.remote { slabs = slabs.with_state d.remote.slabs t state; links = rings.sent d.remote.links l x } })
+pub leaves_sent :
+    (W : Within) (d : Device) (t : Slab) (state : SlabState) (l : Lender) (x : Request)
+    → Leaves W d (record d { remote = record d.remote { slabs = slabs.with_state d.remote.slabs t state; links = rings.sent d.remote.links l x } })
 leaves_sent W d t state l x = record {
   linked = sent_on as_was _ _;
   history = refl;
@@ -158,7 +167,9 @@ module _ (W : Within) where
   passes_from c d s p one goes = Goes-implies (Move W) _ _ (λ e t q. (q.0, leaves_trans W c d e one q.1)) goes
 
   -- one program after another
-  pub passes_then : (d : Device) (s : Speaker) (p : Prog Device) (next : Device → Prog Device) → Passes d s p → ((e : Device) → Leaves W d e → Passes e (quiet e) (next e)) → Passes d s (and_then p next)
+  pub passes_then :
+      (d : Device) (s : Speaker) (p : Prog Device) (next : Device → Prog Device) → Passes d s p → ((e : Device) → Leaves W d e → Passes e (quiet e) (next e))
+      → Passes d s (and_then p next)
   passes_then d s p next goes more =
       Goes-then (Move W) (λ (e : Device) t. (t ≡ quiet e) × Leaves W d e) (λ (e : Device) t. (t ≡ quiet e) × Leaves W d e) next
       (λ e t q. let P : Speaker → Type 0 = λ x. Passes d x (next e) in subst P (sym q.0) (passes_from d e (quiet e) (next e) q.1 (more e q.1))) goes
@@ -167,14 +178,18 @@ module _ (W : Within) where
   abbrev pub Brings : (Device → Lender → Prog Device) → Type 0
   Brings loses = (d : Device) (l : Lender) → Passes (lost d l) (quiet (lost d l)) (loses d l)
 
-  pub choose_passes : (loses : Device → Lender → Prog Device) → Brings loses → (d : Device) (at : Option (Slab × Lender)) → ((t : Slab) (l : Lender) → at ≡ Some (t, l) → t.0 < length d.remote.slabs) → Passes d (quiet d) (choose loses d at)
+  pub choose_passes :
+      (loses : Device → Lender → Prog Device) → Brings loses → (d : Device) (at : Option (Slab × Lender))
+      → ((t : Slab) (l : Lender) → at ≡ Some (t, l) → t.0 < length d.remote.slabs) → Passes d (quiet d) (choose loses d at)
   choose_passes loses brings d None within = ends (refl, leaves_all W d)
   choose_passes loses brings d (Some at) within =
       chosen (λ (p : Prog Device). Passes d (quiet d) p) (may_map d at.0 at.1) _ _
       (λ may.
       asks_fabric (elim [
         | sent.Sent ↦ by (sends (borrow (there (within at.0 at.1 refl)) may)) (ends (refl, leaves_sent W d at.0 _ at.1 _))
-        | sent.Down ↦ by (finds_down (borrow (there (within at.0 at.1 refl)) may)) (passes_from d (lost d at.1) (quiet (lost d at.1)) (loses d at.1) (leaves_lost W d at.1) (brings d at.1))
+        | sent.Down ↦
+            by (finds_down (borrow (there (within at.0 at.1 refl)) may))
+            (passes_from d (lost d at.1) (quiet (lost d at.1)) (loses d at.1) (leaves_lost W d at.1) (brings d at.1))
       ]))
       (λ _. ends (refl, leaves_all W d))
 
@@ -188,7 +203,9 @@ module _ (W : Within) where
       slab_in None = u
       slab_in (Some at) = at.0
 
-  give_up_one_passes : (loses : Device → Lender → Prog Device) → Brings loses → (d : Device) (l : Lender) (t : Slab) → is_up d.remote.links l ≡ false → slabs.asks l (slabs.state_of d.remote.slabs t) ≡ true → Passes d (quiet d) (give_up_one loses d l t)
+  give_up_one_passes :
+      (loses : Device → Lender → Prog Device) → Brings loses → (d : Device) (l : Lender) (t : Slab) → is_up d.remote.links l ≡ false
+      → slabs.asks l (slabs.state_of d.remote.slabs t) ≡ true → Passes d (quiet d) (give_up_one loses d l t)
   give_up_one_passes loses brings d l t off asks =
       let e : Device = record d { remote = remote.gone d.remote l t } in
       let state = slabs.after_answer (slabs.state_of d.remote.slabs t) l reply.Gone in
@@ -196,25 +213,34 @@ module _ (W : Within) where
       let within : t.0 < length e.remote.slabs = subst (λ n. t.0 < n) (sym (length-set d.remote.slabs t.0 state)) (asks_within d.remote.slabs l t asks) in
       first (gives_up l t off asks)
       (passes_from d e (quiet e) _ left
-      (choose_passes loses brings e (chosen_for t (slabs.answer_choice (slabs.state_of d.remote.slabs t) l reply.Gone)) (λ u m is. subst (λ (x : Slab). x.0 < length e.remote.slabs) (sym (chosen_slab t u m (slabs.answer_choice (slabs.state_of d.remote.slabs t) l reply.Gone) is)) within)))
+      (choose_passes loses brings e (chosen_for t (slabs.answer_choice (slabs.state_of d.remote.slabs t) l reply.Gone))
+      (λ u m is.
+      subst (λ (x : Slab). x.0 < length e.remote.slabs)
+      (sym (chosen_slab t u m (slabs.answer_choice (slabs.state_of d.remote.slabs t) l reply.Gone) is)) within)))
 
-  give_up_passes : (loses : Device → Lender → Prog Device) → Brings loses → (left n : ℕ) (d : Device) (l : Lender) → is_up d.remote.links l ≡ false → Passes d (quiet d) (give_up loses left n d l)
+  give_up_passes :
+      (loses : Device → Lender → Prog Device) → Brings loses → (left n : ℕ) (d : Device) (l : Lender) → is_up d.remote.links l ≡ false
+      → Passes d (quiet d) (give_up loses left n d l)
   give_up_passes loses brings zero n d l off = ends (refl, leaves_all W d)
   give_up_passes loses brings (suc left) n d l off =
       let t : Slab = record { 0 = n } in
       passes_then d (quiet d) _ (λ e. give_up loses left (n + 1) e l)
-      (chosen (λ (p : Prog Device). Passes d (quiet d) p) (slabs.asks l (slabs.state_of d.remote.slabs t)) _ _ (λ asks. give_up_one_passes loses brings d l t off asks) (λ _. ends (refl, leaves_all W d)))
+      (chosen (λ (p : Prog Device). Passes d (quiet d) p) (slabs.asks l (slabs.state_of d.remote.slabs t)) _ _
+      (λ asks. give_up_one_passes loses brings d l t off asks) (λ _. ends (refl, leaves_all W d)))
       (λ e leaves. give_up_passes loses brings left (n + 1) e l (leaves.down l off))
 
   lose_with_passes : (n : ℕ) → Brings (lose_with n)
-  lose_with_passes zero d l = give_up_passes (λ e m. Ret (lost e m)) (λ e m. ends (refl, leaves_all W (lost e m))) (length d.remote.slabs) 0 (lost d l) l (lost_down d l)
+  lose_with_passes zero d l =
+      give_up_passes (λ e m. Ret (lost e m)) (λ e m. ends (refl, leaves_all W (lost e m))) (length d.remote.slabs) 0 (lost d l) l (lost_down d l)
   lose_with_passes (suc n) d l = give_up_passes (lose_with n) (lose_with_passes n) (length d.remote.slabs) 0 (lost d l) l (lost_down d l)
 
   pub lose_passes : Brings lose
   lose_passes = lose_with_passes MOST_LENDERS
 
   -- a word is said, and what follows on a message
-  pub say_passes : (d : Device) (l : Lender) (word : Option Parcel) → ((q : Parcel) → word ≡ Some q → IsWord d q) → Passes d (record { device = d; owed = words l word }) (say d l word)
+  pub say_passes :
+      (d : Device) (l : Lender) (word : Option Parcel) → ((q : Parcel) → word ≡ Some q → IsWord d q)
+      → Passes d (record { device = d; owed = words l word }) (say d l word)
   say_passes d l None is = ends (refl, leaves_all W d)
   say_passes d l (Some q) is =
       asks_fabric (elim [
@@ -222,7 +248,9 @@ module _ (W : Within) where
         | sent.Down ↦ by (speaks_to_nobody (is q refl)) (passes_from d (lost d l) (quiet (lost d l)) (lose d l) (leaves_lost W d l) (lose_passes d l))
       ])
 
-  pub follow_passes : (h : Heard) (l : Lender) → ((q : Parcel) → h.word ≡ Some q → IsWord h.device q) → ((t : Slab) (m : Lender) → h.choice ≡ Some (t, m) → t.0 < length h.device.remote.slabs) → Passes h.device (owing h l) (follow h l)
+  pub follow_passes :
+      (h : Heard) (l : Lender) → ((q : Parcel) → h.word ≡ Some q → IsWord h.device q)
+      → ((t : Slab) (m : Lender) → h.choice ≡ Some (t, m) → t.0 < length h.device.remote.slabs) → Passes h.device (owing h l) (follow h l)
   follow_passes h l is within =
       passes_then h.device (owing h l) (say h.device l h.word) (λ e. choose lose e h.choice) (say_passes h.device l h.word is)
       (λ e leaves. choose_passes lose lose_passes e h.choice (λ t m at. subst (λ n. t.0 < n) (sym leaves.slabs) (within t m at)))

@@ -29,7 +29,9 @@ abbrev Keeping : History → ℕ → Call → Type 0
 Keeping H reads call = KeepsNewest H reads call.state
 
 -- a page-out of a page leaves each other page's last, and marks the page's readers
-kept_out : (H : History) (reads : ℕ) (c : Caller) (p : Page) (bytes : List ℕ) (state : CallState) → KeepsNewest H reads state → KeepsNewest (pushed H c p op.PageOut bytes) reads (calls.newer_if_reads p state)
+kept_out :
+    (H : History) (reads : ℕ) (c : Caller) (p : Page) (bytes : List ℕ) (state : CallState) → KeepsNewest H reads state
+    → KeepsNewest (pushed H c p op.PageOut bytes) reads (calls.newer_if_reads p state)
 kept_out H reads c p bytes Idle kept = tt
 kept_out H reads c p bytes (Room q since) kept = tt
 kept_out H reads c p bytes (Reading q newest v how newer since) kept =
@@ -39,35 +41,56 @@ pub enter_keeps : (d : Device.Device) (c : Caller) (p : Page) (bytes : List ℕ)
 enter_keeps d c p bytes k =
     record {
       ordered = (tt, refl, k.ordered);
-      calls = All-set (Keeping (pushed d.history c p op.PageOut bytes) d.failed_reads) (calls.paged_out d.calls p) c.0 idle (All-map (Keeping d.history d.failed_reads) (Keeping (pushed d.history c p op.PageOut bytes) d.failed_reads) _ d.calls (λ call kept. kept_out d.history d.failed_reads c p bytes call.state kept) k.calls) tt;
+      calls =
+          All-set (Keeping (pushed d.history c p op.PageOut bytes) d.failed_reads) (calls.paged_out d.calls p) c.0 idle
+          (All-map (Keeping d.history d.failed_reads) (Keeping (pushed d.history c p op.PageOut bytes) d.failed_reads) _ d.calls
+          (λ call kept. kept_out d.history d.failed_reads c p bytes call.state kept) k.calls)
+          tt;
     }
 
 -- an entry that is no page-out leaves each page's last
-kept_in : (H : History) (reads : ℕ) (c : Caller) (p : Page) (named : Option EntryNo) (from : Origin) (bytes : List ℕ) (state : CallState) → KeepsNewest H reads state → KeepsNewest (pushed H c p (op.PageIn named from) bytes) reads state
+kept_in :
+    (H : History) (reads : ℕ) (c : Caller) (p : Page) (named : Option EntryNo) (from : Origin) (bytes : List ℕ) (state : CallState) → KeepsNewest H reads state
+    → KeepsNewest (pushed H c p (op.PageIn named from) bytes) reads state
 kept_in H reads c p named from bytes Idle kept = tt
 kept_in H reads c p named from bytes (Room q since) kept = tt
 kept_in H reads c p named from bytes (Reading q newest v how newer since) kept = kept
 
-kept_fault : (H : History) (reads : ℕ) (c : Caller) (p : Page) (kind : CallKind) (since at : ℕ) (bytes : List ℕ) (state : CallState) → KeepsNewest H reads state → KeepsNewest (pushed H c p (op.Failed kind since at) bytes) reads state
+kept_fault :
+    (H : History) (reads : ℕ) (c : Caller) (p : Page) (kind : CallKind) (since at : ℕ) (bytes : List ℕ) (state : CallState) → KeepsNewest H reads state
+    → KeepsNewest (pushed H c p (op.Failed kind since at) bytes) reads state
 kept_fault H reads c p kind since at bytes Idle kept = tt
 kept_fault H reads c p kind since at bytes (Room q s) kept = tt
 kept_fault H reads c p kind since at bytes (Reading q newest v how newer s) kept = kept
 
-pub give_keeps : (d : Device.Device) (c : Caller) (p : Page) (named : Option EntryNo) (from : Origin) (bytes : List ℕ) → IsInOrder d → named ≡ last d.history p → is_zero from ≡ is_none named → IsInOrder (give d c p named from bytes)
+pub give_keeps :
+    (d : Device.Device) (c : Caller) (p : Page) (named : Option EntryNo) (from : Origin) (bytes : List ℕ) → IsInOrder d → named ≡ last d.history p
+    → is_zero from ≡ is_none named → IsInOrder (give d c p named from bytes)
 give_keeps d c p named from bytes k is_last is_from =
     record {
       ordered = ((is_last, is_from), refl, k.ordered);
-      calls = All-set (Keeping (pushed d.history c p (op.PageIn named from) bytes) d.failed_reads) d.calls c.0 idle (All-implies (Keeping d.history d.failed_reads) _ d.calls (λ call kept. kept_in d.history d.failed_reads c p named from bytes call.state kept) k.calls) tt;
+      calls =
+          All-set (Keeping (pushed d.history c p (op.PageIn named from) bytes) d.failed_reads) d.calls c.0 idle
+          (All-implies (Keeping d.history d.failed_reads) _ d.calls
+          (λ call kept. kept_in d.history d.failed_reads c p named from bytes call.state kept) k.calls)
+          tt;
     }
 
-pub fault_keeps : (d : Device.Device) (c : Caller) (p : Page) (kind : CallKind) (since at : ℕ) (bytes : List ℕ) → IsInOrder d → since < at → IsInOrder (fault d c p kind since at bytes)
+pub fault_keeps :
+    (d : Device.Device) (c : Caller) (p : Page) (kind : CallKind) (since at : ℕ) (bytes : List ℕ) → IsInOrder d → since < at
+    → IsInOrder (fault d c p kind since at bytes)
 fault_keeps d c p kind since at bytes k later =
     record {
       ordered = (later, refl, k.ordered);
-      calls = All-set (Keeping (pushed d.history c p (op.Failed kind since at) bytes) d.failed_reads) d.calls c.0 idle (All-implies (Keeping d.history d.failed_reads) _ d.calls (λ call kept. kept_fault d.history d.failed_reads c p kind since at bytes call.state kept) k.calls) tt;
+      calls =
+          All-set (Keeping (pushed d.history c p (op.Failed kind since at) bytes) d.failed_reads) d.calls c.0 idle
+          (All-implies (Keeping d.history d.failed_reads) _ d.calls
+          (λ call kept. kept_fault d.history d.failed_reads c p kind since at bytes call.state kept) k.calls)
+          tt;
     }
 
-pub disk_wait_keeps : (d : Device.Device) (c : Caller) (p : Page) (newest : EntryNo) → IsInOrder d → last d.history p ≡ Some newest → IsInOrder (wait_for_disk d c p newest)
+pub disk_wait_keeps :
+    (d : Device.Device) (c : Caller) (p : Page) (newest : EntryNo) → IsInOrder d → last d.history p ≡ Some newest → IsInOrder (wait_for_disk d c p newest)
 disk_wait_keeps d c p newest k is_last =
     record { ordered = k.ordered; calls = All-set (Keeping d.history d.failed_reads) d.calls c.0 _ k.calls ((λ e. is_last), omega arith, tt) }
 
@@ -87,7 +110,9 @@ wrote_keeps d p None ok k = k
 wrote_keeps d p (Some copy) true k = record { ordered = k.ordered; calls = k.calls }
 wrote_keeps d p (Some copy) false k = record { ordered = k.ordered; calls = k.calls }
 
-came_keeps : (H : History) (reads : ℕ) (call : Call) (state : CallState) (bytes : List ℕ) → KeepsNewest H reads state → Keeping H reads call → Keeping H reads (calls.arrives arrived.Came bytes call state)
+came_keeps :
+    (H : History) (reads : ℕ) (call : Call) (state : CallState) (bytes : List ℕ) → KeepsNewest H reads state → Keeping H reads call
+    → Keeping H reads (calls.arrives arrived.Came bytes call state)
 came_keeps H reads call Idle bytes kept same = same
 came_keeps H reads call (Room q since) bytes kept same = same
 came_keeps H reads call (Reading q newest v arrived.Waiting newer since) bytes kept same = (kept.0, kept.1, tt)
@@ -106,7 +131,9 @@ more_reads H reads Idle kept = tt
 more_reads H reads (Room q since) kept = tt
 more_reads H reads (Reading q newest v how newer since) kept = (kept.0, omega (arith, kept.1), saw_more how since reads kept.2)
 
-failed_keeps : (H : History) (reads : ℕ) (call : Call) (state : CallState) → KeepsNewest H reads state → Keeping H (reads + 1) call → Keeping H (reads + 1) (calls.arrives arrived.Failed [] call state)
+failed_keeps :
+    (H : History) (reads : ℕ) (call : Call) (state : CallState) → KeepsNewest H reads state → Keeping H (reads + 1) call
+    → Keeping H (reads + 1) (calls.arrives arrived.Failed [] call state)
 failed_keeps H reads call Idle kept same = same
 failed_keeps H reads call (Room q since) kept same = same
 failed_keeps H reads call (Reading q newest v arrived.Waiting newer since) kept same = (kept.0, omega (arith, kept.1), omega (arith, kept.1))
@@ -118,13 +145,18 @@ took_keeps : (d : Device.Device) (w : DiskWhich) (p : Page) (ok : Bool) (bytes :
 took_keeps d (which.Write q) p ok bytes k = wrote_keeps d p _ ok k
 took_keeps d (which.Read c) p true bytes k =
     let here : KeepsNewest d.history d.failed_reads (calls.state_of d.calls c) = All-get_or (Keeping d.history d.failed_reads) d.calls c.0 idle k.calls tt in
-    record { ordered = k.ordered; calls = All-set (Keeping d.history d.failed_reads) d.calls c.0 _ k.calls (came_keeps d.history d.failed_reads _ _ bytes here here) }
+    record {
+      ordered = k.ordered;
+      calls = All-set (Keeping d.history d.failed_reads) d.calls c.0 _ k.calls (came_keeps d.history d.failed_reads _ _ bytes here here);
+    }
 took_keeps d (which.Read c) p false bytes k =
     let here : KeepsNewest d.history d.failed_reads (calls.state_of d.calls c) = All-get_or (Keeping d.history d.failed_reads) d.calls c.0 idle k.calls tt in
     record {
       ordered = k.ordered;
       calls =
-          All-set (Keeping d.history (d.failed_reads + 1)) d.calls c.0 _ (All-implies (Keeping d.history d.failed_reads) _ d.calls (λ call kept. more_reads d.history d.failed_reads call.state kept) k.calls) (failed_keeps d.history d.failed_reads _ _ here (more_reads d.history d.failed_reads _ here));
+          All-set (Keeping d.history (d.failed_reads + 1)) d.calls c.0 _
+          (All-implies (Keeping d.history d.failed_reads) _ d.calls (λ call kept. more_reads d.history d.failed_reads call.state kept) k.calls)
+          (failed_keeps d.history d.failed_reads _ _ here (more_reads d.history d.failed_reads _ here));
     }
 
 pub took_back_keeps : (d : Device.Device) (taken : Option Taken) → IsInOrder d → IsInOrder (took_back d taken).0

@@ -44,19 +44,27 @@ module _ (W : Within) where
       chosen (λ (p : Prog (Device × Bool)). Answers (Asks t l) d (quiet d) p) (may_map d t l) _ _
       (λ may.
       asks_fabric (elim [
-        | sent.Sent ↦ by (sends (moves.query within may)) (ends (refl, leaves_sent W d t _ l _, λ _. state-same d.remote.slabs t (Asking (slabs.pair_of l None)) within))
-        | sent.Down ↦ by (finds_down (moves.query within may)) (Goes-answering (Move W) _ _ not_asked (λ e s q. (q.0, leaves_trans W d (lost d l) e (leaves_lost W d l) q.1, λ no. never no)) (lose_passes W d l))
+        | sent.Sent ↦
+            by (sends (moves.query within may)) (ends (refl, leaves_sent W d t _ l _, λ _. state-same d.remote.slabs t (Asking (slabs.pair_of l None)) within))
+        | sent.Down ↦
+            by (finds_down (moves.query within may))
+            (Goes-answering (Move W) _ _ not_asked (λ e s q. (q.0, leaves_trans W d (lost d l) e (leaves_lost W d l) q.1, λ no. never no))
+            (lose_passes W d l))
       ]))
       (λ _. ends (refl, leaves_all W d, λ no. never no))
 
   -- a second is asked beside the first
-  second_asked : (d : Device) (t : Slab) (m l : Lender) → t.0 < length d.remote.slabs → slabs.state_of d.remote.slabs t ≡ Asking (slabs.pair_of m None) → (m.0 ≡ l.0 → ⊥) → Answers Any d (quiet d) (query d t (Some m) l)
+  second_asked :
+      (d : Device) (t : Slab) (m l : Lender) → t.0 < length d.remote.slabs → slabs.state_of d.remote.slabs t ≡ Asking (slabs.pair_of m None) → (m.0 ≡ l.0 → ⊥)
+      → Answers Any d (quiet d) (query d t (Some m) l)
   second_asked d t m l within state other =
       chosen (λ (p : Prog (Device × Bool)). Answers Any d (quiet d) p) (may_send d.sizes.window (link_of d.remote.links l)) _ _
       (λ may.
       asks_fabric (elim [
         | sent.Sent ↦ by (sends (moves.query_too within state other may)) (ends (refl, leaves_sent W d t _ l _, tt))
-        | sent.Down ↦ by (finds_down (moves.query_too within state other may)) (Goes-answering (Move W) _ _ not_asked (λ e s q. (q.0, leaves_trans W d (lost d l) e (leaves_lost W d l) q.1, tt)) (lose_passes W d l))
+        | sent.Down ↦
+            by (finds_down (moves.query_too within state other may))
+            (Goes-answering (Move W) _ _ not_asked (λ e s q. (q.0, leaves_trans W d (lost d l) e (leaves_lost W d l) q.1, tt)) (lose_passes W d l))
       ]))
       (λ _. ends (refl, leaves_all W d, tt))
 
@@ -68,22 +76,31 @@ module _ (W : Within) where
       let P : Speaker → Type 0 = λ x. Answers Any d x p in
       subst P (sym same) (Goes-implies (Move W) _ _ (λ a t q. (q.0, leaves_trans W d e a.0 leaves q.1, tt)) goes)
 
-  two_asked : (d : Device) (t : Slab) (m l : Lender) → t.0 < length d.remote.slabs → (m.0 ≡ l.0 → ⊥) → (a : Device × Bool) (s : Speaker) → (s ≡ quiet a.0) × Leaves W d a.0 × Asks t m a → Answers Any d s (ask_second t m l a)
+  two_asked :
+      (d : Device) (t : Slab) (m l : Lender) → t.0 < length d.remote.slabs → (m.0 ≡ l.0 → ⊥) → (a : Device × Bool) (s : Speaker)
+      → (s ≡ quiet a.0) × Leaves W d a.0 × Asks t m a → Answers Any d s (ask_second t m l a)
   two_asked d t m l within other (e, true) s q =
       let there : t.0 < length e.remote.slabs = subst (λ n. t.0 < n) (sym q.1.slabs) within in
-      from d e s (ask_second t m l (e, true)) q.0 q.1 (Goes-answering (Move W) _ _ (λ (r : Device × Bool). (r.0, placed_beside t m l r.1)) (λ a u r. (r.0, r.1, tt)) (second_asked e t m l there (q.2 refl) other))
+      from d e s (ask_second t m l (e, true)) q.0 q.1
+      (Goes-answering (Move W) _ _ (λ (r : Device × Bool). (r.0, placed_beside t m l r.1)) (λ a u r. (r.0, r.1, tt))
+      (second_asked e t m l there (q.2 refl) other))
   two_asked d t m l within other (e, false) s q =
       let there : t.0 < length e.remote.slabs = subst (λ n. t.0 < n) (sym q.1.slabs) within in from d e s (ask_one e t l) q.0 q.1 (one_asked e t l there)
 
-  ask_goes : (d : Device) (t : Slab) (asked : Asked) → t.0 < length d.remote.slabs → ((n m : ℕ) → asked ≡ picked.Two n m → n ≡ m → ⊥) → Answers Any d (quiet d) (ask d t asked)
+  ask_goes :
+      (d : Device) (t : Slab) (asked : Asked) → t.0 < length d.remote.slabs → ((n m : ℕ) → asked ≡ picked.Two n m → n ≡ m → ⊥)
+      → Answers Any d (quiet d) (ask d t asked)
   ask_goes d t picked.Nobody within other = ends (refl, leaves_all W d, tt)
   ask_goes d t (picked.One n) within other = one_asked d t (record { 0 = n }) within
   ask_goes d t (picked.Two n m) within other =
-      Goes-then (Move W) _ _ (ask_second t (record { 0 = n }) (record { 0 = m })) (λ a s q. two_asked d t (record { 0 = n }) (record { 0 = m }) within (other n m refl) a s q) (first_asked d t (record { 0 = n }) within)
+      Goes-then (Move W) _ _ (ask_second t (record { 0 = n }) (record { 0 = m }))
+      (λ a s q. two_asked d t (record { 0 = n }) (record { 0 = m }) within (other n m refl) a s q) (first_asked d t (record { 0 = n }) within)
 
   pub place_goes : (d : Device) (word : ℕ) → Answers Any d (quiet d) (place d word)
   place_goes d word = go (rates.hottest d.sizes.hot d.remote.slabs d.rates) refl
     where
       go : (slab : Option Slab) → rates.hottest d.sizes.hot d.remote.slabs d.rates ≡ slab → Answers Any d (quiet d) (place_at d word slab)
       go None is = ends (refl, leaves_all W d, tt)
-      go (Some t) is = ask_goes d t (choice.asked word (remote.fresh d.remote) (remote.others d.remote)) (hottest_within d.sizes.hot d.remote.slabs d.rates t is) (λ n m two. asked_differ word d.remote n m two)
+      go (Some t) is =
+          ask_goes d t (choice.asked word (remote.fresh d.remote) (remote.others d.remote)) (hottest_within d.sizes.hot d.remote.slabs d.rates t is)
+          (λ n m two. asked_differ word d.remote n m two)

@@ -129,7 +129,8 @@ refused_is (msg.Evict k) slab is = cc
 lease_is : (k j : Lease) → Some k ≡ Some j → k ≡ j
 lease_is k j is = cc
 
-pub lent_is : (m : Msg) (slab : Slab) (lease : Lease) → borrow_reply m ≡ Some (slab, Some lease) → ((k : Lease) → lends k m ≡ (lease.0 == k.0)) × (is_page m ≡ false)
+pub lent_is :
+    (m : Msg) (slab : Slab) (lease : Lease) → borrow_reply m ≡ Some (slab, Some lease) → ((k : Lease) → lends k m ≡ (lease.0 == k.0)) × (is_page m ≡ false)
 lent_is (msg.Hello v b n) slab lease is = cc
 lent_is (msg.Query t) slab lease is = cc
 lent_is (msg.Borrow t) slab lease is = cc
@@ -147,21 +148,32 @@ lent_is (msg.Evict k) slab lease is = cc
 
 module _ {F : Type 0} (fabric : FabricMeaning F) (laws : Promises fabric) where
   -- a call that ends nothing of what is kept, or of what is owed
-  kept_all : (f : F) (c : FabricCall) (r : FabricAnswer c) (g : F) → fabric.moves f c r g → ((m : Lender) (k : Lease) (i : ℕ) → ends_keeping m k i c r ≡ false) → KeepsAll (fabric.keeps f) (fabric.keeps g)
+  kept_all :
+      (f : F) (c : FabricCall) (r : FabricAnswer c) (g : F) → fabric.moves f c r g → ((m : Lender) (k : Lease) (i : ℕ) → ends_keeping m k i c r ≡ false)
+      → KeepsAll (fabric.keeps f) (fabric.keeps g)
   kept_all f c r g moved none m k i bytes h = laws.kept_until f c r g m k i bytes moved h (none m k i)
 
-  owed_all : (f : F) (c : FabricCall) (r : FabricAnswer c) (g : F) → fabric.moves f c r g → ((m : Lender) → changes_owing m c r ≡ false) → OwesAll (fabric.owes f) (fabric.owes g)
+  owed_all :
+      (f : F) (c : FabricCall) (r : FabricAnswer c) (g : F) → fabric.moves f c r g → ((m : Lender) → changes_owing m c r ≡ false)
+      → OwesAll (fabric.owes f) (fabric.owes g)
   owed_all f c r g moved none m pages h = laws.owed_until f c r g m pages moved h (none m)
 
-  kept_others : (f : F) (c : FabricCall) (r : FabricAnswer c) (g : F) (l : Lender) → fabric.moves f c r g → ((m : Lender) → (m.0 ≡ l.0 → ⊥) → (k : Lease) (i : ℕ) → ends_keeping m k i c r ≡ false) → KeepsOthers l (fabric.keeps f) (fabric.keeps g)
+  kept_others :
+      (f : F) (c : FabricCall) (r : FabricAnswer c) (g : F) (l : Lender) → fabric.moves f c r g
+      → ((m : Lender) → (m.0 ≡ l.0 → ⊥) → (k : Lease) (i : ℕ) → ends_keeping m k i c r ≡ false) → KeepsOthers l (fabric.keeps f) (fabric.keeps g)
   kept_others f c r g l moved none m other k i bytes h = laws.kept_until f c r g m k i bytes moved h (none m other k i)
 
-  owed_others : (f : F) (c : FabricCall) (r : FabricAnswer c) (g : F) (l : Lender) → fabric.moves f c r g → ((m : Lender) → (m.0 ≡ l.0 → ⊥) → changes_owing m c r ≡ false) → OwesOthers l (fabric.owes f) (fabric.owes g)
+  owed_others :
+      (f : F) (c : FabricCall) (r : FabricAnswer c) (g : F) (l : Lender) → fabric.moves f c r g → ((m : Lender) → (m.0 ≡ l.0 → ⊥) → changes_owing m c r ≡ false)
+      → OwesOthers l (fabric.owes f) (fabric.owes g)
   owed_others f c r g l moved none m other pages h = laws.owed_until f c r g m pages moved h (none m other)
 
   -- a send: of a write, of a read, of another message, and one that finds the link down
-  pub write_keeps : (f g : F) (l : Lender) (k : Lease) (i : ℕ) (bytes : List ℕ) → fabric.moves f (Send l (write_parcel k i bytes)) sent.Sent g → KeepsBut l k i (fabric.keeps f) (fabric.keeps g)
-  write_keeps f g l k i bytes moved m j o b other h = laws.kept_until f (Send l (write_parcel k i bytes)) sent.Sent g m j o b moved h (ends (same_lender m l) refl (k.0 == j.0) refl (i == o) refl)
+  pub write_keeps :
+      (f g : F) (l : Lender) (k : Lease) (i : ℕ) (bytes : List ℕ) → fabric.moves f (Send l (write_parcel k i bytes)) sent.Sent g
+      → KeepsBut l k i (fabric.keeps f) (fabric.keeps g)
+  write_keeps f g l k i bytes moved m j o b other h =
+      laws.kept_until f (Send l (write_parcel k i bytes)) sent.Sent g m j o b moved h (ends (same_lender m l) refl (k.0 == j.0) refl (i == o) refl)
     where
       ends : (a : Bool) → same_lender m l ≡ a → (b : Bool) → (k.0 == j.0) ≡ b → (c : Bool) → (i == o) ≡ c → (a && (b && c)) ≡ false
       ends false ea b eb c ec = refl
@@ -169,23 +181,32 @@ module _ {F : Type 0} (fabric : FabricMeaning F) (laws : Promises fabric) where
       ends true ea true eb false ec = refl
       ends true ea true eb true ec = absurd (other (eqb-true m.0 l.0 ea) (sym (eqb-true k.0 j.0 eb)) (sym (eqb-true i o ec)))
 
-  pub write_owes : (f g : F) (l : Lender) (k : Lease) (i : ℕ) (bytes : List ℕ) → fabric.moves f (Send l (write_parcel k i bytes)) sent.Sent g → OwesAll (fabric.owes f) (fabric.owes g)
+  pub write_owes :
+      (f g : F) (l : Lender) (k : Lease) (i : ℕ) (bytes : List ℕ) → fabric.moves f (Send l (write_parcel k i bytes)) sent.Sent g
+      → OwesAll (fabric.owes f) (fabric.owes g)
   write_owes f g l k i bytes moved = owed_all f (Send l (write_parcel k i bytes)) sent.Sent g moved (λ m. and-false (same_lender m l))
 
-  pub read_keeps : (f g : F) (l : Lender) (k : Lease) (i : ℕ) → fabric.moves f (Send l (read_parcel k i)) sent.Sent g → KeepsAll (fabric.keeps f) (fabric.keeps g)
+  pub read_keeps :
+      (f g : F) (l : Lender) (k : Lease) (i : ℕ) → fabric.moves f (Send l (read_parcel k i)) sent.Sent g → KeepsAll (fabric.keeps f) (fabric.keeps g)
   read_keeps f g l k i moved = kept_all f (Send l (read_parcel k i)) sent.Sent g moved (λ m j o. and-false (same_lender m l))
 
-  pub read_owes : (f g : F) (l : Lender) (k : Lease) (i : ℕ) → fabric.moves f (Send l (read_parcel k i)) sent.Sent g → OwesOthers l (fabric.owes f) (fabric.owes g)
+  pub read_owes :
+      (f g : F) (l : Lender) (k : Lease) (i : ℕ) → fabric.moves f (Send l (read_parcel k i)) sent.Sent g → OwesOthers l (fabric.owes f) (fabric.owes g)
   read_owes f g l k i moved = owed_others f (Send l (read_parcel k i)) sent.Sent g l moved (λ m other. another_and l m true other)
 
-  pub other_keeps : (f g : F) (l : Lender) (p : Parcel) → fabric.moves f (Send l p) sent.Sent g → ((k : Lease) (i : ℕ) → replaces k i p.msg ≡ false) → KeepsAll (fabric.keeps f) (fabric.keeps g)
+  pub other_keeps :
+      (f g : F) (l : Lender) (p : Parcel) → fabric.moves f (Send l p) sent.Sent g → ((k : Lease) (i : ℕ) → replaces k i p.msg ≡ false)
+      → KeepsAll (fabric.keeps f) (fabric.keeps g)
   other_keeps f g l p moved none = kept_all f (Send l p) sent.Sent g moved (λ m j o. and_right (same_lender m l) (replaces j o p.msg) (none j o))
 
   pub other_owes : (f g : F) (l : Lender) (p : Parcel) → fabric.moves f (Send l p) sent.Sent g → is_read p.msg ≡ false → OwesAll (fabric.owes f) (fabric.owes g)
   other_owes f g l p moved none = owed_all f (Send l p) sent.Sent g moved (λ m. and_right (same_lender m l) (is_read p.msg) none)
 
-  pub done_keeps : (f g : F) (l : Lender) (lease : Lease) → fabric.moves f (Send l (parcel_of (msg.Done lease) [])) sent.Sent g → KeepsButLease l lease (fabric.keeps f) (fabric.keeps g)
-  done_keeps f g l lease moved m k i bytes other h = laws.kept_until f (Send l (parcel_of (msg.Done lease) [])) sent.Sent g m k i bytes moved h (ends (same_lender m l) refl (lease.0 == k.0) refl)
+  pub done_keeps :
+      (f g : F) (l : Lender) (lease : Lease) → fabric.moves f (Send l (parcel_of (msg.Done lease) [])) sent.Sent g
+      → KeepsButLease l lease (fabric.keeps f) (fabric.keeps g)
+  done_keeps f g l lease moved m k i bytes other h =
+      laws.kept_until f (Send l (parcel_of (msg.Done lease) [])) sent.Sent g m k i bytes moved h (ends (same_lender m l) refl (lease.0 == k.0) refl)
     where
       ends : (a : Bool) → same_lender m l ≡ a → (b : Bool) → (lease.0 == k.0) ≡ b → (a && b) ≡ false
       ends false ea b eb = refl
@@ -199,11 +220,16 @@ module _ {F : Type 0} (fabric : FabricMeaning F) (laws : Promises fabric) where
   down_owes f g l p moved = owed_others f (Send l p) sent.Down g l moved (λ m other. another_and l m true other)
 
   -- a take: of a message, of nothing, and one that finds the link lost
-  pub took_keeps : (f g : F) (l : Lender) (p : Parcel) → fabric.moves f (Take l) (Brought p) g → ((k : Lease) → lends k p.msg ≡ false) → KeepsAll (fabric.keeps f) (fabric.keeps g)
+  pub took_keeps :
+      (f g : F) (l : Lender) (p : Parcel) → fabric.moves f (Take l) (Brought p) g → ((k : Lease) → lends k p.msg ≡ false)
+      → KeepsAll (fabric.keeps f) (fabric.keeps g)
   took_keeps f g l p moved none = kept_all f (Take l) (Brought p) g moved (λ m k i. and_right (same_lender m l) (lends k p.msg) (none k))
 
-  pub lent_keeps : (f g : F) (l : Lender) (p : Parcel) (lease : Lease) → fabric.moves f (Take l) (Brought p) g → ((k : Lease) → lends k p.msg ≡ (lease.0 == k.0)) → KeepsButLease l lease (fabric.keeps f) (fabric.keeps g)
-  lent_keeps f g l p lease moved is m k i bytes other h = laws.kept_until f (Take l) (Brought p) g m k i bytes moved h (ap (λ b. same_lender m l && b) (is k) ∙ ends (same_lender m l) refl (lease.0 == k.0) refl)
+  pub lent_keeps :
+      (f g : F) (l : Lender) (p : Parcel) (lease : Lease) → fabric.moves f (Take l) (Brought p) g → ((k : Lease) → lends k p.msg ≡ (lease.0 == k.0))
+      → KeepsButLease l lease (fabric.keeps f) (fabric.keeps g)
+  lent_keeps f g l p lease moved is m k i bytes other h =
+      laws.kept_until f (Take l) (Brought p) g m k i bytes moved h (ap (λ b. same_lender m l && b) (is k) ∙ ends (same_lender m l) refl (lease.0 == k.0) refl)
     where
       ends : (a : Bool) → same_lender m l ≡ a → (b : Bool) → (lease.0 == k.0) ≡ b → (a && b) ≡ false
       ends false ea b eb = refl
@@ -245,8 +271,12 @@ module _ {F : Type 0} (fabric : FabricMeaning F) (laws : Promises fabric) where
   connect_owes f g l n moved = owed_others f (Connect l n) tt g l moved (λ m other. another l m other)
 
   -- the far side moves
-  pub far_keeps : (f : F) (c : FabricCall) (r : FabricAnswer c) (g : F) → fabric.moves f c r g → ((m : Lender) (k : Lease) (i : ℕ) → ends_keeping m k i c r ≡ false) → KeepsAll (fabric.keeps f) (fabric.keeps g)
+  pub far_keeps :
+      (f : F) (c : FabricCall) (r : FabricAnswer c) (g : F) → fabric.moves f c r g → ((m : Lender) (k : Lease) (i : ℕ) → ends_keeping m k i c r ≡ false)
+      → KeepsAll (fabric.keeps f) (fabric.keeps g)
   far_keeps f c r g moved none = kept_all f c r g moved none
 
-  pub far_owes : (f : F) (c : FabricCall) (r : FabricAnswer c) (g : F) → fabric.moves f c r g → ((m : Lender) → changes_owing m c r ≡ false) → OwesAll (fabric.owes f) (fabric.owes g)
+  pub far_owes :
+      (f : F) (c : FabricCall) (r : FabricAnswer c) (g : F) → fabric.moves f c r g → ((m : Lender) → changes_owing m c r ≡ false)
+      → OwesAll (fabric.owes f) (fabric.owes g)
   far_owes f c r g moved none = owed_all f c r g moved none

@@ -39,8 +39,11 @@ may_read_waits (Reading p n (via.Lender l) arrived.Lost newer since) e = ((λ r 
 pub room_waits : (p : Page) (since : ℕ) → ((r : Page) → WaitsFor r (Room p since) → ⊥) × ((m : Lender) (q : Page) → WaitsFrom m q (Room p since) → ⊥)
 room_waits p since = ((λ r w. w), (λ m q w. w))
 
-pub waits_none : (cs : Calls) (c : Caller) (state : CallState) → state_of cs c ≡ state → ((r : Page) → WaitsFor r state → ⊥) × ((m : Lender) (q : Page) → WaitsFrom m q state → ⊥) → WaitsForNone cs c
-waits_none cs c state is h = ((λ r w. h.0 r (subst (λ s. WaitsFor r s) is w)), (λ m q w. h.1 m q (let P : CallState → Type 0 = λ s. WaitsFrom m q s in subst P is w)))
+pub waits_none :
+    (cs : Calls) (c : Caller) (state : CallState) → state_of cs c ≡ state
+    → ((r : Page) → WaitsFor r state → ⊥) × ((m : Lender) (q : Page) → WaitsFrom m q state → ⊥) → WaitsForNone cs c
+waits_none cs c state is h =
+    ((λ r w. h.0 r (subst (λ s. WaitsFor r s) is w)), (λ m q w. h.1 m q (let P : CallState → Type 0 = λ s. WaitsFrom m q s in subst P is w)))
 
 -- where a request for a page goes
 pub record Target (s : Sizes) (r : Remote) (p : Page) (at : Lender × Lease) : Type 0 where

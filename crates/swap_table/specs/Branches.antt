@@ -57,7 +57,8 @@ abbrev pub at_once : List Page → (c : DiskCall) → DiskAnswer c × List Page
 at_once pages (StartWrite p bytes) = (tt, p ∷ pages)
 at_once pages (StartRead c p) = (tt, pages)
 at_once [] TakeDone = (None, [])
-at_once (p ∷ pages) TakeDone = (Some (record { done = record { which = which.Write p; page = p; ok = true }; bytes = [] }), pages)
+at_once (p ∷ pages) TakeDone =
+    (Some (record { done = record { which = which.Write p; page = p; ok = true }; bytes = [] }), pages)
 at_once pages (LetFinish w ok) = (true, pages)
 
 -- an event with a page that goes with it
@@ -71,7 +72,9 @@ by e = record { event = e; page = [] }
 -- what is seen of events, and the device after them
 abbrev pub go_on : List Page → Told → List Step → List Seen → Device → (List Seen × Device) × Told
 go_on pages told [] seens d = ((seens, d), told)
-go_on pages told (step ∷ steps) seens d = let r = run at_once tell (happens d step.page step.event) pages told in go_on r.1.0 r.1.1 steps (seens ++ r.0.1 ∷ []) r.0.0
+go_on pages told (step ∷ steps) seens d =
+    let r = run at_once tell (happens d step.page step.event) pages told in
+    go_on r.1.0 r.1.1 steps (seens ++ r.0.1 ∷ []) r.0.0
 
 abbrev pub sizes : Sizes
 sizes = record { page_bytes = 8; pages_per_slab = 4; slabs = 2; queue = 4; callers = 2; window = 2; hot = 1 }
@@ -116,7 +119,8 @@ last_seen (s ∷ []) = s
 last_seen (s ∷ seens) = last_seen seens
 
 abbrev pub Ends : (List Seen × Device) × Told → Seen → SlabState → Bool → Type 0
-Ends r s state up = (last_seen r.0.0 ≡ s) × (state_of r.0.1.remote.slabs (slab 0) ≡ state) × (is_up r.0.1.remote.links first ≡ up)
+Ends r s state up =
+    (last_seen r.0.0 ≡ s) × (state_of r.0.1.remote.slabs (slab 0) ≡ state) × (is_up r.0.1.remote.links first ≡ up)
 
 -- each message that isn't allowed there is a lie: the link is ended and lost
 abbrev pub IsLie : Msg → Type 0
@@ -124,37 +128,56 @@ IsLie m = Ends (make [] (lent ∷ brought m ∷ []) (up_and_mapped ++ by (event.
 
 abbrev pub LiesEndTheLink : Type 0
 LiesEndTheLink =
-    IsLie (msg.Room (slab 0) 3) × IsLie (msg.Lent (slab 1) (lease 6)) × IsLie (msg.Refused (slab 0)) × IsLie (msg.Wrote (lease 5) 0)
-    × IsLie (msg.PageIs (lease 5) 0) × IsLie (msg.AskRates (lease 6)) × IsLie (msg.Evict (lease 6)) × IsLie (msg.Hello 1 8 4)
-    × IsLie (msg.Query (slab 0)) × IsLie (msg.Borrow (slab 0)) × IsLie (msg.Write (lease 5) 0) × IsLie (msg.Read (lease 5) 0)
+    IsLie (msg.Room (slab 0) 3) × IsLie (msg.Lent (slab 1) (lease 6)) × IsLie (msg.Refused (slab 0))
+    × IsLie (msg.Wrote (lease 5) 0)
+    × IsLie (msg.PageIs (lease 5) 0) × IsLie (msg.AskRates (lease 6)) × IsLie (msg.Evict (lease 6))
+    × IsLie (msg.Hello 1 8 4)
+    × IsLie (msg.Query (slab 0)) × IsLie (msg.Borrow (slab 0)) × IsLie (msg.Write (lease 5) 0)
+    × IsLie (msg.Read (lease 5) 0)
     × IsLie (msg.Rates (lease 5) 1) × IsLie (msg.Done (lease 5))
 
 -- a lease that a slab has already is a lie, and so is a reply of another place, or of another slab
 abbrev pub LeaseInUse : Type 0
 LeaseInUse =
-    Ends (make [] (lent ∷ brought (msg.Lent (slab 1) (lease 5)) ∷ []) (up_and_mapped ++ map by (event.Map (slab 1) first ∷ event.Take first ∷ []))) seen.Lied Local false
-    × Ends (make [] (lent ∷ brought (msg.Wrote (lease 5) 2) ∷ []) (up_and_mapped ++ out 1 ∷ by (event.Take first) ∷ [])) seen.Lied Local false
+    Ends
+    (make [] (lent ∷ brought (msg.Lent (slab 1) (lease 5)) ∷ [])
+    (up_and_mapped ++ map by (event.Map (slab 1) first ∷ event.Take first ∷ [])))
+    seen.Lied Local false
+    × Ends
+    (make [] (lent ∷ brought (msg.Wrote (lease 5) 2) ∷ []) (up_and_mapped ++ out 1 ∷ by (event.Take first) ∷ []))
+    seen.Lied Local false
 
--- a send that finds the link down: a write's page-out is answered, a read goes to the disk, and a borrowed slab stays local
+-- a send that finds the link down: a write's page-out is answered, a read goes to the disk, and a borrowed slab stays
+-- local
 abbrev pub Down : List Sent
 Down = sent.Sent ∷ sent.Sent ∷ sent.Down ∷ []
 
 abbrev pub WriteFindsTheLinkDown : Type 0
-WriteFindsTheLinkDown = Ends (make Down (lent ∷ []) (up_and_mapped ++ out 1 ∷ [])) (seen.Done (record { 0 = 0 }) None) Local false
+WriteFindsTheLinkDown =
+    Ends (make Down (lent ∷ []) (up_and_mapped ++ out 1 ∷ [])) (seen.Done (record { 0 = 0 }) None) Local false
 
 abbrev pub written_away : List Step
-written_away = up_and_mapped ++ out 1 ∷ map by (event.Take first ∷ event.Start ∷ event.Disk (which.Write (page 1)) true ∷ event.PageIn caller (page 1) ∷ [])
+written_away =
+    up_and_mapped ++ out 1
+    ∷ map by
+    (event.Take first ∷ event.Start ∷ event.Disk (which.Write (page 1)) true ∷ event.PageIn caller (page 1) ∷ [])
 
 abbrev pub ReadFindsTheLinkDown : Type 0
 ReadFindsTheLinkDown =
-    Ends (make (replicate 3 sent.Sent ++ sent.Down ∷ []) (lent ∷ brought (msg.Wrote (lease 5) 1) ∷ []) written_away) (seen.Wait via.Disk) Local false
-    × Ends (make [] (lent ∷ brought (msg.Wrote (lease 5) 1) ∷ []) written_away) (seen.Wait (via.Lender first)) (Mapped first (lease 5) 1) true
+    Ends (make (replicate 3 sent.Sent ++ sent.Down ∷ []) (lent ∷ brought (msg.Wrote (lease 5) 1) ∷ []) written_away)
+    (seen.Wait via.Disk) Local false
+    × Ends (make [] (lent ∷ brought (msg.Wrote (lease 5) 1) ∷ []) written_away) (seen.Wait (via.Lender first))
+    (Mapped first (lease 5) 1) true
 
 abbrev pub BorrowFindsTheLinkDown : Type 0
-BorrowFindsTheLinkDown = Ends (make (sent.Sent ∷ sent.Down ∷ []) [] (map by (event.Connect first ∷ event.Map (slab 0) first ∷ []))) seen.Borrowing Local false
+BorrowFindsTheLinkDown =
+    Ends
+    (make (sent.Sent ∷ sent.Down ∷ []) [] (map by (event.Connect first ∷ event.Map (slab 0) first ∷ []))) seen.Borrowing
+    Local false
 
 abbrev pub GreetingFindsTheLinkDown : Type 0
-GreetingFindsTheLinkDown = Ends (make (sent.Down ∷ []) [] (by (event.Connect first) ∷ [])) (seen.Linked (record { 0 = 0 })) Local false
+GreetingFindsTheLinkDown =
+    Ends (make (sent.Down ∷ []) [] (by (event.Connect first) ∷ [])) (seen.Linked (record { 0 = 0 })) Local false
 
 -- a hot slab, its first lender down, and both; and a first lender that is lost while the slab asks both
 abbrev pub hits : List Step
@@ -165,21 +188,32 @@ both_up = map by (event.Connect first ∷ event.Connect second ∷ []) ++ hits
 
 abbrev pub QueryFindsTheLinkDown : Type 0
 QueryFindsTheLinkDown =
-    (last_seen (make (sent.Sent ∷ sent.Sent ∷ sent.Down ∷ []) [] (both_up ++ by (event.Tick 0) ∷ [])).0.0 ≡ seen.Asked (slab 0) second None)
-    × (last_seen (make (sent.Sent ∷ sent.Sent ∷ sent.Sent ∷ sent.Down ∷ []) [] (both_up ++ by (event.Tick 0) ∷ [])).0.0 ≡ seen.Asked (slab 0) first None)
-    × (last_seen (make (sent.Sent ∷ sent.Sent ∷ sent.Down ∷ sent.Down ∷ []) [] (both_up ++ by (event.Tick 0) ∷ [])).0.0 ≡ seen.Ticked)
+    (last_seen (make (sent.Sent ∷ sent.Sent ∷ sent.Down ∷ []) [] (both_up ++ by (event.Tick 0) ∷ [])).0.0
+    ≡ seen.Asked (slab 0) second None)
+    × (last_seen (make (sent.Sent ∷ sent.Sent ∷ sent.Sent ∷ sent.Down ∷ []) [] (both_up ++ by (event.Tick 0) ∷ [])).0.0
+    ≡ seen.Asked (slab 0) first None)
+    × (last_seen (make (sent.Sent ∷ sent.Sent ∷ sent.Down ∷ sent.Down ∷ []) [] (both_up ++ by (event.Tick 0) ∷ [])).0.0
+    ≡ seen.Ticked)
 
--- a slab is taken back: at once where nothing flies, and else once its write was answered, which sets no bit; a lease that
+-- a slab is taken back: at once where nothing flies, and else once its write was answered, which sets no bit; a lease
+-- that
 -- can't be given back is given up with the link
 abbrev pub taken_back : Handed
 taken_back = brought (msg.Evict (lease 5))
 
 abbrev pub SlabsAreGivenBack : Type 0
 SlabsAreGivenBack =
-    Ends (make [] (lent ∷ taken_back ∷ []) (up_and_mapped ++ by (event.Take first) ∷ [])) (seen.Took (msg.Evict (lease 5))) Local true
-    × Ends (make [] (lent ∷ taken_back ∷ []) (up_and_mapped ++ out 1 ∷ by (event.Take first) ∷ [])) (seen.Took (msg.Evict (lease 5))) (Draining first (lease 5) 1) true
-    × ((make [] (lent ∷ taken_back ∷ brought (msg.Wrote (lease 5) 1) ∷ []) (up_and_mapped ++ out 1 ∷ map by (event.Take first ∷ event.Take first ∷ []))).0.1.remote.bits ≡ replicate 8 false)
-    × Ends (make (sent.Sent ∷ sent.Sent ∷ sent.Down ∷ []) (lent ∷ taken_back ∷ []) (up_and_mapped ++ by (event.Take first) ∷ [])) (seen.Took (msg.Evict (lease 5))) Local false
+    Ends (make [] (lent ∷ taken_back ∷ []) (up_and_mapped ++ by (event.Take first) ∷ []))
+    (seen.Took (msg.Evict (lease 5))) Local true
+    × Ends (make [] (lent ∷ taken_back ∷ []) (up_and_mapped ++ out 1 ∷ by (event.Take first) ∷ []))
+    (seen.Took (msg.Evict (lease 5))) (Draining first (lease 5) 1) true
+    × ((make [] (lent ∷ taken_back ∷ brought (msg.Wrote (lease 5) 1) ∷ [])
+    (up_and_mapped ++ out 1 ∷ map by (event.Take first ∷ event.Take first ∷ []))).0.1.remote.bits
+    ≡ replicate 8 false)
+    × Ends
+    (make (sent.Sent ∷ sent.Sent ∷ sent.Down ∷ []) (lent ∷ taken_back ∷ [])
+    (up_and_mapped ++ by (event.Take first) ∷ []))
+    (seen.Took (msg.Evict (lease 5))) Local false
 
 -- the last reply of an asking slab is a loss: it borrows from the other; and where that link is down it's local
 abbrev pub room_of_second : Handed
@@ -191,4 +225,6 @@ loses_first = both_up ++ map by (event.Tick 0 ∷ event.Take second ∷ event.Ta
 abbrev pub LossMakesTheChoice : Type 0
 LossMakesTheChoice =
     Ends (make [] (room_of_second ∷ LinkLost ∷ []) loses_first) seen.Lost (Borrowing second) false
-    × Ends (make (replicate 4 sent.Sent ++ sent.Down ∷ []) (room_of_second ∷ LinkLost ∷ []) loses_first) seen.Lost Local false
+    × Ends
+    (make (replicate 4 sent.Sent ++ sent.Down ∷ []) (room_of_second ∷ LinkLost ∷ []) loses_first) seen.Lost Local
+    false

@@ -35,12 +35,17 @@ pub data Linked (d : Device) : Device → Type 0 where
 
 -- an event that is a step of a page-out, and of a page-in
 pub data StepOut (d : Device) (page : List ℕ) : Event → Caller → Page → List ℕ → Type 0 where
-  begins_out : {c : Caller} {p : Page} → is_idle (state_of d.calls c) ≡ true → StepOut d page (event.PageOut c p) c p page
-  goes_on_out : {c : Caller} {p : Page} {since : ℕ} → state_of d.calls c ≡ Room p since → StepOut d page (event.Finish c) c p (call_of d.calls c).bytes
+  begins_out :
+      {c : Caller} {p : Page} → is_idle (state_of d.calls c) ≡ true → StepOut d page (event.PageOut c p) c p page
+  goes_on_out :
+      {c : Caller} {p : Page} {since : ℕ} → state_of d.calls c ≡ Room p since
+      → StepOut d page (event.Finish c) c p (call_of d.calls c).bytes
 
 pub data StepIn (d : Device) : Event → Caller → Page → Type 0 where
   begins_in : {c : Caller} {p : Page} → is_idle (state_of d.calls c) ≡ true → StepIn d (event.PageIn c p) c p
-  goes_on_in : {c : Caller} {p : Page} {n : EntryNo} {v : Via} {how : Arrived} {newer : Bool} {since : ℕ} → state_of d.calls c ≡ Reading p n v how newer since → StepIn d (event.Finish c) c p
+  goes_on_in :
+      {c : Caller} {p : Page} {n : EntryNo} {v : Via} {how : Arrived} {newer : Bool} {since : ℕ}
+      → state_of d.calls c ≡ Reading p n v how newer since → StepIn d (event.Finish c) c p
 
 abbrev pub wait_seen : {d : Device} {e : Event} {c : Caller} {p : Page} → StepIn d e c p → Via → Seen
 wait_seen (begins_in idle) v = seen.Wait v
@@ -79,15 +84,40 @@ is_of_link _ = false
 pub data Comes : Device → List ℕ → Event → Device → Seen → Type 0 where
   refuses : {d : Device} {page : List ℕ} {e : Event} → is_new e ≡ true → Comes d page e d seen.Busy
   rests : {d : Device} {page : List ℕ} {e : Event} {s : Seen} → is_new e ≡ false → is_rest s ≡ true → Comes d page e d s
-  accepts : {d : Device} {page : List ℕ} {e : Event} {c : Caller} {p : Page} {bytes : List ℕ} {d' : Device} {to : Option Lender} → StepOut d page e c p bytes → Linked (enter d c p bytes) d' → Comes d page e d' (seen.Done (next_name d.history) to)
-  gives_page : {d : Device} {page : List ℕ} {e : Event} {c : Caller} {p : Page} {named : Option EntryNo} {from : Origin} {bytes : List ℕ} → StepIn d e c p → Comes d page e (give d c p named from bytes) (seen.Done (next_name d.history) None)
-  fails : {d : Device} {page : List ℕ} {c : Caller} {p : Page} {k : CallKind} {since at : ℕ} {bytes : List ℕ} → Faults d c p k since at bytes → Comes d page (event.Finish c) (fault d c p k since at bytes) (seen.Fault (next_name d.history))
-  keeps_page : {d : Device} {page : List ℕ} {c : Caller} {p : Page} → is_idle (state_of d.calls c) ≡ true → Comes d page (event.PageOut c p) (wait_for_room d c p page) seen.Room
-  reads : {d : Device} {page : List ℕ} {e : Event} {c : Caller} {p : Page} {n : EntryNo} {d' : Device} (v : Via) (step : StepIn d e c p) → last d.history p ≡ Some n → Linked d d' → Comes d page e (record d' { calls = calls.reads d'.calls c p n v d'.failed_reads }) (wait_seen step v)
-  starts_write : {d : Device} {page : List ℕ} {p : Page} {n : EntryNo} → Comes d page event.Start (record d { queue = queue.start d.queue }) (seen.Started p n)
-  takes_back : {d : Device} {page : List ℕ} {w : DiskWhich} {ok : Bool} (taken : Option Taken) → Comes d page (event.Disk w ok) (took_back d taken).0 (see_disk (took_back d taken).1)
-  links : {d : Device} {page : List ℕ} {e : Event} {s : Seen} {d' : Device} → is_new e ≡ false → is_of_link s ≡ true → Linked d d' → Comes d page e d' s
-  brings : {d : Device} {page : List ℕ} {l : Lender} {m : Msg} {d' : Device} (c : Caller) (bytes : List ℕ) (r : Remote) → Linked (record d { remote = r; calls = calls.came d.calls c bytes }) d' → Comes d page (event.Take l) d' (seen.Took m)
+  accepts :
+      {d : Device} {page : List ℕ} {e : Event} {c : Caller} {p : Page} {bytes : List ℕ} {d' : Device}
+      {to : Option Lender}
+      → StepOut d page e c p bytes → Linked (enter d c p bytes) d'
+      → Comes d page e d' (seen.Done (next_name d.history) to)
+  gives_page :
+      {d : Device} {page : List ℕ} {e : Event} {c : Caller} {p : Page} {named : Option EntryNo} {from : Origin}
+      {bytes : List ℕ}
+      → StepIn d e c p → Comes d page e (give d c p named from bytes) (seen.Done (next_name d.history) None)
+  fails :
+      {d : Device} {page : List ℕ} {c : Caller} {p : Page} {k : CallKind} {since at : ℕ} {bytes : List ℕ}
+      → Faults d c p k since at bytes
+      → Comes d page (event.Finish c) (fault d c p k since at bytes) (seen.Fault (next_name d.history))
+  keeps_page :
+      {d : Device} {page : List ℕ} {c : Caller} {p : Page} → is_idle (state_of d.calls c) ≡ true
+      → Comes d page (event.PageOut c p) (wait_for_room d c p page) seen.Room
+  reads :
+      {d : Device} {page : List ℕ} {e : Event} {c : Caller} {p : Page} {n : EntryNo} {d' : Device} (v : Via)
+      (step : StepIn d e c p)
+      → last d.history p ≡ Some n → Linked d d'
+      → Comes d page e (record d' { calls = calls.reads d'.calls c p n v d'.failed_reads }) (wait_seen step v)
+  starts_write :
+      {d : Device} {page : List ℕ} {p : Page} {n : EntryNo}
+      → Comes d page event.Start (record d { queue = queue.start d.queue }) (seen.Started p n)
+  takes_back :
+      {d : Device} {page : List ℕ} {w : DiskWhich} {ok : Bool} (taken : Option Taken)
+      → Comes d page (event.Disk w ok) (took_back d taken).0 (see_disk (took_back d taken).1)
+  links :
+      {d : Device} {page : List ℕ} {e : Event} {s : Seen} {d' : Device} → is_new e ≡ false → is_of_link s ≡ true
+      → Linked d d' → Comes d page e d' s
+  brings :
+      {d : Device} {page : List ℕ} {l : Lender} {m : Msg} {d' : Device} (c : Caller) (bytes : List ℕ) (r : Remote)
+      → Linked (record d { remote = r; calls = calls.came d.calls c bytes }) d'
+      → Comes d page (event.Take l) d' (seen.Took m)
 
 -- the events that hit a slab or end the periods of all, and what is seen where they do
 abbrev pub rates_slabs : Event → Bool

@@ -115,11 +115,13 @@ enter d c p bytes =
 
 -- an answered page-in
 abbrev pub give : Device → Caller → Page → Option EntryNo → Origin → List ℕ → Device
-give d c p named from bytes = record d { history = pushed d.history c p (op.PageIn named from) bytes; calls = calls.ended d.calls c }
+give d c p named from bytes =
+    record d { history = pushed d.history c p (op.PageIn named from) bytes; calls = calls.ended d.calls c }
 
 -- a call that a failure of the disk ends
 abbrev pub fault : Device → Caller → Page → CallKind → ℕ → ℕ → List ℕ → Device
-fault d c p kind since at bytes = record d { history = pushed d.history c p (op.Failed kind since at) bytes; calls = calls.ended d.calls c }
+fault d c p kind since at bytes =
+    record d { history = pushed d.history c p (op.Failed kind since at) bytes; calls = calls.ended d.calls c }
 
 -- a page-out that is kept until the queue has room
 abbrev pub wait_for_room : Device → Caller → Page → List ℕ → Device
@@ -146,18 +148,25 @@ abbrev pub write_sent : Device → Lender → Page → EntryNo → Device
 write_sent d l p e = record d { remote = remote.sent_for d.sizes d.remote l p (request.Write p e) }
 
 abbrev pub read_sent : Device → Lender → Caller → Page → EntryNo → Device
-read_sent d l c p newest = record d { remote = remote.sent_for d.sizes d.remote l p (request.Read c p); calls = calls.reads d.calls c p newest (via.Lender l) d.failed_reads }
+read_sent d l c p newest =
+    record d {
+      remote = remote.sent_for d.sizes d.remote l p (request.Read c p);
+      calls = calls.reads d.calls c p newest (via.Lender l) d.failed_reads;
+    }
 
 -- a local slab is borrowed from a lender whose link takes a request; `down` is what happens where the link is down
 abbrev pub may_map : Device → Slab → Lender → Bool
-may_map d slab l = slabs.is_local (slabs.state_of d.remote.slabs slab) && rings.may_send d.sizes.window (rings.link_of d.remote.links l)
+may_map d slab l =
+    slabs.is_local (slabs.state_of d.remote.slabs slab)
+    && rings.may_send d.sizes.window (rings.link_of d.remote.links l)
 
 abbrev pub after_borrow : (Device → Lender → Prog Device) → Device → Slab → Lender → Sent → Prog Device
 after_borrow down d slab l sent.Sent = Ret (record d { remote = remote.borrow_sent d.remote slab l })
 after_borrow down d slab l sent.Down = down d l
 
 abbrev pub borrow_from : (Device → Lender → Prog Device) → Device → Slab → Lender → Prog Device
-borrow_from down d slab l = if may_map d slab l then AskFabric (Send l (parcel_of (msg.Borrow slab) [])) (after_borrow down d slab l) else Ret d
+borrow_from down d slab l =
+    if may_map d slab l then AskFabric (Send l (parcel_of (msg.Borrow slab) [])) (after_borrow down d slab l) else Ret d
 
 -- the slab and the lender of a choice that is due
 abbrev pub chosen_for : Slab → Option Chosen → Option (Slab × Lender)
@@ -172,13 +181,18 @@ choose down d (Some at) = borrow_from down d at.0 at.1
 
 -- a slab that asked a lender which is gone waits no more for its reply
 abbrev pub give_up_one : (Device → Lender → Prog Device) → Device → Lender → Slab → Prog Device
-give_up_one down d l slab = choose down (record d { remote = remote.gone d.remote l slab }) (chosen_for slab (slabs.answer_choice (slabs.state_of d.remote.slabs slab) l reply.Gone))
+give_up_one down d l slab =
+    choose down (record d { remote = remote.gone d.remote l slab })
+    (chosen_for slab (slabs.answer_choice (slabs.state_of d.remote.slabs slab) l reply.Gone))
 
 -- so each such slab of these many from the n-th on, in order
 abbrev pub give_up : (Device → Lender → Prog Device) → ℕ → ℕ → Device → Lender → Prog Device
 give_up down zero n d l = Ret d
 give_up down (suc left) n d l =
-    and_then (if slabs.asks l (slabs.state_of d.remote.slabs (record { 0 = n })) then give_up_one down d l (record { 0 = n }) else Ret d) (λ e. give_up down left (n + 1) e l)
+    and_then
+    (if slabs.asks l (slabs.state_of d.remote.slabs (record { 0 = n })) then give_up_one down d l (record { 0 = n })
+    else Ret d)
+    (λ e. give_up down left (n + 1) e l)
 
 -- A link is lost: the slabs at its lender are local, the calls that wait through it are lost, and each slab that asked
 -- its lender waits no more. A choice that is due then may find the next link down. Each loss takes one link, so that no
@@ -200,7 +214,8 @@ after_write d l p e sent.Down = answering sent_nowhere (lose d l)
 
 abbrev pub write_to : Device → Page → EntryNo → List ℕ → Option (Lender × Lease) → Prog (Device × Option Lender)
 write_to d p e bytes None = Ret (d, None)
-write_to d p e bytes (Some at) = AskFabric (Send at.0 (parcel_of (msg.Write at.1 (place_of d.sizes p.0)) bytes)) (after_write d at.0 p e)
+write_to d p e bytes (Some at) =
+    AskFabric (Send at.0 (parcel_of (msg.Write at.1 (place_of d.sizes p.0)) bytes)) (after_write d at.0 p e)
 
 abbrev pub accept : Device → Caller → Page → List ℕ → Prog (Device × Option Lender)
 accept d c p bytes = write_to (enter d c p bytes) p (next_name d.history) bytes (remote.target d.sizes d.remote p)
@@ -216,7 +231,8 @@ after_read d l c p newest sent.Down = and_then (lose d l) (λ e. read_disk e c p
 
 abbrev pub read_at : Device → Caller → Page → EntryNo → Option (Lender × Lease) → Prog (Device × InStep)
 read_at d c p newest None = read_disk d c p newest
-read_at d c p newest (Some at) = AskFabric (Send at.0 (parcel_of (msg.Read at.1 (place_of d.sizes p.0)) [])) (after_read d at.0 c p newest)
+read_at d c p newest (Some at) =
+    AskFabric (Send at.0 (parcel_of (msg.Read at.1 (place_of d.sizes p.0)) [])) (after_read d at.0 c p newest)
 
 -- where remote memory can be read for a page now
 abbrev pub source : Device → Page → Option (Lender × Lease)
@@ -225,7 +241,8 @@ source d p = if remote.has_page d.remote p then remote.target d.sizes d.remote p
 -- where a page is read: nowhere without a newest entry, then the queue, then remote memory, then the disk
 abbrev pub route_by : Device → Caller → Page → Option EntryNo → Option Copy → Prog (Device × InStep)
 route_by d c p None copy = Ret (give d c p None origin.Zero (zeros d.sizes), ins.Done (next_name d.history))
-route_by d c p (Some newest) (Some copy) = Ret (give d c p (Some newest) origin.Queue copy.bytes, ins.Done (next_name d.history))
+route_by d c p (Some newest) (Some copy) =
+    Ret (give d c p (Some newest) origin.Queue copy.bytes, ins.Done (next_name d.history))
 route_by d c p (Some newest) None = read_at d c p newest (source d p)
 
 abbrev pub route : Device → Caller → Page → Prog (Device × InStep)
@@ -237,7 +254,8 @@ accepted entry r = (r.0, outs.Done entry r.1)
 
 abbrev pub put : Device → Caller → Page → List ℕ → Prog (Device × OutStep)
 put d c p bytes =
-    if queue.has_room d.queue p then answering (accepted (next_name d.history)) (accept d c p bytes) else Ret (wait_for_room d c p bytes, outs.Room)
+    if queue.has_room d.queue p then answering (accepted (next_name d.history)) (accept d c p bytes)
+    else Ret (wait_for_room d c p bytes, outs.Room)
 
 abbrev pub out : Device → Caller → Page → List ℕ → Prog (Device × OutStep)
 out d c p bytes = put (hit d p) c p bytes
@@ -263,7 +281,9 @@ abbrev pub finish_out : Device → Caller → Page → ℕ → List ℕ → Prog
 finish_out d c p since bytes =
     if queue.has_room d.queue p then answering (accepted_late (next_name d.history)) (accept d c p bytes)
     else
-    (if nat_lt since d.failed_writes then Ret (fault d c p kind.PageOut since d.failed_writes bytes, steps.Fault (next_name d.history) since d.failed_writes)
+    (if nat_lt since d.failed_writes
+    then Ret
+    (fault d c p kind.PageOut since d.failed_writes bytes, steps.Fault (next_name d.history) since d.failed_writes)
     else Ret (d, steps.Room))
 
 -- a later step of a call that isn't idle, by its state
@@ -271,9 +291,13 @@ abbrev pub finish_by : Device → Caller → List ℕ → CallState → Prog (De
 finish_by d c bytes Idle = Ret (d, steps.Room)
 finish_by d c bytes (Room p since) = finish_out d c p since bytes
 finish_by d c bytes (Reading p newest via arrived.Waiting newer since) = Ret (d, steps.Wait via)
-finish_by d c bytes (Reading p newest via arrived.Came false since) = Ret (give d c p (Some newest) (origin_of via) bytes, steps.Done (next_name d.history) None)
+finish_by d c bytes (Reading p newest via arrived.Came false since) =
+    Ret (give d c p (Some newest) (origin_of via) bytes, steps.Done (next_name d.history) None)
 finish_by d c bytes (Reading p newest via arrived.Failed false since) =
-    Ret (fault d c p kind.PageIn since d.failed_reads (zeros d.sizes), steps.Fault (next_name d.history) since d.failed_reads)
+    Ret (
+      fault d c p kind.PageIn since d.failed_reads (zeros d.sizes),
+      steps.Fault (next_name d.history) since d.failed_reads,
+    )
 finish_by d c bytes (Reading p newest via _ newer since) = answering routed_again (route d c p)
 
 abbrev pub finish : Device → Caller → Prog (Device × Step)
@@ -282,7 +306,8 @@ finish d c = finish_by d c (calls.call_of d.calls c).bytes (calls.state_of d.cal
 -- the copy at the front of the line goes to the disk
 abbrev pub start_copy : Device → Page → Option Copy → Prog (Device × Option (Page × EntryNo))
 start_copy d p None = Ret (d, None)
-start_copy d p (Some copy) = AskDisk (StartWrite p copy.bytes) (λ _. Ret (record d { queue = queue.start d.queue }, Some (p, copy.entry)))
+start_copy d p (Some copy) =
+    AskDisk (StartWrite p copy.bytes) (λ _. Ret (record d { queue = queue.start d.queue }, Some (p, copy.entry)))
 
 abbrev pub start_front : Device → List Page → Prog (Device × Option (Page × EntryNo))
 start_front d [] = Ret (d, None)
@@ -295,14 +320,17 @@ disk_start d = start_front d d.queue.line
 abbrev pub wrote : Device → Page → Option Copy → Bool → Device × DiskStep
 wrote d p None ok = (d, disk.Nothing)
 wrote d p (Some copy) true = (record d { queue = queue.done d.queue p }, disk.Written p copy.entry)
-wrote d p (Some copy) false =
-    (record d { queue = queue.failed d.queue p; failed_writes = d.failed_writes + 1 }, if is_none (queue.next d.queue p) then disk.Kept p copy.entry else disk.Dropped p copy.entry)
+wrote d p (Some copy) false = (
+  record d { queue = queue.failed d.queue p; failed_writes = d.failed_writes + 1 },
+  if is_none (queue.next d.queue p) then disk.Kept p copy.entry else disk.Dropped p copy.entry,
+)
 
 -- an operation that the disk gave back
 abbrev pub took : Device → DiskWhich → Page → Bool → List ℕ → Device × DiskStep
 took d (which.Write q) p ok bytes = wrote d p (queue.flying d.queue p) ok
 took d (which.Read c) p true bytes = (record d { calls = calls.came d.calls c bytes }, disk.Came c p)
-took d (which.Read c) p false bytes = (record d { calls = calls.failed d.calls c; failed_reads = d.failed_reads + 1 }, disk.Failed c p)
+took d (which.Read c) p false bytes =
+    (record d { calls = calls.failed d.calls c; failed_reads = d.failed_reads + 1 }, disk.Failed c p)
 
 abbrev pub took_back : Device → Option Taken → Device × DiskStep
 took_back d None = (d, disk.Nothing)
@@ -361,13 +389,20 @@ abbrev pub query_answered : Device → Lender → Slab → Option (Slab × ℕ) 
 query_answered d l slab None = None
 query_answered d l slab (Some told) =
     if told.0.0 == slab.0
-    then Some (record { device = record d { remote = remote.told d.remote l slab told.1 }; word = None; choice = chosen_for slab (slabs.answer_choice (slabs.state_of d.remote.slabs slab) l (reply.Free told.1)) })
+    then Some
+    (record {
+      device = record d { remote = remote.told d.remote l slab told.1 };
+      word = None;
+      choice = chosen_for slab (slabs.answer_choice (slabs.state_of d.remote.slabs slab) l (reply.Free told.1));
+    })
     else None
 
 -- a slab that was lent is mapped, where no slab at the lender has this lease; one that was refused is local
 abbrev pub lent_or_refused : Device → Lender → Slab → Option Lease → Option Heard
 lent_or_refused d l slab None = Some (only (record d { remote = remote.refused d.remote l slab }))
-lent_or_refused d l slab (Some lease) = if is_none (slabs.by_lease d.remote.slabs l lease) then Some (only (record d { remote = remote.lent d.remote l slab lease })) else None
+lent_or_refused d l slab (Some lease) =
+    if is_none (slabs.by_lease d.remote.slabs l lease)
+    then Some (only (record d { remote = remote.lent d.remote l slab lease })) else None
 
 abbrev pub borrow_answered : Device → Lender → Slab → Option (Slab × Option Lease) → Option Heard
 borrow_answered d l slab None = None
@@ -386,7 +421,12 @@ abbrev pub write_answered : Device → Lender → Page → EntryNo → Option (L
 write_answered d l p e None = None
 write_answered d l p e (Some at) =
     if remote.names_page d.sizes d.remote l p at.0 at.1
-    then Some (record { device = record d { remote = remote.written d.sizes d.remote l p (is_newest (last d.history p) e) }; word = settled_word d p; choice = None })
+    then Some
+    (record {
+      device = record d { remote = remote.written d.sizes d.remote l p (is_newest (last d.history p) e) };
+      word = settled_word d p;
+      choice = None;
+    })
     else None
 
 -- a read that came back
@@ -394,7 +434,12 @@ abbrev pub read_answered : Device → Lender → Caller → Page → List ℕ �
 read_answered d l c p bytes None = None
 read_answered d l c p bytes (Some at) =
     if remote.names_page d.sizes d.remote l p at.0 at.1
-    then Some (record { device = record d { remote = remote.settled_for d.sizes d.remote l p; calls = calls.came d.calls c bytes }; word = settled_word d p; choice = None })
+    then Some
+    (record {
+      device = record d { remote = remote.settled_for d.sizes d.remote l p; calls = calls.came d.calls c bytes };
+      word = settled_word d p;
+      choice = None;
+    })
     else None
 
 -- what a message does that answers the oldest request of its link
@@ -408,12 +453,20 @@ answered d l parcel (Some (request.Read c p)) = read_answered d l c p parcel.pag
 -- a lender asks for the rate of the slab that is mapped there with this lease
 abbrev pub rate_told : Device → Lease → Option Slab → Option Heard
 rate_told d lease None = None
-rate_told d lease (Some slab) = Some (record { device = d; word = Some (parcel_of (msg.Rates lease (rates.value_of d.rates slab)) []); choice = None })
+rate_told d lease (Some slab) =
+    Some
+    (record { device = d; word = Some (parcel_of (msg.Rates lease (rates.value_of d.rates slab)) []); choice = None })
 
 -- a lender takes it back: no page of it can be read, and it drains
 abbrev pub evicted : Device → Option Slab → Option Heard
 evicted d None = None
-evicted d (Some slab) = Some (record { device = record d { remote = remote.evicted d.sizes d.remote slab }; word = done_word (slabs.evicted_lease (slabs.state_of d.remote.slabs slab)); choice = None })
+evicted d (Some slab) =
+    Some
+    (record {
+      device = record d { remote = remote.evicted d.sizes d.remote slab };
+      word = done_word (slabs.evicted_lease (slabs.state_of d.remote.slabs slab));
+      choice = None;
+    })
 
 -- what a message does; no other is allowed
 abbrev pub heard_by : Device → Lender → Parcel → Option Request → Option Lease → Option Lease → Option Heard
@@ -446,7 +499,8 @@ understood d l m (Some heard) = answering (with_step (link.Got m)) (follow heard
 understood d l m None = AskFabric (End l) (λ _. answering (with_step link.Lied) (lose d l))
 
 abbrev pub took_from : Device → Lender → Handed → Prog (Device × LinkStep)
-took_from d l (Brought parcel) = understood d l parcel.msg (heard d l parcel (rings.oldest (rings.ring_of d.remote.links l)))
+took_from d l (Brought parcel) =
+    understood d l parcel.msg (heard d l parcel (rings.oldest (rings.ring_of d.remote.links l)))
 took_from d l NothingCame = Ret (d, link.Nothing)
 took_from d l LinkLost = answering (with_step link.Lost) (lose d l)
 
@@ -474,7 +528,9 @@ after_query d slab first l sent.Sent = Ret (record d { remote = remote.query_sen
 after_query d slab first l sent.Down = answering not_asked (lose d l)
 
 abbrev pub query : Device → Slab → Option Lender → Lender → Prog (Device × Bool)
-query d slab first l = if may_ask d slab first l then AskFabric (Send l (parcel_of (msg.Query slab) [])) (after_query d slab first l) else Ret (d, false)
+query d slab first l =
+    if may_ask d slab first l then AskFabric (Send l (parcel_of (msg.Query slab) [])) (after_query d slab first l)
+    else Ret (d, false)
 
 -- those that were asked, of a first and a second
 abbrev pub placed_at : Slab → Lender → Bool → Option Placed
@@ -489,13 +545,15 @@ abbrev pub ask_one : Device → Slab → Lender → Prog (Device × Option Place
 ask_one d slab l = answering (λ r. (r.0, placed_at slab l r.1)) (query d slab None l)
 
 abbrev pub ask_second : Slab → Lender → Lender → Device × Bool → Prog (Device × Option Placed)
-ask_second slab first second (d, true) = answering (λ r. (r.0, placed_beside slab first second r.1)) (query d slab (Some first) second)
+ask_second slab first second (d, true) =
+    answering (λ r. (r.0, placed_beside slab first second r.1)) (query d slab (Some first) second)
 ask_second slab first second (d, false) = ask_one d slab second
 
 abbrev pub ask : Device → Slab → Asked → Prog (Device × Option Placed)
 ask d slab picked.Nobody = Ret (d, None)
 ask d slab (picked.One n) = ask_one d slab (record { 0 = n })
-ask d slab (picked.Two n m) = and_then (query d slab None (record { 0 = n })) (ask_second slab (record { 0 = n }) (record { 0 = m }))
+ask d slab (picked.Two n m) =
+    and_then (query d slab None (record { 0 = n })) (ask_second slab (record { 0 = n }) (record { 0 = m }))
 
 -- the hottest local slab is asked for, of two lenders
 abbrev pub place_at : Device → ℕ → Option Slab → Prog (Device × Option Placed)
@@ -523,13 +581,16 @@ abbrev pub with_link : Link → Device → Device × Option Link
 with_link n d = (d, Some n)
 
 abbrev pub connect_on : Device → Lender → Prog (Device × Option Link)
-connect_on d l = AskFabric (Connect l (next_link d)) (λ _. answering (with_link (next_link d)) (say (raised d l) l (Some (hello d.sizes))))
+connect_on d l =
+    AskFabric (Connect l (next_link d))
+    (λ _. answering (with_link (next_link d)) (say (raised d l) l (Some (hello d.sizes))))
 
 abbrev pub without_link : Device → Lender → Prog Device
 without_link d l = if rings.is_up d.remote.links l then lose d l else Ret d
 
 abbrev pub connect : Device → Lender → Prog (Device × Option Link)
-connect d l = if nat_lt d.links_made MOST_LINKS then and_then (without_link d l) (λ e. connect_on e l) else Ret (d, None)
+connect d l =
+    if nat_lt d.links_made MOST_LINKS then and_then (without_link d l) (λ e. connect_on e l) else Ret (d, None)
 
 -- the far side of the links moves, where the fabric holds it
 abbrev pub give_to : Device → Lender → Prog (Device × Gave)

@@ -32,13 +32,15 @@ MayGive told answers (origin.Lender l) content bytes = answers content bytes
 
 abbrev pub GivesWhatItMay : Bool → (List ℕ → List ℕ → Type 0) → List ℕ → History → Row → Op → Type 0
 GivesWhatItMay told answers zeros H row PageOut = Unit {0}
-GivesWhatItMay told answers zeros H row (PageIn named from) = MayGive told answers from (array zeros H row.entry.page) row.bytes
+GivesWhatItMay told answers zeros H row (PageIn named from) =
+    MayGive told answers from (array zeros H row.entry.page) row.bytes
 GivesWhatItMay told answers zeros H row (Failed kind since at) = Unit {0}
 
 -- each page-in gives what it may for the page's content
 abbrev pub IsFaithfulOver : Bool → (List ℕ → List ℕ → Type 0) → List ℕ → History → Type 0
 IsFaithfulOver told answers zeros [] = Unit {0}
-IsFaithfulOver told answers zeros (row ∷ H) = GivesWhatItMay told answers zeros H row row.entry.op × IsFaithfulOver told answers zeros H
+IsFaithfulOver told answers zeros (row ∷ H) =
+    GivesWhatItMay told answers zeros H row row.entry.op × IsFaithfulOver told answers zeros H
 
 -- a read that failed saw the count of failed reads rise
 abbrev pub SawFailure : Arrived → ℕ → ℕ → Type 0
@@ -47,7 +49,8 @@ SawFailure _ since reads = Unit {0}
 
 -- a call that reads and isn't newer keeps the last page-out of its page
 abbrev pub KeepsNewest : History → ℕ → CallState → Type 0
-KeepsNewest H reads (Reading page newest via how newer since) = (newer ≡ false → last H page ≡ Some newest) × (since ≤ reads) × SawFailure how since reads
+KeepsNewest H reads (Reading page newest via how newer since) =
+    (newer ≡ false → last H page ≡ Some newest) × (since ≤ reads) × SawFailure how since reads
 KeepsNewest H reads _ = Unit {0}
 
 -- history and calls are in order
@@ -66,7 +69,8 @@ IsBlock (Some block) content = block ≡ content
 
 -- the newest copy of a page is its content in the array; where there is none, its block is
 abbrev pub HoldsPage : Places → Option (List ℕ) → List ℕ → Type 0
-HoldsPage places block content = MatchOption (first_of places.next places.flying) (IsBlock block content) (λ (copy : Copy). copy.bytes ≡ content)
+HoldsPage places block content =
+    MatchOption (first_of places.next places.flying) (IsBlock block content) (λ (copy : Copy). copy.bytes ≡ content)
 
 -- a copy flies, with these bytes where they are told
 abbrev pub IsCopyOf : Bool → List ℕ → Option Copy → Type 0
@@ -81,7 +85,8 @@ WaitsFor page _ = ⊥
 -- a write in flight is of the copy that flies; a read in flight is waited for
 abbrev pub IsExpected : Bool → ℕ → ℕ → Queue → Calls → Flight → Type 0
 IsExpected told pages callers q calls (Write page bytes) = (page.0 < pages) × IsCopyOf told bytes (flying q page)
-IsExpected told pages callers q calls (Read caller page) = (caller.0 < callers) × (page.0 < pages) × WaitsFor page (state_of calls caller)
+IsExpected told pages callers q calls (Read caller page) =
+    (caller.0 < callers) × (page.0 < pages) × WaitsFor page (state_of calls caller)
 
 abbrev pub IsOther : Flight → Flight → Type 0
 IsOther f g = same_which (which_of f) (which_of g) ≡ false
@@ -105,7 +110,8 @@ IsSettled blocks (Read caller page) ok = Unit {0}
 -- an operation that has finished and isn't taken is in flight
 abbrev pub IsUnderWay : Option (List (List ℕ)) → List Flight → Option Finished → Type 0
 IsUnderWay blocks flights None = Unit {0}
-IsUnderWay blocks flights (Some f) = (find (is_flight_of (which_of f.flight)) flights ≡ Some f.flight) × IsSettled blocks f.flight f.ok
+IsUnderWay blocks flights (Some f) =
+    (find (is_flight_of (which_of f.flight)) flights ≡ Some f.flight) × IsSettled blocks f.flight f.ok
 
 -- a page in the line has a next copy, and none that flies
 abbrev pub IsInLine : ℕ → Queue → Page → Type 0
@@ -124,9 +130,12 @@ Brings told answers q content page bytes via _ = Unit {0}
 abbrev pub IsFair : Bool → (List ℕ → List ℕ → Type 0) → ℕ → List ℕ → History → Queue → List ℕ → CallState → Type 0
 IsFair told answers pages zeros H q bytes Idle = Unit {0}
 IsFair told answers pages zeros H q bytes (Room page since) = page.0 < pages
-IsFair told answers pages zeros H q bytes (Reading page newest via how newer since) = (page.0 < pages) × (newer ≡ false → Brings told answers q (array zeros H page) page bytes via how)
+IsFair told answers pages zeros H q bytes (Reading page newest via how newer since) =
+    (page.0 < pages) × (newer ≡ false → Brings told answers q (array zeros H page) page bytes via how)
 
-pub record Agrees (told : Bool) (answers : List ℕ → List ℕ → Type 0) (pages callers : ℕ) (zeros : List ℕ) (H : History) (q : Queue) (blocks : Option (List (List ℕ))) (flights : List Flight) (finished : Option Finished) (calls : Calls) : Type 0 where
+pub record Agrees (told : Bool) (answers : List ℕ → List ℕ → Type 0) (pages callers : ℕ) (zeros : List ℕ) (H : History)
+    (q : Queue) (blocks : Option (List (List ℕ))) (flights : List Flight) (finished : Option Finished)
+    (calls : Calls) : Type 0 where
   pub tells : is_some blocks ≡ told
   pub places_len : length q.places ≡ pages
   pub blocks_len : MatchOption blocks (Unit {0}) (λ bs. length bs ≡ pages)
@@ -142,7 +151,9 @@ pub record Agrees (told : Bool) (answers : List ℕ → List ℕ → Type 0) (pa
   pub faithful : IsFaithfulOver told answers zeros H
 
 abbrev pub AgreesAt : Bool → (List ℕ → List ℕ → Type 0) → Device → Port → Type 0
-AgreesAt told answers d p = Agrees told answers (pages_of d.sizes) d.sizes.callers (zeros d.sizes) d.history d.queue p.blocks p.flights p.finished d.calls
+AgreesAt told answers d p =
+    Agrees told answers (pages_of d.sizes) d.sizes.callers
+    (zeros d.sizes) d.history d.queue p.blocks p.flights p.finished d.calls
 
 -- what a device and its disk agree on
 pub record FitsDisk (told : Bool) (answers : List ℕ → List ℕ → Type 0) (d : Device) (p : Port) : Type 0 where
@@ -151,7 +162,8 @@ pub record FitsDisk (told : Bool) (answers : List ℕ → List ℕ → Type 0) (
   pub agrees : AgreesAt told answers d p
 
 -- what a device, its disk and its fabric agree on, where the fabric keeps, owes and answers by these tests
-pub record Fits (told : Bool) (answers : List ℕ → List ℕ → Type 0) (keeps : Keeping) (owes : Owing) (d : Device) (p : Port) : Type 0 where
+pub record Fits (told : Bool) (answers : List ℕ → List ℕ → Type 0) (keeps : Keeping) (owes : Owing) (d : Device)
+    (p : Port) : Type 0 where
   pub disk : FitsDisk told answers d p
   pub serves : Serves keeps owes d.sizes d.lenders d.history d.calls d.remote
   pub accounts : Accounts answers d p.flights

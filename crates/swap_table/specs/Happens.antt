@@ -102,9 +102,12 @@ taken_if d false = Ret (d, seen.Nothing)
 
 -- what an event does to the device; a page-out's page stands beside it
 abbrev pub happens : Device → List ℕ → Event → Prog (Device × Seen)
-happens d page (event.PageOut c p) = if is_idle (state_of d.calls c) then seen_by see_out (device.out d c p page) else Ret (d, seen.Busy)
-happens d page (event.PageIn c p) = if is_idle (state_of d.calls c) then seen_by see_in (device.read d c p) else Ret (d, seen.Busy)
-happens d page (event.Finish c) = if is_idle (state_of d.calls c) then Ret (d, seen.Idle) else seen_by see_step (device.finish d c)
+happens d page (event.PageOut c p) =
+    if is_idle (state_of d.calls c) then seen_by see_out (device.out d c p page) else Ret (d, seen.Busy)
+happens d page (event.PageIn c p) =
+    if is_idle (state_of d.calls c) then seen_by see_in (device.read d c p) else Ret (d, seen.Busy)
+happens d page (event.Finish c) =
+    if is_idle (state_of d.calls c) then Ret (d, seen.Idle) else seen_by see_step (device.finish d c)
 happens d page event.Start = seen_by see_start (device.disk_start d)
 happens d page (event.Disk which ok) = AskDisk (LetFinish which ok) (taken_if d)
 happens d page (event.Tick word) = seen_by see_tick (device.tick d word)

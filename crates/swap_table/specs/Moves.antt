@@ -1,4 +1,5 @@
--- The moves of a device: what one call of a disk or of a fabric, with its answer, makes of it, and what it does by itself.
+-- The moves of a device: what one call of a disk or of a fabric, with its answer, makes of it, and what it does by
+-- itself.
 -- Each has for its premises what the program has tested by then.
 use Rattle.std.specs.Prelude.{◌≡◌, ℕ, ◌<◌, Bool, true, false, ◌==◌, nat_lt, List, [], ◌∷◌, length, Option, None, Some}
 use Rattle.swap_base.specs.declared.Page.{Page}
@@ -72,10 +73,26 @@ pub record Within : Type 1 where
 
 -- what there is, of these sizes and so many lenders; and anything
 abbrev pub of_sizes : Sizes → ℕ → (Lender → Type 0) → (List ℕ → Type 0) → Within
-of_sizes s lenders far may = record { page = λ p. p.0 < pages_of s; caller = λ c. c.0 < s.callers; slab = λ t. t.0 < s.slabs; lender = λ l. l.0 < lenders; far = far; bytes = may }
+of_sizes s lenders far may =
+    record {
+      page = λ p. p.0 < pages_of s;
+      caller = λ c. c.0 < s.callers;
+      slab = λ t. t.0 < s.slabs;
+      lender = λ l. l.0 < lenders;
+      far = far;
+      bytes = may;
+    }
 
 abbrev pub anything : Within
-anything = record { page = λ p. Unit {0}; caller = λ c. Unit {0}; slab = λ t. Unit {0}; lender = λ l. Unit {0}; far = λ l. Unit {0}; bytes = λ b. Unit {0} }
+anything =
+    record {
+      page = λ p. Unit {0};
+      caller = λ c. Unit {0};
+      slab = λ t. Unit {0};
+      lender = λ l. Unit {0};
+      far = λ l. Unit {0};
+      bytes = λ b. Unit {0};
+    }
 
 -- a page-out is accepted: of an idle caller that hands in a page that it may, or of one that waited for room
 pub data Outs (W : Within) (d : Device) (c : Caller) (p : Page) : List ℕ → Type 0 where
@@ -85,18 +102,29 @@ pub data Outs (W : Within) (d : Device) (c : Caller) (p : Page) : List ℕ → T
 -- a page is read: for an idle caller, or anew for one whose read has an answer
 pub data Ins (W : Within) (d : Device) (c : Caller) (p : Page) : Type 0 where
   new_in : is_idle (state_of d.calls c) ≡ true → W.page p → Ins W d c p
-  late_in : {n : EntryNo} {v : Via} {how : Arrived} {newer : Bool} {since : ℕ} → state_of d.calls c ≡ Reading p n v how newer since → may_read (Reading p n v how newer since) ≡ true → Ins W d c p
+  late_in :
+      {n : EntryNo} {v : Via} {how : Arrived} {newer : Bool} {since : ℕ}
+      → state_of d.calls c ≡ Reading p n v how newer since → may_read (Reading p n v how newer since) ≡ true
+      → Ins W d c p
 
 -- what a page-in gives: zeros, the queue's newest copy, or what its read brought
 pub data Gives (W : Within) (d : Device) (c : Caller) (p : Page) : Option EntryNo → Origin → List ℕ → Type 0 where
   zero : Ins W d c p → last d.history p ≡ None → Gives W d c p None origin.Zero (zeros d.sizes)
-  copied : {n : EntryNo} {copy : Copy} → Ins W d c p → last d.history p ≡ Some n → queue.newest d.queue p ≡ Some copy → Gives W d c p (Some n) origin.Queue copy.bytes
-  came : {n : EntryNo} {v : Via} {since : ℕ} → state_of d.calls c ≡ Reading p n v arrived.Came false since → Gives W d c p (Some n) (origin_of v) (call_of d.calls c).bytes
+  copied :
+      {n : EntryNo} {copy : Copy} → Ins W d c p → last d.history p ≡ Some n → queue.newest d.queue p ≡ Some copy
+      → Gives W d c p (Some n) origin.Queue copy.bytes
+  came :
+      {n : EntryNo} {v : Via} {since : ℕ} → state_of d.calls c ≡ Reading p n v arrived.Came false since
+      → Gives W d c p (Some n) (origin_of v) (call_of d.calls c).bytes
 
 -- a call fails: no room came, but a failed write; or its read failed
 pub data Faults (d : Device) (c : Caller) (p : Page) : CallKind → ℕ → ℕ → List ℕ → Type 0 where
-  full : {since : ℕ} → state_of d.calls c ≡ Room p since → nat_lt since d.failed_writes ≡ true → Faults d c p kind.PageOut since d.failed_writes (call_of d.calls c).bytes
-  unread : {n : EntryNo} {v : Via} {since : ℕ} → state_of d.calls c ≡ Reading p n v arrived.Failed false since → Faults d c p kind.PageIn since d.failed_reads (zeros d.sizes)
+  full :
+      {since : ℕ} → state_of d.calls c ≡ Room p since → nat_lt since d.failed_writes ≡ true
+      → Faults d c p kind.PageOut since d.failed_writes (call_of d.calls c).bytes
+  unread :
+      {n : EntryNo} {v : Via} {since : ℕ} → state_of d.calls c ≡ Reading p n v arrived.Failed false since
+      → Faults d c p kind.PageIn since d.failed_reads (zeros d.sizes)
 
 -- a slab that a caller names, or one that there is
 pub data Finds (W : Within) (d : Device) (t : Slab) : Type 0 where
@@ -105,30 +133,79 @@ pub data Finds (W : Within) (d : Device) (t : Slab) : Type 0 where
 
 -- what is sent to a lender; what the device is once it's sent, and what it is but for the link where the link is down
 pub data Sends (W : Within) (d : Device) (l : Lender) : Parcel → Device → Device → Type 0 where
-  write : {c : Caller} {p : Page} {k : Lease} {bytes : List ℕ} → Outs W d c p bytes → target d.sizes d.remote p ≡ Some (l, k)
-      → Sends W d l (write_parcel k (place_of d.sizes p.0) bytes) (write_sent (enter d c p bytes) l p (next_name d.history)) (enter d c p bytes)
-  read : {c : Caller} {p : Page} {k : Lease} {n : EntryNo} → Ins W d c p → W.caller c → last d.history p ≡ Some n → queue.newest d.queue p ≡ None → source d p ≡ Some (l, k)
+  write :
+      {c : Caller} {p : Page} {k : Lease} {bytes : List ℕ} → Outs W d c p bytes
+      → target d.sizes d.remote p ≡ Some (l, k)
+      → Sends W d l (write_parcel k (place_of d.sizes p.0) bytes)
+      (write_sent (enter d c p bytes) l p (next_name d.history)) (enter d c p bytes)
+  read :
+      {c : Caller} {p : Page} {k : Lease} {n : EntryNo} → Ins W d c p → W.caller c → last d.history p ≡ Some n
+      → queue.newest d.queue p ≡ None → source d p ≡ Some (l, k)
       → Sends W d l (read_parcel k (place_of d.sizes p.0)) (read_sent d l c p n) d
-  borrow : {t : Slab} → Finds W d t → may_map d t l ≡ true → Sends W d l (parcel_of (msg.Borrow t) []) (record d { remote = remote.borrow_sent d.remote t l }) d
-  query : {t : Slab} → t.0 < length d.remote.slabs → may_map d t l ≡ true → Sends W d l (parcel_of (msg.Query t) []) (record d { remote = remote.query_sent d.remote t None l }) d
-  query_too : {t : Slab} {m : Lender} → t.0 < length d.remote.slabs → slabs.state_of d.remote.slabs t ≡ Asking (slabs.pair_of m None) → (m.0 ≡ l.0 → ⊥) → may_send d.sizes.window (link_of d.remote.links l) ≡ true
+  borrow :
+      {t : Slab} → Finds W d t → may_map d t l ≡ true
+      → Sends W d l (parcel_of (msg.Borrow t) []) (record d { remote = remote.borrow_sent d.remote t l }) d
+  query :
+      {t : Slab} → t.0 < length d.remote.slabs → may_map d t l ≡ true
+      → Sends W d l (parcel_of (msg.Query t) []) (record d { remote = remote.query_sent d.remote t None l }) d
+  query_too :
+      {t : Slab} {m : Lender} → t.0 < length d.remote.slabs
+      → slabs.state_of d.remote.slabs t ≡ Asking (slabs.pair_of m None) → (m.0 ≡ l.0 → ⊥)
+      → may_send d.sizes.window (link_of d.remote.links l) ≡ true
       → Sends W d l (parcel_of (msg.Query t) []) (record d { remote = remote.query_sent d.remote t (Some m) l }) d
 
 -- what a message makes of the device: one that answers the oldest request of its link, or asks for a rate, or takes a
 -- slab back
 pub data Hears (d : Device) (l : Lender) (q : Parcel) : Heard → Type 0 where
-  roomy : {t u : Slab} {free : ℕ} {rest : List Request} → ring_of d.remote.links l ≡ request.Query t ∷ rest → query_reply q.msg ≡ Some (u, free) → (u.0 == t.0) ≡ true
-      → Hears d l q (record { device = record d { remote = remote.told d.remote l t free }; word = None; choice = chosen_for t (slabs.answer_choice (slabs.state_of d.remote.slabs t) l (reply.Free free)) })
-  lent : {t u : Slab} {k : Lease} {rest : List Request} → ring_of d.remote.links l ≡ request.Borrow t ∷ rest → borrow_reply q.msg ≡ Some (u, Some k) → (u.0 == t.0) ≡ true → slabs.by_lease d.remote.slabs l k ≡ None
+  roomy :
+      {t u : Slab} {free : ℕ} {rest : List Request} → ring_of d.remote.links l ≡ request.Query t ∷ rest
+      → query_reply q.msg ≡ Some (u, free) → (u.0 == t.0) ≡ true
+      → Hears d l q
+      (record {
+        device = record d { remote = remote.told d.remote l t free };
+        word = None;
+        choice = chosen_for t (slabs.answer_choice (slabs.state_of d.remote.slabs t) l (reply.Free free));
+      })
+  lent :
+      {t u : Slab} {k : Lease} {rest : List Request} → ring_of d.remote.links l ≡ request.Borrow t ∷ rest
+      → borrow_reply q.msg ≡ Some (u, Some k) → (u.0 == t.0) ≡ true → slabs.by_lease d.remote.slabs l k ≡ None
       → Hears d l q (only (record d { remote = remote.lent d.remote l t k }))
-  refused : {t u : Slab} {rest : List Request} → ring_of d.remote.links l ≡ request.Borrow t ∷ rest → borrow_reply q.msg ≡ Some (u, None) → (u.0 == t.0) ≡ true → Hears d l q (only (record d { remote = remote.refused d.remote l t }))
-  written : {p : Page} {e : EntryNo} {at : Lease × ℕ} {rest : List Request} → ring_of d.remote.links l ≡ request.Write p e ∷ rest → write_reply q.msg ≡ Some at → remote.names_page d.sizes d.remote l p at.0 at.1 ≡ true
-      → Hears d l q (record { device = record d { remote = remote.written d.sizes d.remote l p (is_newest (last d.history p) e) }; word = settled_word d p; choice = None })
-  brought : {c : Caller} {p : Page} {at : Lease × ℕ} {rest : List Request} → ring_of d.remote.links l ≡ request.Read c p ∷ rest → read_reply q.msg ≡ Some at → remote.names_page d.sizes d.remote l p at.0 at.1 ≡ true
-      → Hears d l q (record { device = record d { remote = remote.settled_for d.sizes d.remote l p; calls = calls.came d.calls c q.page }; word = settled_word d p; choice = None })
-  asked_rate : {t : Slab} {k : Lease} → rate_asked q.msg ≡ Some k → remote.mapped_by d.remote.slabs l k ≡ Some t → Hears d l q (record { device = d; word = Some (parcel_of (msg.Rates k (rates.value_of d.rates t)) []); choice = None })
+  refused :
+      {t u : Slab} {rest : List Request} → ring_of d.remote.links l ≡ request.Borrow t ∷ rest
+      → borrow_reply q.msg ≡ Some (u, None) → (u.0 == t.0) ≡ true
+      → Hears d l q (only (record d { remote = remote.refused d.remote l t }))
+  written :
+      {p : Page} {e : EntryNo} {at : Lease × ℕ} {rest : List Request}
+      → ring_of d.remote.links l ≡ request.Write p e ∷ rest → write_reply q.msg ≡ Some at
+      → remote.names_page d.sizes d.remote l p at.0 at.1 ≡ true
+      → Hears d l q
+      (record {
+        device = record d { remote = remote.written d.sizes d.remote l p (is_newest (last d.history p) e) };
+        word = settled_word d p;
+        choice = None;
+      })
+  brought :
+      {c : Caller} {p : Page} {at : Lease × ℕ} {rest : List Request}
+      → ring_of d.remote.links l ≡ request.Read c p ∷ rest
+      → read_reply q.msg ≡ Some at → remote.names_page d.sizes d.remote l p at.0 at.1 ≡ true
+      → Hears d l q
+      (record {
+        device =
+            record d { remote = remote.settled_for d.sizes d.remote l p; calls = calls.came d.calls c q.page };
+        word = settled_word d p;
+        choice = None;
+      })
+  asked_rate :
+      {t : Slab} {k : Lease} → rate_asked q.msg ≡ Some k → remote.mapped_by d.remote.slabs l k ≡ Some t
+      → Hears d l q
+      (record { device = d; word = Some (parcel_of (msg.Rates k (rates.value_of d.rates t)) []); choice = None })
   told_to_go : {t : Slab} {k : Lease} → taken_back q.msg ≡ Some k → remote.mapped_by d.remote.slabs l k ≡ Some t
-      → Hears d l q (record { device = record d { remote = remote.evicted d.sizes d.remote t }; word = done_word (slabs.evicted_lease (slabs.state_of d.remote.slabs t)); choice = None })
+      → Hears d l q
+      (record {
+        device = record d { remote = remote.evicted d.sizes d.remote t };
+        word = done_word (slabs.evicted_lease (slabs.state_of d.remote.slabs t));
+        choice = None;
+      })
 
 -- what a device says beside its requests: a greeting, a rate, and a lease that it gives back
 pub data IsWord (d : Device) : Parcel → Type 0 where
@@ -145,28 +222,70 @@ pub data IsFar (W : Within) : FabricCall → Type 0 where
 
 -- the moves of a device
 pub data Move (W : Within) : Speaker → Asked → Speaker → Type 0 where
-  enters : {d : Device} {c : Caller} {p : Page} {bytes : List ℕ} → Outs W d c p bytes → Move W (quiet d) Nothing (quiet (enter d c p bytes))
-  gives : {d : Device} {c : Caller} {p : Page} {named : Option EntryNo} {from : Origin} {bytes : List ℕ} → Gives W d c p named from bytes → Move W (quiet d) Nothing (quiet (give d c p named from bytes))
-  faults : {d : Device} {c : Caller} {p : Page} {k : CallKind} {since at : ℕ} {bytes : List ℕ} → Faults d c p k since at bytes → Move W (quiet d) Nothing (quiet (fault d c p k since at bytes))
-  waits_for_room : {d : Device} (c : Caller) (p : Page) (bytes : List ℕ) → is_idle (state_of d.calls c) ≡ true → W.page p → W.bytes bytes → Move W (quiet d) Nothing (quiet (wait_for_room d c p bytes))
+  enters :
+      {d : Device} {c : Caller} {p : Page} {bytes : List ℕ} → Outs W d c p bytes
+      → Move W (quiet d) Nothing (quiet (enter d c p bytes))
+  gives :
+      {d : Device} {c : Caller} {p : Page} {named : Option EntryNo} {from : Origin} {bytes : List ℕ}
+      → Gives W d c p named from bytes → Move W (quiet d) Nothing (quiet (give d c p named from bytes))
+  faults :
+      {d : Device} {c : Caller} {p : Page} {k : CallKind} {since at : ℕ} {bytes : List ℕ}
+      → Faults d c p k since at bytes
+      → Move W (quiet d) Nothing (quiet (fault d c p k since at bytes))
+  waits_for_room :
+      {d : Device} (c : Caller) (p : Page) (bytes : List ℕ) → is_idle (state_of d.calls c) ≡ true → W.page p
+      → W.bytes bytes → Move W (quiet d) Nothing (quiet (wait_for_room d c p bytes))
   rates_change : {d : Device} (rates : List Activity) → Move W (quiet d) Nothing (quiet (record d { rates = rates }))
-  lets_go : {d : Device} (l : Lender) → W.lender l → is_up d.remote.links l ≡ true → Move W (quiet d) Nothing (quiet (lost d l))
-  gives_up : {d : Device} (l : Lender) (t : Slab) → is_up d.remote.links l ≡ false → slabs.asks l (slabs.state_of d.remote.slabs t) ≡ true → Move W (quiet d) Nothing (quiet (record d { remote = remote.gone d.remote l t }))
+  lets_go :
+      {d : Device} (l : Lender) → W.lender l → is_up d.remote.links l ≡ true
+      → Move W (quiet d) Nothing (quiet (lost d l))
+  gives_up :
+      {d : Device} (l : Lender) (t : Slab) → is_up d.remote.links l ≡ false
+      → slabs.asks l (slabs.state_of d.remote.slabs t) ≡ true
+      → Move W (quiet d) Nothing (quiet (record d { remote = remote.gone d.remote l t }))
   -- with the disk
-  starts : {d : Device} {p : Page} {line : List Page} {copy : Copy} {r : DiskAnswer (StartWrite p copy.bytes)} → d.queue.line ≡ p ∷ line → queue.next d.queue p ≡ Some copy → Move W (quiet d) (OfDisk (StartWrite p copy.bytes) r) (quiet (record d { queue = queue.start d.queue }))
-  waits_for_disk : {d : Device} {c : Caller} {p : Page} {n : EntryNo} {r : DiskAnswer (StartRead c p)} → Ins W d c p → W.caller c → last d.history p ≡ Some n → queue.newest d.queue p ≡ None → Move W (quiet d) (OfDisk (StartRead c p) r) (quiet (wait_for_disk d c p n))
+  starts :
+      {d : Device} {p : Page} {line : List Page} {copy : Copy} {r : DiskAnswer (StartWrite p copy.bytes)}
+      → d.queue.line ≡ p ∷ line → queue.next d.queue p ≡ Some copy
+      → Move W (quiet d) (OfDisk (StartWrite p copy.bytes) r) (quiet (record d { queue = queue.start d.queue }))
+  waits_for_disk :
+      {d : Device} {c : Caller} {p : Page} {n : EntryNo} {r : DiskAnswer (StartRead c p)} → Ins W d c p → W.caller c
+      → last d.history p ≡ Some n → queue.newest d.queue p ≡ None
+      → Move W (quiet d) (OfDisk (StartRead c p) r) (quiet (wait_for_disk d c p n))
   takes : {d : Device} {taken : Option Taken} → Move W (quiet d) (OfDisk TakeDone taken) (quiet (took_back d taken).0)
-  lets_finish : {d : Device} {w : DiskWhich} {ok done : Bool} → Move W (quiet d) (OfDisk (LetFinish w ok) done) (quiet d)
+  lets_finish :
+      {d : Device} {w : DiskWhich} {ok done : Bool} → Move W (quiet d) (OfDisk (LetFinish w ok) done) (quiet d)
   -- with the fabric
-  sends : {d e base : Device} {l : Lender} {q : Parcel} → Sends W d l q e base → Move W (quiet d) (OfFabric (Send l q) sent.Sent) (quiet e)
-  finds_down : {d e base : Device} {l : Lender} {q : Parcel} → Sends W d l q e base → Move W (quiet d) (OfFabric (Send l q) sent.Down) (quiet (lost base l))
-  raises : {d : Device} {l : Lender} {r : FabricAnswer (Connect l (next_link d))} → W.lender l → is_up d.remote.links l ≡ false
-      → Move W (quiet d) (OfFabric (Connect l (next_link d)) r) (record { device = raised d l; owed = Says l (hello d.sizes) ∷ [] })
-  speaks : {d : Device} {l : Lender} {q : Parcel} → IsWord d q → Move W (record { device = d; owed = Says l q ∷ [] }) (OfFabric (Send l q) sent.Sent) (quiet d)
-  speaks_to_nobody : {d : Device} {l : Lender} {q : Parcel} → IsWord d q → Move W (record { device = d; owed = Says l q ∷ [] }) (OfFabric (Send l q) sent.Down) (quiet (lost d l))
-  hears : {d : Device} {h : Heard} {l : Lender} {q : Parcel} → is_up d.remote.links l ≡ true → Hears d l q h → Move W (quiet d) (OfFabric (Take l) (Brought q)) (owing h l)
-  hears_nothing : {d : Device} {l : Lender} → is_up d.remote.links l ≡ true → Move W (quiet d) (OfFabric (Take l) NothingCame) (quiet d)
-  loses : {d : Device} {l : Lender} → is_up d.remote.links l ≡ true → Move W (quiet d) (OfFabric (Take l) LinkLost) (quiet (lost d l))
-  misunderstands : {d : Device} {l : Lender} {q : Parcel} → is_up d.remote.links l ≡ true → Move W (quiet d) (OfFabric (Take l) (Brought q)) (record { device = d; owed = Ends l ∷ [] })
-  breaks_off : {d : Device} {l : Lender} {r : FabricAnswer (End l)} → Move W (record { device = d; owed = Ends l ∷ [] }) (OfFabric (End l) r) (quiet (lost d l))
+  sends :
+      {d e base : Device} {l : Lender} {q : Parcel} → Sends W d l q e base
+      → Move W (quiet d) (OfFabric (Send l q) sent.Sent) (quiet e)
+  finds_down :
+      {d e base : Device} {l : Lender} {q : Parcel} → Sends W d l q e base
+      → Move W (quiet d) (OfFabric (Send l q) sent.Down) (quiet (lost base l))
+  raises :
+      {d : Device} {l : Lender} {r : FabricAnswer (Connect l (next_link d))} → W.lender l
+      → is_up d.remote.links l ≡ false
+      → Move W (quiet d) (OfFabric (Connect l (next_link d)) r)
+      (record { device = raised d l; owed = Says l (hello d.sizes) ∷ [] })
+  speaks :
+      {d : Device} {l : Lender} {q : Parcel} → IsWord d q
+      → Move W (record { device = d; owed = Says l q ∷ [] }) (OfFabric (Send l q) sent.Sent) (quiet d)
+  speaks_to_nobody :
+      {d : Device} {l : Lender} {q : Parcel} → IsWord d q
+      → Move W (record { device = d; owed = Says l q ∷ [] }) (OfFabric (Send l q) sent.Down) (quiet (lost d l))
+  hears :
+      {d : Device} {h : Heard} {l : Lender} {q : Parcel} → is_up d.remote.links l ≡ true → Hears d l q h
+      → Move W (quiet d) (OfFabric (Take l) (Brought q)) (owing h l)
+  hears_nothing :
+      {d : Device} {l : Lender} → is_up d.remote.links l ≡ true
+      → Move W (quiet d) (OfFabric (Take l) NothingCame) (quiet d)
+  loses :
+      {d : Device} {l : Lender} → is_up d.remote.links l ≡ true
+      → Move W (quiet d) (OfFabric (Take l) LinkLost) (quiet (lost d l))
+  misunderstands :
+      {d : Device} {l : Lender} {q : Parcel} → is_up d.remote.links l ≡ true
+      → Move W (quiet d) (OfFabric (Take l) (Brought q)) (record { device = d; owed = Ends l ∷ [] })
+  breaks_off :
+      {d : Device} {l : Lender} {r : FabricAnswer (End l)}
+      → Move W (record { device = d; owed = Ends l ∷ [] }) (OfFabric (End l) r) (quiet (lost d l))
   far : {d : Device} {c : FabricCall} {r : FabricAnswer c} → IsFar W c → Move W (quiet d) (OfFabric c r) (quiet d)

@@ -1,4 +1,5 @@
--- What a device and its fabric agree on, between any two of the device's calls: the requests under way on each link, the
+-- What a device and its fabric agree on, between any two of the device's calls: the requests under way on each link,
+-- the
 -- slabs and the calls that wait for them, and the pages that lenders keep and owe.
 use Rattle.std.specs.Prelude.{◌≡◌, ◌≢◌, ℕ, ◌<◌, ◌≤◌, Bool, true, false, ◌==◌, if◌then◌else◌, List, [], ◌∷◌, length, count_by, IsSome, Option, None, Some}
 use Rattle.std.specs.List.{AllByRecursion}
@@ -87,8 +88,11 @@ WaitsFrom l page _ = ⊥
 abbrev pub IsAwaited : Sizes → History → Calls → List SlabState → Lender → Request → Type 0
 IsAwaited s H calls states l (Query slab) = (slab.0 < s.slabs) × (slabs.asks l (slabs.state_of states slab) ≡ true)
 IsAwaited s H calls states l (Borrow slab) = (slab.0 < s.slabs) × (slabs.state_of states slab ≡ Borrowing l)
-IsAwaited s H calls states l (Write page entry) = (page.0 < pages_of s) × IsLeasedFrom l (state_for s states page) × IsOut H page entry
-IsAwaited s H calls states l (Read caller page) = (caller.0 < s.callers) × (page.0 < pages_of s) × IsLeasedFrom l (state_for s states page) × WaitsFrom l page (state_of calls caller)
+IsAwaited s H calls states l (Write page entry) =
+    (page.0 < pages_of s) × IsLeasedFrom l (state_for s states page) × IsOut H page entry
+IsAwaited s H calls states l (Read caller page) =
+    (caller.0 < s.callers) × (page.0 < pages_of s) × IsLeasedFrom l (state_for s states page)
+    × WaitsFrom l page (state_of calls caller)
 
 -- of two requests on one link, the earlier first: the writes of a page ascend, and no read of a page follows a write of
 -- it; no caller reads twice, and no slab is asked for or borrowed twice
@@ -127,7 +131,8 @@ AreOwed H calls (Query slab ∷ ring) pages = AreOwed H calls ring pages
 AreOwed H calls (Borrow slab ∷ ring) pages = AreOwed H calls ring pages
 AreOwed H calls (Write p entry ∷ ring) pages = AreOwed H calls ring pages
 AreOwed H calls (Read caller p ∷ ring) [] = ⊥
-AreOwed H calls (Read caller p ∷ ring) (page ∷ pages) = IsContent H page p (state_of calls caller) × AreOwed H calls ring pages
+AreOwed H calls (Read caller p ∷ ring) (page ∷ pages) =
+    IsContent H page p (state_of calls caller) × AreOwed H calls ring pages
 
 pub record OwesReads (owes : Owing) (H : History) (calls : Calls) (l : Lender) (ring : List Request) : Type 0 where
   pub pages : List (List ℕ)
@@ -135,7 +140,8 @@ pub record OwesReads (owes : Owing) (H : History) (calls : Calls) (l : Lender) (
   pub reads : AreOwed H calls ring pages
 
 -- a link: one that is down has nothing under way; one that is up leads to a lender and owes its reads' pages
-pub record LinkFits (owes : Owing) (s : Sizes) (lenders : ℕ) (H : History) (calls : Calls) (states : List SlabState) (l : Lender) (link : LinkState) : Type 0 where
+pub record LinkFits (owes : Owing) (s : Sizes) (lenders : ℕ) (H : History) (calls : Calls) (states : List SlabState)
+    (l : Lender) (link : LinkState) : Type 0 where
   pub quiet : link.up ≡ false → link.ring ≡ []
   pub lender : link.up ≡ true → l.0 < lenders
   pub awaited : AllByRecursion (IsAwaited s H calls states l) link.ring
@@ -148,7 +154,8 @@ SlabFits s links slab Local = Unit {0}
 SlabFits s links slab (Asking pair) = Unit {0}
 SlabFits s links slab (Borrowing l) = is_up links l ≡ true
 SlabFits s links slab (Mapped l lease flying) = (is_up links l ≡ true) × (flying ≡ flying_for s slab (ring_of links l))
-SlabFits s links slab (Draining l lease flying) = (is_up links l ≡ true) × (flying ≡ flying_for s slab (ring_of links l))
+SlabFits s links slab (Draining l lease flying) =
+    (is_up links l ≡ true) × (flying ≡ flying_for s slab (ring_of links l))
 
 -- the lender keeps what the last write of a page writes
 abbrev pub IsWriteKept : Keeping → History → Lender → Lease → ℕ → Option EntryNo → Type 0
@@ -156,7 +163,8 @@ IsWriteKept keeps H l lease place None = Unit {0}
 IsWriteKept keeps H l lease place (Some entry) = keeps l lease place (bytes_of H entry)
 
 -- the page of a set bit was paged out, no write of it is under way, and the lender keeps its content
-pub record IsReadable (keeps : Keeping) (z : List ℕ) (H : History) (page : Page) (l : Lender) (lease : Lease) (place : ℕ) (ring : List Request) : Type 0 where
+pub record IsReadable (keeps : Keeping) (z : List ℕ) (H : History) (page : Page) (l : Lender) (lease : Lease)
+    (place : ℕ) (ring : List Request) : Type 0 where
   pub some : IsSome (last H page)
   pub none : latest page ring ≡ None
   pub kept : keeps l lease place (array z H page)
@@ -176,7 +184,8 @@ abbrev pub AreSingle : List SlabState → Type 0
 AreSingle states = (l : Lender) (lease : Lease) → count_by (λ state. slabs.has_lease l lease state) states ≤ 1
 
 -- what device and fabric agree on
-pub record Serves (keeps : Keeping) (owes : Owing) (s : Sizes) (lenders : ℕ) (H : History) (calls : Calls) (r : Remote) : Type 0 where
+pub record Serves (keeps : Keeping) (owes : Owing) (s : Sizes) (lenders : ℕ) (H : History) (calls : Calls)
+    (r : Remote) : Type 0 where
   pub slabs_len : length r.slabs ≡ s.slabs
   pub bits_len : length r.bits ≡ pages_of s
   pub links_len : length r.links ≡ MOST_LENDERS

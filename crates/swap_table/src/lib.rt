@@ -87,8 +87,8 @@ pub fn ports_promise<D: DiskPort, F: Fabric>()
     ensures fabric { Promises F.Fabric }
 {}
 
-/// Whatever disk and fabric answer, what a device, its disk and its fabric agree on holds after each call where it
-/// held before. Any disk and any fabric may stand below.
+/// Whatever disk and fabric answer, what a device, its disk and its fabric agree on holds after
+/// each call where it held before. Any disk and any fabric may stand below.
 pub fn calls_keep<D: DiskPort, F: Fabric>()
     ensures each { EachCallKeeps D.DiskPort F.Fabric }
     ensures new { NewAgrees D.DiskPort F.Fabric }

@@ -28,7 +28,9 @@ use Rattle.swap_calls.specs.Calls as calls
 use Rattle.swap_calls.specs.declared.Arrived.TheVariants as arrived
 
 -- one caller's call is replaced
-busy-set : (cs : Calls) (i : ℕ) (call : Call) → count_by is_busy_call (set cs i call) + one_if (is_busy_call (get_or cs i idle)) ≤ count_by is_busy_call cs + one_if (is_busy_call call)
+busy-set :
+    (cs : Calls) (i : ℕ) (call : Call)
+    → count_by is_busy_call (set cs i call) + one_if (is_busy_call (get_or cs i idle)) ≤ count_by is_busy_call cs + one_if (is_busy_call call)
 busy-set [] i call = omega arith
 busy-set (x ∷ cs) zero call =
     let a = count_by-cons is_busy_call call cs in let b = count_by-cons is_busy_call x cs in omega (arith, a, b)
@@ -38,16 +40,21 @@ busy-set (x ∷ cs) (suc i) call =
     let rest = busy-set cs i call in omega (arith, a, b, rest)
 
 -- a call is changed and stays as busy as it was
-busy-kept : (f : Call → Call) (cs : Calls) (i : ℕ) → ((x : Call) → is_busy_call (f x) ≡ is_busy_call x) → count_by is_busy_call (set cs i (f (get_or cs i idle))) ≡ count_by is_busy_call cs
+busy-kept :
+    (f : Call → Call) (cs : Calls) (i : ℕ) → ((x : Call) → is_busy_call (f x) ≡ is_busy_call x)
+    → count_by is_busy_call (set cs i (f (get_or cs i idle))) ≡ count_by is_busy_call cs
 busy-kept f [] i same = refl
-busy-kept f (x ∷ cs) zero same = count_by-cons is_busy_call (f x) cs ∙ ap (λ b. one_if b + count_by is_busy_call cs) (same x) ∙ sym (count_by-cons is_busy_call x cs)
+busy-kept f (x ∷ cs) zero same =
+    count_by-cons is_busy_call (f x) cs ∙ ap (λ b. one_if b + count_by is_busy_call cs) (same x) ∙ sym (count_by-cons is_busy_call x cs)
 busy-kept f (x ∷ cs) (suc i) same =
-    count_by-cons is_busy_call x (set cs i (f (get_or cs i idle))) ∙ ap (λ n. one_if (is_busy_call x) + n) (busy-kept f cs i same) ∙ sym (count_by-cons is_busy_call x cs)
+    count_by-cons is_busy_call x (set cs i (f (get_or cs i idle))) ∙ ap (λ n. one_if (is_busy_call x) + n) (busy-kept f cs i same)
+    ∙ sym (count_by-cons is_busy_call x cs)
 
 busy-map : (f : Call → Call) (cs : Calls) → ((x : Call) → is_busy_call (f x) ≡ is_busy_call x) → count_by is_busy_call (map f cs) ≡ count_by is_busy_call cs
 busy-map f [] same = refl
 busy-map f (x ∷ cs) same =
-    count_by-cons is_busy_call (f x) (map f cs) ∙ ap (λ b. one_if b + count_by is_busy_call (map f cs)) (same x) ∙ ap (λ n. one_if (is_busy_call x) + n) (busy-map f cs same) ∙ sym (count_by-cons is_busy_call x cs)
+    count_by-cons is_busy_call (f x) (map f cs) ∙ ap (λ b. one_if b + count_by is_busy_call (map f cs)) (same x)
+    ∙ ap (λ n. one_if (is_busy_call x) + n) (busy-map f cs same) ∙ sym (count_by-cons is_busy_call x cs)
 
 newer_busy : (p : Page) (state : CallState) → is_idle (calls.newer_if_reads p state) ≡ is_idle state
 newer_busy p Idle = refl
@@ -55,7 +62,8 @@ newer_busy p (Room q since) = refl
 newer_busy p (Reading q n v how newer since) = refl
 
 paged_out_busy : (cs : Calls) (p : Page) → count_by is_busy_call (calls.paged_out cs p) ≡ count_by is_busy_call cs
-paged_out_busy cs p = busy-map (λ (call : Call). record { state = calls.newer_if_reads p call.state; bytes = call.bytes }) cs (λ x. ap not (newer_busy p x.state))
+paged_out_busy cs p =
+    busy-map (λ (call : Call). record { state = calls.newer_if_reads p call.state; bytes = call.bytes }) cs (λ x. ap not (newer_busy p x.state))
 
 get_or-map_idle : (f : Call → Call) (cs : Calls) (i : ℕ) → f idle ≡ idle → get_or (map f cs) i idle ≡ f (get_or cs i idle)
 get_or-map_idle f [] i e = sym e
@@ -63,7 +71,9 @@ get_or-map_idle f (x ∷ cs) zero e = refl
 get_or-map_idle f (x ∷ cs) (suc i) e = get_or-map_idle f cs i e
 
 paged_out_call : (cs : Calls) (p : Page) (c : Caller) → is_busy_call (call_of (calls.paged_out cs p) c) ≡ is_busy_call (call_of cs c)
-paged_out_call cs p c = ap is_busy_call (get_or-map_idle (λ (call : Call). record { state = calls.newer_if_reads p call.state; bytes = call.bytes }) cs c.0 refl) ∙ ap not (newer_busy p (call_of cs c).state)
+paged_out_call cs p c =
+    ap is_busy_call (get_or-map_idle (λ (call : Call). record { state = calls.newer_if_reads p call.state; bytes = call.bytes }) cs c.0 refl)
+    ∙ ap not (newer_busy p (call_of cs c).state)
 
 arrives_busy : (how : Arrived) (bytes : List ℕ) (x : Call) → is_busy_call (calls.arrives how bytes x x.state) ≡ is_busy_call x
 arrives_busy how bytes x = go x.state refl
@@ -94,22 +104,31 @@ enter_ends : (d : Device) (c : Caller) (p : Page) (bytes : List ℕ) → is_busy
 enter_ends d c p bytes busy =
     let a = busy-set (calls.paged_out d.calls p) c.0 idle in
     let b = paged_out_busy d.calls p in
-    let one : one_if (is_busy_call (call_of (calls.paged_out d.calls p) c)) ≡ one_if true = ap one_if (paged_out_call d.calls p c ∙ busy) in omega (arith, a, b, one)
+    let one : one_if (is_busy_call (call_of (calls.paged_out d.calls p) c)) ≡ one_if true = ap one_if (paged_out_call d.calls p c ∙ busy) in
+    omega (arith, a, b, one)
 
 give_grows : (d : Device) (c : Caller) (p : Page) (named : Option EntryNo) (from : Origin) (bytes : List ℕ) → Grows 1 d (give d c p named from bytes)
 give_grows d c p named from bytes = let a = busy-set d.calls c.0 idle in omega (arith, a)
 
-give_ends : (d : Device) (c : Caller) (p : Page) (named : Option EntryNo) (from : Origin) (bytes : List ℕ) → is_busy_call (call_of d.calls c) ≡ true → Grows 0 d (give d c p named from bytes)
-give_ends d c p named from bytes busy = let a = busy-set d.calls c.0 idle in let one : one_if (is_busy_call (call_of d.calls c)) ≡ one_if true = ap one_if busy in omega (arith, a, one)
+give_ends :
+    (d : Device) (c : Caller) (p : Page) (named : Option EntryNo) (from : Origin) (bytes : List ℕ) → is_busy_call (call_of d.calls c) ≡ true
+    → Grows 0 d (give d c p named from bytes)
+give_ends d c p named from bytes busy =
+    let a = busy-set d.calls c.0 idle in let one : one_if (is_busy_call (call_of d.calls c)) ≡ one_if true = ap one_if busy in omega (arith, a, one)
 
-fault_ends : (d : Device) (c : Caller) (p : Page) (kind : CallKind) (since at : ℕ) (bytes : List ℕ) → is_busy_call (call_of d.calls c) ≡ true → Grows 0 d (fault d c p kind since at bytes)
-fault_ends d c p kind since at bytes busy = let a = busy-set d.calls c.0 idle in let one : one_if (is_busy_call (call_of d.calls c)) ≡ one_if true = ap one_if busy in omega (arith, a, one)
+fault_ends :
+    (d : Device) (c : Caller) (p : Page) (kind : CallKind) (since at : ℕ) (bytes : List ℕ) → is_busy_call (call_of d.calls c) ≡ true
+    → Grows 0 d (fault d c p kind since at bytes)
+fault_ends d c p kind since at bytes busy =
+    let a = busy-set d.calls c.0 idle in let one : one_if (is_busy_call (call_of d.calls c)) ≡ one_if true = ap one_if busy in omega (arith, a, one)
 
 begins : (d : Device) (c : Caller) (call : Call) → Grows 1 d (record d { calls = set d.calls c.0 call })
 begins d c call = let a = busy-set d.calls c.0 call in let b = one_le (is_busy_call call) in omega (arith, a, b)
 
 goes_on : (d : Device) (c : Caller) (call : Call) → is_busy_call (call_of d.calls c) ≡ true → Grows 0 d (record d { calls = set d.calls c.0 call })
-goes_on d c call busy = let a = busy-set d.calls c.0 call in let b = one_le (is_busy_call call) in let one : one_if (is_busy_call (call_of d.calls c)) ≡ one_if true = ap one_if busy in omega (arith, a, b, one)
+goes_on d c call busy =
+    let a = busy-set d.calls c.0 call in let b = one_le (is_busy_call call) in
+    let one : one_if (is_busy_call (call_of d.calls c)) ≡ one_if true = ap one_if busy in omega (arith, a, b, one)
 
 -- a lost link leaves as many calls under way
 lost_idle : (l : Lender) (state : CallState) → is_idle (calls.lost_if_through l state) ≡ is_idle state
@@ -140,8 +159,10 @@ wrote_grows d p (Some copy) false = omega arith
 
 took_grows : (d : Device) (w : DiskWhich) (p : Page) (ok : Bool) (bytes : List ℕ) → Grows 0 d (took d w p ok bytes).0
 took_grows d (which.Write q) p ok bytes = wrote_grows d p (queue.flying d.queue p) ok
-took_grows d (which.Read c) p true bytes = let a = busy-kept (λ x. calls.arrives arrived.Came bytes x x.state) d.calls c.0 (arrives_busy arrived.Came bytes) in omega (arith, a)
-took_grows d (which.Read c) p false bytes = let a = busy-kept (λ x. calls.arrives arrived.Failed [] x x.state) d.calls c.0 (arrives_busy arrived.Failed []) in omega (arith, a)
+took_grows d (which.Read c) p true bytes =
+    let a = busy-kept (λ x. calls.arrives arrived.Came bytes x x.state) d.calls c.0 (arrives_busy arrived.Came bytes) in omega (arith, a)
+took_grows d (which.Read c) p false bytes =
+    let a = busy-kept (λ x. calls.arrives arrived.Failed [] x x.state) d.calls c.0 (arrives_busy arrived.Failed []) in omega (arith, a)
 
 took_back_grows : (d : Device) (taken : Option Taken) → Grows 0 d (took_back d taken).0
 took_back_grows d None = omega arith
@@ -152,7 +173,9 @@ linked_grows : (n : ℕ) (d e d' : Device) → Linked e d' → Grows n d e → G
 linked_grows n d e d' linked k = linked_keep (Grows n d) (λ x r made h. h) (λ x l h. let a = lost_busy x.calls l in omega (arith, a, h)) e d' linked k
 
 linked_call : (d d' : Device) (c : Caller) → Linked d d' → is_busy_call (call_of d'.calls c) ≡ is_busy_call (call_of d.calls c)
-linked_call d d' c linked = linked_keep (λ x. is_busy_call (call_of x.calls c) ≡ is_busy_call (call_of d.calls c)) (λ x r made h. h) (λ x l h. lost_call x.calls l c ∙ h) d d' linked refl
+linked_call d d' c linked =
+    linked_keep (λ x. is_busy_call (call_of x.calls c) ≡ is_busy_call (call_of d.calls c)) (λ x r made h. h)
+    (λ x l h. lost_call x.calls l c ∙ h) d d' linked refl
 
 is_under_way : (d : Device) (c : Caller) (state : CallState) → state_of d.calls c ≡ state → is_idle state ≡ false → is_busy_call (call_of d.calls c) ≡ true
 is_under_way d c state is busy_ = ap (λ x. not (is_idle x)) is ∙ ap not busy_
@@ -161,23 +184,34 @@ pub comes_grows : (d d' : Device) (page : List ℕ) (e : Event) (s : Seen) → C
 comes_grows d d' page e s (refuses new) = omega arith
 comes_grows d d' page e s (rests new rest) = omega arith
 comes_grows d d' page e s (accepts {c = c} {p = p} {bytes = bytes} (begins_out idle) linked) = linked_grows 1 d _ d' linked (enter_grows d c p bytes)
-comes_grows d d' page e s (accepts {c = c} {p = p} (goes_on_out is) linked) = linked_grows 0 d _ d' linked (enter_ends d c p (call_of d.calls c).bytes (is_under_way d c _ is refl))
+comes_grows d d' page e s (accepts {c = c} {p = p} (goes_on_out is) linked) =
+    linked_grows 0 d _ d' linked (enter_ends d c p (call_of d.calls c).bytes (is_under_way d c _ is refl))
 comes_grows d d' page e s (gives_page {c = c} {p = p} {named = named} {from = from} {bytes = bytes} (begins_in idle)) = give_grows d c p named from bytes
-comes_grows d d' page e s (gives_page {c = c} {p = p} {named = named} {from = from} {bytes = bytes} (goes_on_in is)) = give_ends d c p named from bytes (is_under_way d c _ is refl)
-comes_grows d d' page e s (fails {c = c} {p = p} {k = k} {since = since} {at = at} {bytes = bytes} (full is less)) = fault_ends d c p k since at bytes (is_under_way d c _ is refl)
-comes_grows d d' page e s (fails {c = c} {p = p} {k = k} {since = since} {at = at} {bytes = bytes} (unread is)) = fault_ends d c p k since at bytes (is_under_way d c _ is refl)
+comes_grows d d' page e s (gives_page {c = c} {p = p} {named = named} {from = from} {bytes = bytes} (goes_on_in is)) =
+    give_ends d c p named from bytes (is_under_way d c _ is refl)
+comes_grows d d' page e s (fails {c = c} {p = p} {k = k} {since = since} {at = at} {bytes = bytes} (full is less)) =
+    fault_ends d c p k since at bytes (is_under_way d c _ is refl)
+comes_grows d d' page e s (fails {c = c} {p = p} {k = k} {since = since} {at = at} {bytes = bytes} (unread is)) =
+    fault_ends d c p k since at bytes (is_under_way d c _ is refl)
 comes_grows d d' page e s (keeps_page {c = c} idle) = begins d c _
 comes_grows d d' page e s (reads {c = c} {p = p} {n = n} {d' = x} v (begins_in idle) is linked) =
-    let a = begins x c (record { state = Reading p n v arrived.Waiting false x.failed_reads; bytes = [] }) in let b = linked_grows 0 d d x linked (stays d) in omega (arith, a, b)
+    let a = begins x c (record { state = Reading p n v arrived.Waiting false x.failed_reads; bytes = [] }) in let b = linked_grows 0 d d x linked (stays d) in
+    omega (arith, a, b)
 comes_grows d d' page e s (reads {c = c} {p = p} {n = n} {d' = x} v (goes_on_in state) is linked) =
-    let a = goes_on x c (record { state = Reading p n v arrived.Waiting false x.failed_reads; bytes = [] }) (linked_call d x c linked ∙ is_under_way d c _ state refl) in let b = linked_grows 0 d d x linked (stays d) in omega (arith, a, b)
+    let a =
+    goes_on x c (record { state = Reading p n v arrived.Waiting false x.failed_reads; bytes = [] })
+    (linked_call d x c linked ∙ is_under_way d c _ state refl) in
+    let b = linked_grows 0 d d x linked (stays d) in omega (arith, a, b)
 comes_grows d d' page e s starts_write = omega arith
 comes_grows d d' page e s (takes_back taken) = took_back_grows d taken
 comes_grows d d' page e s (links new of_link linked) = let a = linked_grows 0 d d d' linked (stays d) in omega (arith, a)
-comes_grows d d' page e s (brings c bytes r linked) = let a = came_grows d c bytes in let b = linked_grows 0 d (record d { remote = r; calls = calls.came d.calls c bytes }) d' linked a in omega (arith, b)
+comes_grows d d' page e s (brings c bytes r linked) =
+    let a = came_grows d c bytes in let b = linked_grows 0 d (record d { remote = r; calls = calls.came d.calls c bytes }) d' linked a in omega (arith, b)
 
 -- what comes back from the disk leaves each caller as busy as it was
-idle-kept : (f : Call → Call) (cs : Calls) (i j : ℕ) → ((x : Call) → is_idle (f x).state ≡ is_idle x.state) → is_idle (get_or (set cs i (f (get_or cs i idle))) j idle).state ≡ is_idle (get_or cs j idle).state
+idle-kept :
+    (f : Call → Call) (cs : Calls) (i j : ℕ) → ((x : Call) → is_idle (f x).state ≡ is_idle x.state)
+    → is_idle (get_or (set cs i (f (get_or cs i idle))) j idle).state ≡ is_idle (get_or cs j idle).state
 idle-kept f [] i j same = refl
 idle-kept f (x ∷ cs) zero zero same = same x
 idle-kept f (x ∷ cs) zero (suc j) same = refl
@@ -195,12 +229,15 @@ arrives_idle how bytes x = go x.state refl
     go (Reading p n v arrived.Failed newer since) e = refl
     go (Reading p n v arrived.Lost newer since) e = refl
 
-wrote_idle : (d : Device) (p : Page) (copy : Option Copy) (ok : Bool) (c : Caller) → is_idle (state_of (wrote d p copy ok).0.calls c) ≡ is_idle (state_of d.calls c)
+wrote_idle :
+    (d : Device) (p : Page) (copy : Option Copy) (ok : Bool) (c : Caller) → is_idle (state_of (wrote d p copy ok).0.calls c) ≡ is_idle (state_of d.calls c)
 wrote_idle d p None ok c = refl
 wrote_idle d p (Some copy) true c = refl
 wrote_idle d p (Some copy) false c = refl
 
-took_idle : (d : Device) (w : DiskWhich) (p : Page) (ok : Bool) (bytes : List ℕ) (c : Caller) → is_idle (state_of (took d w p ok bytes).0.calls c) ≡ is_idle (state_of d.calls c)
+took_idle :
+    (d : Device) (w : DiskWhich) (p : Page) (ok : Bool) (bytes : List ℕ) (c : Caller)
+    → is_idle (state_of (took d w p ok bytes).0.calls c) ≡ is_idle (state_of d.calls c)
 took_idle d (which.Write q) p ok bytes c = wrote_idle d p (queue.flying d.queue p) ok c
 took_idle d (which.Read e) p true bytes c = idle-kept (λ x. calls.arrives arrived.Came bytes x x.state) d.calls e.0 c.0 (arrives_idle arrived.Came bytes)
 took_idle d (which.Read e) p false bytes c = idle-kept (λ x. calls.arrives arrived.Failed [] x x.state) d.calls e.0 c.0 (arrives_idle arrived.Failed [])

@@ -48,7 +48,9 @@ pub record Counts (d : Device) (a : Device × Seen) : Type 0 where
 
 -- links, and what is heard, leave history and counts
 pub linked_same : (d d' : Device) → Linked d d' → Same d d'
-linked_same d d' linked = linked_keep (Same d) (λ e r made h. record { history = h.history; writes = h.writes; reads = h.reads }) (λ e l h. record { history = h.history; writes = h.writes; reads = h.reads }) d d' linked (record { history = refl; writes = refl; reads = refl })
+linked_same d d' linked =
+    linked_keep (Same d) (λ e r made h. record { history = h.history; writes = h.writes; reads = h.reads })
+    (λ e l h. record { history = h.history; writes = h.writes; reads = h.reads }) d d' linked (record { history = refl; writes = refl; reads = refl })
 
 -- what is seen of most events
 pub record SaysLittle (s : Seen) : Type 0 where
@@ -78,20 +80,32 @@ wait_says d e c p v (goes_on_in is) = record { write = refl; read = refl; entry 
 
 -- the counts
 same : (d d' : Device) (s : Seen) → Same d d' → is_write_failed s ≡ false → is_read_failed s ≡ false → Counts d (d', s)
-same d d' s k nw nr = record { writes = k.writes ∙ sym (ap (λ b. d.failed_writes + one_if b) nw ∙ add-zero _); reads = k.reads ∙ sym (ap (λ b. d.failed_reads + one_if b) nr ∙ add-zero _) }
+same d d' s k nw nr =
+    record {
+      writes = k.writes ∙ sym (ap (λ b. d.failed_writes + one_if b) nw ∙ add-zero _);
+      reads = k.reads ∙ sym (ap (λ b. d.failed_reads + one_if b) nr ∙ add-zero _);
+    }
 
 itself : (d : Device) → Same d d
 itself d = record { history = refl; writes = refl; reads = refl }
 
-by_history : (d d' : Device) (s : Seen) → d'.failed_writes ≡ d.failed_writes → d'.failed_reads ≡ d.failed_reads → is_write_failed s ≡ false → is_read_failed s ≡ false → Counts d (d', s)
-by_history d d' s w r nw nr = record { writes = w ∙ sym (ap (λ b. d.failed_writes + one_if b) nw ∙ add-zero _); reads = r ∙ sym (ap (λ b. d.failed_reads + one_if b) nr ∙ add-zero _) }
+by_history :
+    (d d' : Device) (s : Seen) → d'.failed_writes ≡ d.failed_writes → d'.failed_reads ≡ d.failed_reads → is_write_failed s ≡ false → is_read_failed s ≡ false
+    → Counts d (d', s)
+by_history d d' s w r nw nr =
+    record { writes = w ∙ sym (ap (λ b. d.failed_writes + one_if b) nw ∙ add-zero _); reads = r ∙ sym (ap (λ b. d.failed_reads + one_if b) nr ∙ add-zero _) }
 
 wrote_counts : (d : Device) (p : Page) (copy : Option Copy) (ok : Bool) → let a : Device × DiskStep = wrote d p copy ok in Counts d (a.0, see_disk a.1)
 wrote_counts d p None ok = same d d seen.Nothing (itself d) refl refl
 wrote_counts d p (Some copy) true = by_history d _ (seen.Written copy.entry) refl refl refl refl
 wrote_counts d p (Some copy) false = by_next (queue.next d.queue p)
   where
-    by_next : (o : Option Copy) → Counts d (record d { queue = queue.failed d.queue p; failed_writes = d.failed_writes + 1 }, see_disk (cond (is_none o) (DiskStep.Kept p copy.entry) (DiskStep.Dropped p copy.entry)))
+    by_next :
+        (o : Option Copy)
+        → Counts d (
+          record d { queue = queue.failed d.queue p; failed_writes = d.failed_writes + 1 },
+          see_disk (cond (is_none o) (DiskStep.Kept p copy.entry) (DiskStep.Dropped p copy.entry)),
+        )
     by_next None = record { writes = refl; reads = sym (add-zero _) }
     by_next (Some x) = record { writes = refl; reads = sym (add-zero _) }
 
@@ -111,27 +125,33 @@ comes_counts d d' page e s (accepts {to = to} step linked) = let k = linked_same
 comes_counts d d' page e s (gives_page step) = by_history d _ s refl refl refl refl
 comes_counts d d' page e s (fails why) = by_history d _ s refl refl refl refl
 comes_counts d d' page e s (keeps_page idle) = by_history d _ s refl refl refl refl
-comes_counts d d' page e s (reads {c = c} {p = p} {d' = x} v step is linked) = let k = linked_same d x linked in let says = wait_says d e c p v step in by_history d _ s k.writes k.reads says.write says.read
+comes_counts d d' page e s (reads {c = c} {p = p} {d' = x} v step is linked) =
+    let k = linked_same d x linked in let says = wait_says d e c p v step in by_history d _ s k.writes k.reads says.write says.read
 comes_counts d d' page e s starts_write = by_history d _ s refl refl refl refl
 comes_counts d d' page e s (takes_back taken) = took_counts d taken
 comes_counts d d' page e s (links new of_link linked) = let says = link_says s of_link in same d d' s (linked_same d d' linked) says.write says.read
 comes_counts d d' page e s (brings c bytes r linked) = let k = linked_same _ d' linked in by_history d d' s k.writes k.reads refl refl
 
 -- the history
-seen_nothing : (d : Device) (taken : Option Taken) → let a : Device × DiskStep = took_back d taken in (entry_seen (see_disk a.1) ≡ None) × (a.0.history ≡ d.history)
+seen_nothing : (d : Device) (taken : Option Taken) → let a : Device × DiskStep = took_back d taken in
+    (entry_seen (see_disk a.1) ≡ None) × (a.0.history ≡ d.history)
 seen_nothing d None = (refl, refl)
 seen_nothing d (Some t) = go t.done.which t.done.page t.done.ok t.bytes
   where
-    back : (p : Page) (copy : Option Copy) (ok : Bool) → let a : Device × DiskStep = wrote d p copy ok in (entry_seen (see_disk a.1) ≡ None) × (a.0.history ≡ d.history)
+    back : (p : Page) (copy : Option Copy) (ok : Bool) → let a : Device × DiskStep = wrote d p copy ok in
+        (entry_seen (see_disk a.1) ≡ None) × (a.0.history ≡ d.history)
     back p None ok = (refl, refl)
     back p (Some copy) true = (refl, refl)
     back p (Some copy) false = by_next (queue.next d.queue p)
       where
-        by_next : (o : Option Copy) → (entry_seen (see_disk (cond (is_none o) (DiskStep.Kept p copy.entry) (DiskStep.Dropped p copy.entry))) ≡ None) × (d.history ≡ d.history)
+        by_next :
+            (o : Option Copy)
+            → (entry_seen (see_disk (cond (is_none o) (DiskStep.Kept p copy.entry) (DiskStep.Dropped p copy.entry))) ≡ None) × (d.history ≡ d.history)
         by_next None = (refl, refl)
         by_next (Some x) = (refl, refl)
 
-    go : (w : DiskWhich) (p : Page) (ok : Bool) (bytes : List ℕ) → let a : Device × DiskStep = took d w p ok bytes in (entry_seen (see_disk a.1) ≡ None) × (a.0.history ≡ d.history)
+    go : (w : DiskWhich) (p : Page) (ok : Bool) (bytes : List ℕ) → let a : Device × DiskStep = took d w p ok bytes in
+        (entry_seen (see_disk a.1) ≡ None) × (a.0.history ≡ d.history)
     go (which.Write q) p ok bytes = back p (queue.flying d.queue p) ok
     go (which.Read c) p true bytes = (refl, refl)
     go (which.Read c) p false bytes = (refl, refl)
@@ -140,28 +160,43 @@ pub took_history : (d : Device) (taken : Option Taken) → (took_back d taken).0
 took_history d taken = (seen_nothing d taken).1
 
 -- an entry answers the call that an event makes or goes on with
-out_answers : (d : Device) (page : List ℕ) (e : Event) (c : Caller) (p : Page) (bytes : List ℕ) → StepOut d page e c p bytes → AnswersEvent d page e (row_of d.history c p op.PageOut bytes)
+out_answers :
+    (d : Device) (page : List ℕ) (e : Event) (c : Caller) (p : Page) (bytes : List ℕ) → StepOut d page e c p bytes
+    → AnswersEvent d page e (row_of d.history c p op.PageOut bytes)
 out_answers d page e c p bytes (begins_out idle) = (refl, (refl, tt, refl))
 out_answers d page e c p bytes (goes_on_out {since = since} state) =
-    let P : CallState → Type 0 = λ x. AnswersState x (call_of d.calls c).bytes (row_of d.history c p op.PageOut (call_of d.calls c).bytes) in (refl, subst P (sym state) (refl, tt, refl))
+    let P : CallState → Type 0 = λ x. AnswersState x (call_of d.calls c).bytes (row_of d.history c p op.PageOut (call_of d.calls c).bytes) in
+    (refl, subst P (sym state) (refl, tt, refl))
 
-in_answers : (d : Device) (page : List ℕ) (e : Event) (c : Caller) (p : Page) (o : Op) (bytes : List ℕ) → IsInOrFault o → StepIn d e c p → AnswersEvent d page e (row_of d.history c p o bytes)
+in_answers :
+    (d : Device) (page : List ℕ) (e : Event) (c : Caller) (p : Page) (o : Op) (bytes : List ℕ) → IsInOrFault o → StepIn d e c p
+    → AnswersEvent d page e (row_of d.history c p o bytes)
 in_answers d page e c p o bytes is (begins_in idle) = (refl, (refl, is))
 in_answers d page e c p o bytes is (goes_on_in {n = n} {v = v} {how = how} {newer = newer} {since = since} state) =
     let P : CallState → Type 0 = λ x. AnswersState x (call_of d.calls c).bytes (row_of d.history c p o bytes) in (refl, subst P (sym state) (refl, is))
 
-fault_answers : (d : Device) (page : List ℕ) (c : Caller) (p : Page) (k : CallKind) (since at : ℕ) (bytes : List ℕ) → Faults d c p k since at bytes → AnswersEvent d page (event.Finish c) (row_of d.history c p (op.Failed k since at) bytes)
+fault_answers :
+    (d : Device) (page : List ℕ) (c : Caller) (p : Page) (k : CallKind) (since at : ℕ) (bytes : List ℕ) → Faults d c p k since at bytes
+    → AnswersEvent d page (event.Finish c) (row_of d.history c p (op.Failed k since at) bytes)
 fault_answers d page c p k since at bytes (full state less) =
-    let P : CallState → Type 0 = λ x. AnswersState x (call_of d.calls c).bytes (row_of d.history c p (op.Failed kind.PageOut since d.failed_writes) (call_of d.calls c).bytes) in (refl, subst P (sym state) (refl, tt, refl))
+    let P : CallState
+    → Type 0 =
+    λ x. AnswersState x (call_of d.calls c).bytes (row_of d.history c p (op.Failed kind.PageOut since d.failed_writes) (call_of d.calls c).bytes) in
+    (refl, subst P (sym state) (refl, tt, refl))
 fault_answers d page c p k since at bytes (unread {n = n} {v = v} state) =
-    let P : CallState → Type 0 = λ x. AnswersState x (call_of d.calls c).bytes (row_of d.history c p (op.Failed kind.PageIn since d.failed_reads) (zeros d.sizes)) in (refl, subst P (sym state) (refl, tt))
+    let P : CallState
+    → Type 0 = λ x. AnswersState x (call_of d.calls c).bytes (row_of d.history c p (op.Failed kind.PageIn since d.failed_reads) (zeros d.sizes)) in
+    (refl, subst P (sym state) (refl, tt))
 
 pub comes_adds : (d d' : Device) (page : List ℕ) (e : Event) (s : Seen) → Comes d page e d' s → Adds d (record { event = e; page = page }) s d'.history
 comes_adds d d' page e s (refuses new) = nothing refl refl
 comes_adds d d' page e s (rests new rest) = nothing (rest_says s rest).entry refl
-comes_adds d d' page e s (accepts {c = c} {p = p} {bytes = bytes} step linked) = one (row_of d.history c p op.PageOut bytes) refl (linked_same _ d' linked).history (out_answers d page e c p bytes step)
-comes_adds d d' page e s (gives_page {c = c} {p = p} {named = named} {from = from} {bytes = bytes} step) = one (row_of d.history c p (op.PageIn named from) bytes) refl refl (in_answers d page e c p (op.PageIn named from) bytes tt step)
-comes_adds d d' page e s (fails {c = c} {p = p} {k = k} {since = since} {at = at} {bytes = bytes} why) = one (row_of d.history c p (op.Failed k since at) bytes) refl refl (fault_answers d page c p k since at bytes why)
+comes_adds d d' page e s (accepts {c = c} {p = p} {bytes = bytes} step linked) =
+    one (row_of d.history c p op.PageOut bytes) refl (linked_same _ d' linked).history (out_answers d page e c p bytes step)
+comes_adds d d' page e s (gives_page {c = c} {p = p} {named = named} {from = from} {bytes = bytes} step) =
+    one (row_of d.history c p (op.PageIn named from) bytes) refl refl (in_answers d page e c p (op.PageIn named from) bytes tt step)
+comes_adds d d' page e s (fails {c = c} {p = p} {k = k} {since = since} {at = at} {bytes = bytes} why) =
+    one (row_of d.history c p (op.Failed k since at) bytes) refl refl (fault_answers d page c p k since at bytes why)
 comes_adds d d' page e s (keeps_page idle) = nothing refl refl
 comes_adds d d' page e s (reads {c = c} {p = p} {d' = x} v step is linked) = nothing (wait_says d e c p v step).entry (linked_same d x linked).history
 comes_adds d d' page e s starts_write = nothing refl refl
@@ -203,7 +238,8 @@ counted_after made d d' i s was now = record {
 }
 
 -- a poll
-pub polled_counts : (made : List (Input × Seen)) (d d' : Device) (step : DiskStep) → AreCounted made d → Counts d (d', see_disk step) → AreCounted (with_polled step made) d'
+pub polled_counts :
+    (made : List (Input × Seen)) (d d' : Device) (step : DiskStep) → AreCounted made d → Counts d (d', see_disk step) → AreCounted (with_polled step made) d'
 polled_counts made d d' DiskStep.Nothing was now = record { writes = omega (arith, was.writes, now.writes); reads = omega (arith, was.reads, now.reads) }
 polled_counts made d d' (DiskStep.Written p e) was now = counted_after made d d' _ (seen.Written e) was now
 polled_counts made d d' (DiskStep.Kept p e) was now = counted_after made d d' _ (seen.WriteKept e) was now

@@ -35,20 +35,25 @@ link_acts e s of_link = refl
 both : {b : Bool} → b ≡ true → b ≡ false → ⊥
 both t f = cc
 
-took_stays : (d : Device) (taken : Option Taken) (w : DiskWhich) (ok : Bool) → let a : Device × DiskStep = took_back d taken in has_effect (event.Disk w ok) (see_disk a.1) ≡ false → a.0 ≡ d
+took_stays : (d : Device) (taken : Option Taken) (w : DiskWhich) (ok : Bool) → let a : Device × DiskStep = took_back d taken in
+    has_effect (event.Disk w ok) (see_disk a.1) ≡ false → a.0 ≡ d
 took_stays d None w ok none = refl
 took_stays d (Some t) w ok none = go t.done.which t.done.page t.done.ok t.bytes none
   where
-    back : (p : Page) (copy : Option Copy) (good : Bool) → let a : Device × DiskStep = wrote d p copy good in has_effect (event.Disk w ok) (see_disk a.1) ≡ false → a.0 ≡ d
+    back : (p : Page) (copy : Option Copy) (good : Bool) → let a : Device × DiskStep = wrote d p copy good in
+        has_effect (event.Disk w ok) (see_disk a.1) ≡ false → a.0 ≡ d
     back p None good none = refl
     back p (Some copy) true none = cc
     back p (Some copy) false none = absurd (kept (queue.next d.queue p) none)
       where
-        kept : (o : Option Copy) → has_effect (event.Disk w ok) (see_disk (cond (is_none o) (DiskStep.Kept p copy.entry) (DiskStep.Dropped p copy.entry))) ≡ false → ⊥
+        kept :
+            (o : Option Copy) → has_effect (event.Disk w ok) (see_disk (cond (is_none o) (DiskStep.Kept p copy.entry) (DiskStep.Dropped p copy.entry))) ≡ false
+            → ⊥
         kept None h = cc
         kept (Some x) h = cc
 
-    go : (v : DiskWhich) (p : Page) (good : Bool) (bytes : List ℕ) → let a : Device × DiskStep = took d v p good bytes in has_effect (event.Disk w ok) (see_disk a.1) ≡ false → a.0 ≡ d
+    go : (v : DiskWhich) (p : Page) (good : Bool) (bytes : List ℕ) → let a : Device × DiskStep = took d v p good bytes in
+        has_effect (event.Disk w ok) (see_disk a.1) ≡ false → a.0 ≡ d
     go (which.Write q) p good bytes none = back p (queue.flying d.queue p) good none
     go (which.Read c) p true bytes none = cc
     go (which.Read c) p false bytes none = cc
@@ -87,5 +92,6 @@ rates_act (event.Tick word) (seen.Asked t l m) may of_rates = refl
 rates_act e s may of_rates = cc
 
 pub comes_to_stays : (d d' : Device) (page : List ℕ) (e : Event) (s : Seen) → ComesTo d page e d' s → has_effect e s ≡ false → d' ≡ d
-comes_to_stays d d' page e s (rates, inl same, comes) none = comes_stays (record d { rates = rates }) d' page e s comes none ∙ ap (λ r. record d { rates = r }) same
+comes_to_stays d d' page e s (rates, inl same, comes) none =
+    comes_stays (record d { rates = rates }) d' page e s comes none ∙ ap (λ r. record d { rates = r }) same
 comes_to_stays d d' page e s (rates, inr may, comes) none = absurd (both (rates_act e s may.0 may.1) none)

@@ -55,7 +55,8 @@ abbrev pub AddsNoRead : Device → History → Type 0
 AddsNoRead d H = (H ≡ d.history) ⊎ ((row : Row) × (H ≡ row ∷ d.history) × (is_read_op row.entry.op ≡ false))
 
 abbrev pub AddsKept : Device → Caller → History → Type 0
-AddsKept d c H = AddsNoRead d H ⊎ ((row : Row) × (H ≡ row ∷ d.history) × (row.entry.caller ≡ c) × (row.bytes ≡ (call_of d.calls c).bytes) × IsCame (state_of d.calls c))
+AddsKept d c H =
+    AddsNoRead d H ⊎ ((row : Row) × (H ≡ row ∷ d.history) × (row.entry.caller ≡ c) × (row.bytes ≡ (call_of d.calls c).bytes) × IsCame (state_of d.calls c))
 
 abbrev pub ReadsAnew : CallState → Seen → Type 0
 ReadsAnew state s = (v : Via) → s ≡ seen.Again v → MayGoOn state
@@ -68,20 +69,30 @@ module _ {D F : Type 0} (disk_moves : D → (c : DiskCall) → DiskAnswer c → 
   all_answers (AskFabric c next) k f P each = λ r mid moved. all_answers (next r) k mid P each
 
   -- a loss leaves the history
-  lose_rows : {R : Type 0} (d x : Device) (l : Lender) (k : D) (f : F) (h : Device → Device × R) → ((y : Device) → (h y).0 ≡ y) → AddsNoRead d x.history → Leads disk_moves moves (answering h (lose x l)) k f (λ a _ _. AddsNoRead d a.0.history)
+  lose_rows :
+      {R : Type 0} (d x : Device) (l : Lender) (k : D) (f : F) (h : Device → Device × R) → ((y : Device) → (h y).0 ≡ y) → AddsNoRead d x.history
+      → Leads disk_moves moves (answering h (lose x l)) k f (λ a _ _. AddsNoRead d a.0.history)
   lose_rows d x l k f h same was =
       Leads-answering disk_moves moves h (lose x l) k f _
       (Leads-implies disk_moves moves (lose x l) k f _ _ (λ y _ _ r. subst (AddsNoRead d) (sym (ap (λ (z : Device). z.history) (same y) ∙ r.1.1.history)) was)
       (Goes-leads (Move anything) disk_moves moves (λ _ _ _. Unit {0}) (λ s asked t k k' f f' m went h. tt) _ k f (lose_passes anything x l) tt))
 
-  write_rows : (d e : Device) (k : D) (f : F) (p : Page) (n : EntryNo) (bytes : List ℕ) (at : Option (Lender × Lease)) → AddsNoRead d e.history → Leads disk_moves moves (write_to e p n bytes at) k f (λ a _ _. AddsNoRead d a.0.history)
+  write_rows :
+      (d e : Device) (k : D) (f : F) (p : Page) (n : EntryNo) (bytes : List ℕ) (at : Option (Lender × Lease)) → AddsNoRead d e.history
+      → Leads disk_moves moves (write_to e p n bytes at) k f (λ a _ _. AddsNoRead d a.0.history)
   write_rows d e k f p n bytes None h = h
   write_rows d e k f p n bytes (Some at) h = elim [ sent.Sent ↦ λ mid moved. h | sent.Down ↦ λ mid moved. lose_rows d e at.0 k mid sent_nowhere (λ y. refl) h ]
 
-  accept_rows : (d : Device) (k : D) (f : F) (c : Caller) (p : Page) (bytes : List ℕ) → Leads disk_moves moves (accept d c p bytes) k f (λ a _ _. AddsNoRead d a.0.history)
-  accept_rows d k f c p bytes = write_rows d (enter d c p bytes) k f p (next_name d.history) bytes (remote.target d.sizes d.remote p) (inr (row_of d.history c p op.PageOut bytes, refl, refl))
+  accept_rows :
+      (d : Device) (k : D) (f : F) (c : Caller) (p : Page) (bytes : List ℕ)
+      → Leads disk_moves moves (accept d c p bytes) k f (λ a _ _. AddsNoRead d a.0.history)
+  accept_rows d k f c p bytes =
+      write_rows d (enter d c p bytes) k f p (next_name d.history) bytes (remote.target d.sizes d.remote p)
+      (inr (row_of d.history c p op.PageOut bytes, refl, refl))
 
-  read_rows : (d : Device) (k : D) (f : F) (c : Caller) (p : Page) (n : EntryNo) (at : Option (Lender × Lease)) → Leads disk_moves moves (read_at d c p n at) k f (λ a _ _. AddsNoRead d a.0.history)
+  read_rows :
+      (d : Device) (k : D) (f : F) (c : Caller) (p : Page) (n : EntryNo) (at : Option (Lender × Lease))
+      → Leads disk_moves moves (read_at d c p n at) k f (λ a _ _. AddsNoRead d a.0.history)
   read_rows d k f c p n None = λ r mid moved. inl refl
   read_rows d k f c p n (Some at) = elim [ sent.Sent ↦ λ mid moved. inl refl | sent.Down ↦ λ mid moved. down at.0 mid ]
     where
@@ -104,7 +115,8 @@ module _ {D F : Type 0} (disk_moves : D → (c : DiskCall) → DiskAnswer c → 
   late_rows d k f c = by (state_of d.calls c) (λ h. h)
     where
       routes : (p : Page) → Leads disk_moves moves (answering routed_again (route d c p)) k f (λ a _ _. AddsKept d c a.0.history)
-      routes p = Leads-answering disk_moves moves routed_again (route d c p) k f _ (Leads-implies disk_moves moves (route d c p) k f _ _ again (route_rows d k f c p))
+      routes p =
+          Leads-answering disk_moves moves routed_again (route d c p) k f _ (Leads-implies disk_moves moves (route d c p) k f _ _ again (route_rows d k f c p))
         where
           again : (a : Device × InStep) (e : D) (g : F) → AddsNoRead d a.0.history → AddsKept d c (routed_again a).0.history
           again (x, ins.Done n) e g h = inl h
@@ -113,41 +125,80 @@ module _ {D F : Type 0} (disk_moves : D → (c : DiskCall) → DiskAnswer c → 
       room : (p : Page) (since : ℕ) (bytes : List ℕ) → Leads disk_moves moves (finish_out d c p since bytes) k f (λ a _ _. AddsKept d c a.0.history)
       room p since bytes = by_room (queue.has_room d.queue p)
         where
-          fails : (b : Bool) → Leads disk_moves moves {A = Device × Step} (cond b (Ret (fault d c p kind.PageOut since d.failed_writes bytes, steps.Fault (next_name d.history) since d.failed_writes)) (Ret (d, steps.Room))) k f (λ a _ _. AddsKept d c a.0.history)
+          fails :
+              (b : Bool)
+              → Leads disk_moves moves {A = Device × Step}
+              (cond b (Ret (fault d c p kind.PageOut since d.failed_writes bytes, steps.Fault (next_name d.history) since d.failed_writes))
+              (Ret (d, steps.Room)))
+              k f
+              (λ a _ _. AddsKept d c a.0.history)
           fails true = inl (inr (row_of d.history c p (op.Failed kind.PageOut since d.failed_writes) bytes, refl, refl))
           fails false = inl (inl refl)
 
-          by_room : (b : Bool) → Leads disk_moves moves {A = Device × Step} (cond b (answering (accepted_late (next_name d.history)) (accept d c p bytes)) (cond (nat_lt since d.failed_writes) (Ret (fault d c p kind.PageOut since d.failed_writes bytes, steps.Fault (next_name d.history) since d.failed_writes)) (Ret (d, steps.Room)))) k f (λ a _ _. AddsKept d c a.0.history)
-          by_room true = Leads-answering disk_moves moves (accepted_late (next_name d.history)) (accept d c p bytes) k f _ (Leads-implies disk_moves moves (accept d c p bytes) k f _ _ (λ a e g h. inl h) (accept_rows d k f c p bytes))
+          by_room :
+              (b : Bool)
+              → Leads disk_moves moves {A = Device × Step}
+              (cond b (answering (accepted_late (next_name d.history)) (accept d c p bytes))
+              (cond (nat_lt since d.failed_writes)
+              (Ret (fault d c p kind.PageOut since d.failed_writes bytes, steps.Fault (next_name d.history) since d.failed_writes)) (Ret (d, steps.Room))))
+              k f
+              (λ a _ _. AddsKept d c a.0.history)
+          by_room true =
+              Leads-answering disk_moves moves (accepted_late (next_name d.history)) (accept d c p bytes) k f _
+              (Leads-implies disk_moves moves (accept d c p bytes) k f _ _ (λ a e g h. inl h) (accept_rows d k f c p bytes))
           by_room false = fails (nat_lt since d.failed_writes)
 
-      by : (state : CallState) → (IsCame state → IsCame (state_of d.calls c)) → Leads disk_moves moves (finish_by d c (call_of d.calls c).bytes state) k f (λ a _ _. AddsKept d c a.0.history)
+      by :
+          (state : CallState) → (IsCame state → IsCame (state_of d.calls c))
+          → Leads disk_moves moves (finish_by d c (call_of d.calls c).bytes state) k f (λ a _ _. AddsKept d c a.0.history)
       by Idle is = inl (inl refl)
       by (Room p since) is = room p since (call_of d.calls c).bytes
       by (Reading p n v arrived.Waiting newer since) is = inl (inl refl)
       by (Reading p n v arrived.Came true since) is = routes p
-      by (Reading p n v arrived.Came false since) is = inr (row_of d.history c p (op.PageIn (Some n) (origin_of v)) (call_of d.calls c).bytes, refl, refl, refl, is tt)
+      by (Reading p n v arrived.Came false since) is =
+          inr (row_of d.history c p (op.PageIn (Some n) (origin_of v)) (call_of d.calls c).bytes, refl, refl, refl, is tt)
       by (Reading p n v arrived.Failed true since) is = routes p
-      by (Reading p n v arrived.Failed false since) is = inl (inr (row_of d.history c p (op.Failed kind.PageIn since d.failed_reads) (zeros d.sizes), refl, refl))
+      by (Reading p n v arrived.Failed false since) is =
+          inl (inr (row_of d.history c p (op.Failed kind.PageIn since d.failed_reads) (zeros d.sizes), refl, refl))
       by (Reading p n v arrived.Lost newer since) is = routes p
 
   -- it reads anew where it may
-  late_anew : (d : Device) (k : D) (f : F) (c : Caller) → Leads disk_moves moves (device.finish d c) k f (λ a _ _. ReadsAnew (state_of d.calls c) (see_step a.1))
+  late_anew :
+      (d : Device) (k : D) (f : F) (c : Caller) → Leads disk_moves moves (device.finish d c) k f (λ a _ _. ReadsAnew (state_of d.calls c) (see_step a.1))
   late_anew d k f c = by (state_of d.calls c)
     where
-      room : (p : Page) (since : ℕ) (bytes : List ℕ) → Leads disk_moves moves (finish_out d c p since bytes) k f (λ a _ _. ReadsAnew (Room p since) (see_step a.1))
+      room :
+          (p : Page) (since : ℕ) (bytes : List ℕ) → Leads disk_moves moves (finish_out d c p since bytes) k f (λ a _ _. ReadsAnew (Room p since) (see_step a.1))
       room p since bytes = by_room (queue.has_room d.queue p)
         where
-          fails : (b : Bool) → Leads disk_moves moves {A = Device × Step} (cond b (Ret (fault d c p kind.PageOut since d.failed_writes bytes, steps.Fault (next_name d.history) since d.failed_writes)) (Ret (d, steps.Room))) k f (λ a _ _. ReadsAnew (Room p since) (see_step a.1))
+          fails :
+              (b : Bool)
+              → Leads disk_moves moves {A = Device × Step}
+              (cond b (Ret (fault d c p kind.PageOut since d.failed_writes bytes, steps.Fault (next_name d.history) since d.failed_writes))
+              (Ret (d, steps.Room)))
+              k f
+              (λ a _ _. ReadsAnew (Room p since) (see_step a.1))
           fails true = λ v is. cc
           fails false = λ v is. cc
 
-          by_room : (b : Bool) → Leads disk_moves moves {A = Device × Step} (cond b (answering (accepted_late (next_name d.history)) (accept d c p bytes)) (cond (nat_lt since d.failed_writes) (Ret (fault d c p kind.PageOut since d.failed_writes bytes, steps.Fault (next_name d.history) since d.failed_writes)) (Ret (d, steps.Room)))) k f (λ a _ _. ReadsAnew (Room p since) (see_step a.1))
-          by_room true = Leads-answering disk_moves moves (accepted_late (next_name d.history)) (accept d c p bytes) k f _ (all_answers (accept d c p bytes) k f (λ a. ReadsAnew (Room p since) (see_step (accepted_late (next_name d.history) a).1)) (λ a v is. cc))
+          by_room :
+              (b : Bool)
+              → Leads disk_moves moves {A = Device × Step}
+              (cond b (answering (accepted_late (next_name d.history)) (accept d c p bytes))
+              (cond (nat_lt since d.failed_writes)
+              (Ret (fault d c p kind.PageOut since d.failed_writes bytes, steps.Fault (next_name d.history) since d.failed_writes)) (Ret (d, steps.Room))))
+              k f
+              (λ a _ _. ReadsAnew (Room p since) (see_step a.1))
+          by_room true =
+              Leads-answering disk_moves moves (accepted_late (next_name d.history)) (accept d c p bytes) k f _
+              (all_answers (accept d c p bytes) k f (λ a. ReadsAnew (Room p since) (see_step (accepted_late (next_name d.history) a).1)) (λ a v is. cc))
           by_room false = fails (nat_lt since d.failed_writes)
 
-      routes : (p q : Page) (n : EntryNo) (v : Via) (how : Arrived) (newer : Bool) (since : ℕ) → MayGoOn (Reading q n v how newer since) → Leads disk_moves moves (answering routed_again (route d c p)) k f (λ a _ _. ReadsAnew (Reading q n v how newer since) (see_step a.1))
-      routes p q n v how newer since may = all_answers (answering routed_again (route d c p)) k f (λ a. ReadsAnew (Reading q n v how newer since) (see_step a.1)) (λ a w is. may)
+      routes :
+          (p q : Page) (n : EntryNo) (v : Via) (how : Arrived) (newer : Bool) (since : ℕ) → MayGoOn (Reading q n v how newer since)
+          → Leads disk_moves moves (answering routed_again (route d c p)) k f (λ a _ _. ReadsAnew (Reading q n v how newer since) (see_step a.1))
+      routes p q n v how newer since may =
+          all_answers (answering routed_again (route d c p)) k f (λ a. ReadsAnew (Reading q n v how newer since) (see_step a.1)) (λ a w is. may)
 
       by : (state : CallState) → Leads disk_moves moves (finish_by d c (call_of d.calls c).bytes state) k f (λ a _ _. ReadsAnew state (see_step a.1))
       by Idle = λ v is. cc
@@ -160,21 +211,29 @@ module _ {D F : Type 0} (disk_moves : D → (c : DiskCall) → DiskAnswer c → 
       by (Reading p n v arrived.Lost newer since) = routes p p n v arrived.Lost newer since (inr refl)
 
   -- the events
-  pub finish_rows : (d : Device) (k : D) (f : F) (page : List ℕ) (c : Caller) → Leads disk_moves moves (happens d page (event.Finish c)) k f (λ a _ _. AddsKept d c a.0.history)
+  pub finish_rows :
+      (d : Device) (k : D) (f : F) (page : List ℕ) (c : Caller)
+      → Leads disk_moves moves (happens d page (event.Finish c)) k f (λ a _ _. AddsKept d c a.0.history)
   finish_rows d k f page c = go (is_idle (state_of d.calls c))
     where
       go : (b : Bool) → Leads disk_moves moves (cond b (Ret (d, seen.Idle)) (seen_by see_step (device.finish d c))) k f (λ a _ _. AddsKept d c a.0.history)
       go true = inl (inl refl)
       go false = Leads-answering disk_moves moves _ (device.finish d c) k f _ (late_rows d k f c)
 
-  pub finish_anew : (d : Device) (k : D) (f : F) (page : List ℕ) (c : Caller) → Leads disk_moves moves (happens d page (event.Finish c)) k f (λ a _ _. ReadsAnew (state_of d.calls c) a.1)
+  pub finish_anew :
+      (d : Device) (k : D) (f : F) (page : List ℕ) (c : Caller)
+      → Leads disk_moves moves (happens d page (event.Finish c)) k f (λ a _ _. ReadsAnew (state_of d.calls c) a.1)
   finish_anew d k f page c = go (is_idle (state_of d.calls c))
     where
-      go : (b : Bool) → Leads disk_moves moves (cond b (Ret (d, seen.Idle)) (seen_by see_step (device.finish d c))) k f (λ a _ _. ReadsAnew (state_of d.calls c) a.1)
+      go :
+          (b : Bool)
+          → Leads disk_moves moves (cond b (Ret (d, seen.Idle)) (seen_by see_step (device.finish d c))) k f (λ a _ _. ReadsAnew (state_of d.calls c) a.1)
       go true = λ v is. cc
       go false = Leads-answering disk_moves moves _ (device.finish d c) k f _ (late_anew d k f c)
 
-  pub page_in_rows : (d : Device) (k : D) (f : F) (page : List ℕ) (c : Caller) (p : Page) → Leads disk_moves moves (happens d page (event.PageIn c p)) k f (λ a _ _. AddsNoRead d a.0.history)
+  pub page_in_rows :
+      (d : Device) (k : D) (f : F) (page : List ℕ) (c : Caller) (p : Page)
+      → Leads disk_moves moves (happens d page (event.PageIn c p)) k f (λ a _ _. AddsNoRead d a.0.history)
   page_in_rows d k f page c p = go (is_idle (state_of d.calls c))
     where
       go : (b : Bool) → Leads disk_moves moves (cond b (seen_by see_in (device.read d c p)) (Ret (d, seen.Busy))) k f (λ a _ _. AddsNoRead d a.0.history)

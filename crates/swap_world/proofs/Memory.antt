@@ -131,18 +131,26 @@ rooms_lost n cs l h = All-map (RoomFits n) (RoomFits n) _ cs (λ call k. room_lo
 rooms_reads : (n : ℕ) (cs : Calls) (c : Caller) (p : Page) (m : EntryNo) (v : Via) (since : ℕ) → RoomsOf n cs → RoomsOf n (calls.reads cs c p m v since)
 rooms_reads n cs c p m v since h = All-set (RoomFits n) cs c.0 (record { state = Reading p m v arrived.Waiting false since; bytes = [] }) h tt
 
-rooms_arrives : (n : ℕ) (cs : Calls) (c : Caller) (how : Arrived) (bytes : List ℕ) → RoomsOf n cs → RoomsOf n (calls.with_call cs c (calls.arrives how bytes (call_of cs c) (state_of cs c)))
-rooms_arrives n cs c how bytes h = All-set (RoomFits n) cs c.0 _ h (room_arrives n how bytes (call_of cs c) (state_of cs c) (All-get_or (RoomFits n) cs c.0 idle h tt))
+rooms_arrives :
+    (n : ℕ) (cs : Calls) (c : Caller) (how : Arrived) (bytes : List ℕ) → RoomsOf n cs
+    → RoomsOf n (calls.with_call cs c (calls.arrives how bytes (call_of cs c) (state_of cs c)))
+rooms_arrives n cs c how bytes h =
+    All-set (RoomFits n) cs c.0 _ h (room_arrives n how bytes (call_of cs c) (state_of cs c) (All-get_or (RoomFits n) cs c.0 idle h tt))
 
-rooms_wait : (n : ℕ) (cs : Calls) (c : Caller) (p : Page) (since : ℕ) (bytes : List ℕ) → length bytes ≡ n → RoomsOf n cs → RoomsOf n (calls.waits_for_room cs c p since bytes)
+rooms_wait :
+    (n : ℕ) (cs : Calls) (c : Caller) (p : Page) (since : ℕ) (bytes : List ℕ) → length bytes ≡ n → RoomsOf n cs
+    → RoomsOf n (calls.waits_for_room cs c p since bytes)
 rooms_wait n cs c p since bytes e h = All-set (RoomFits n) cs c.0 (record { state = Room p since; bytes = bytes }) h e
 
-wrote_rooms : (s : Sizes) (d : Device) (p : Page) (copy : Option Copy) (ok : Bool) → RoomsOf s.page_bytes d.calls → RoomsOf s.page_bytes (wrote d p copy ok).0.calls
+wrote_rooms :
+    (s : Sizes) (d : Device) (p : Page) (copy : Option Copy) (ok : Bool) → RoomsOf s.page_bytes d.calls → RoomsOf s.page_bytes (wrote d p copy ok).0.calls
 wrote_rooms s d p None ok h = h
 wrote_rooms s d p (Some copy) true h = h
 wrote_rooms s d p (Some copy) false h = h
 
-took_rooms : (s : Sizes) (d : Device) (w : DiskWhich) (p : Page) (ok : Bool) (bytes : List ℕ) → RoomsOf s.page_bytes d.calls → RoomsOf s.page_bytes (took d w p ok bytes).0.calls
+took_rooms :
+    (s : Sizes) (d : Device) (w : DiskWhich) (p : Page) (ok : Bool) (bytes : List ℕ) → RoomsOf s.page_bytes d.calls
+    → RoomsOf s.page_bytes (took d w p ok bytes).0.calls
 took_rooms s d (which.Write q) p ok bytes h = wrote_rooms s d p (queue.flying d.queue p) ok h
 took_rooms s d (which.Read c) p true bytes h = rooms_arrives s.page_bytes d.calls c arrived.Came bytes h
 took_rooms s d (which.Read c) p false bytes h = rooms_arrives s.page_bytes d.calls c arrived.Failed [] h
@@ -189,12 +197,20 @@ module _ (s : Sizes) (n : ℕ) where
 
   outs_whole : (d : Device) (c : Caller) (p : Page) (bytes : List ℕ) → RoomsFit d → Outs There d c p bytes → Whole bytes
   outs_whole d c p bytes rooms (new_out e within hands) = hands
-  outs_whole d c p bytes rooms (late_out {since = since} is) = let P : CallState → Type 0 = λ x. RoomKeeps s.page_bytes (call_of d.calls c).bytes x in subst P is (All-get_or (RoomFits s.page_bytes) d.calls c.0 idle rooms tt)
+  outs_whole d c p bytes rooms (late_out {since = since} is) =
+      let P : CallState → Type 0 = λ x. RoomKeeps s.page_bytes (call_of d.calls c).bytes x in
+      subst P is (All-get_or (RoomFits s.page_bytes) d.calls c.0 idle rooms tt)
 
-  below : (d : Device) (k : Drive) (h : Harbor) (l : Lender) → keep.Agree drive_meaning drives.follows harbor_meaning harbor_promises true OfThese Below Whole d k h → is_up d.remote.links l ≡ true → l.0 < n
-  below d k h l agree up = subst (λ (x : FabricOf). l.0 < x.lenders) agree.is (keep.up_below drive_meaning drives.follows harbor_meaning harbor_promises true OfThese Below Whole d k h l agree up)
+  below :
+      (d : Device) (k : Drive) (h : Harbor) (l : Lender) → keep.Agree drive_meaning drives.follows harbor_meaning harbor_promises true OfThese Below Whole d k h
+      → is_up d.remote.links l ≡ true → l.0 < n
+  below d k h l agree up =
+      subst (λ (x : FabricOf). l.0 < x.lenders) agree.is
+      (keep.up_below drive_meaning drives.follows harbor_meaning harbor_promises true OfThese Below Whole d k h l agree up)
 
-  send_fits : (d : Device) (k : Drive) (h : Harbor) (l : Lender) (q : Parcel) (e base : Device) → SoundAt (quiet d) k h → Sends There d l q e base → Fitting (FabricCall.Send l q)
+  send_fits :
+      (d : Device) (k : Drive) (h : Harbor) (l : Lender) (q : Parcel) (e base : Device) → SoundAt (quiet d) k h → Sends There d l q e base
+      → Fitting (FabricCall.Send l q)
   send_fits d k h l q e base sound one = record {
     page = fits q e base one;
     lender = below d k h l sound.agrees (keep.sends_up There d l q e base one);
@@ -223,8 +239,10 @@ module _ (s : Sizes) (n : ℕ) where
   asks_fit x y k h c r (sends {d = d} {e = e} {base = base} {l = l} {q = q} one) sound = send_fits d k h l q e base sound one
   asks_fit x y k h c r (finds_down {d = d} {e = e} {base = base} {l = l} {q = q} one) sound = send_fits d k h l q e base sound one
   asks_fit x y k h c r (raises within off) sound = record { page = tt; lender = within }
-  asks_fit x y k h c r (speaks {d = d} {l = l} {q = q} word) sound = word_fits d l q word (subst (λ (x : FabricOf). l.0 < x.lenders) sound.agrees.0.is sound.agrees.1)
-  asks_fit x y k h c r (speaks_to_nobody {d = d} {l = l} {q = q} word) sound = word_fits d l q word (subst (λ (x : FabricOf). l.0 < x.lenders) sound.agrees.0.is sound.agrees.1)
+  asks_fit x y k h c r (speaks {d = d} {l = l} {q = q} word) sound =
+      word_fits d l q word (subst (λ (x : FabricOf). l.0 < x.lenders) sound.agrees.0.is sound.agrees.1)
+  asks_fit x y k h c r (speaks_to_nobody {d = d} {l = l} {q = q} word) sound =
+      word_fits d l q word (subst (λ (x : FabricOf). l.0 < x.lenders) sound.agrees.0.is sound.agrees.1)
   asks_fit x y k h c r (hears {d = d} {l = l} up one) sound = record { page = tt; lender = below d k h l sound.agrees up }
   asks_fit x y k h c r (hears_nothing {d = d} {l = l} up) sound = record { page = tt; lender = below d k h l sound.agrees up }
   asks_fit x y k h c r (loses {d = d} {l = l} up) sound = record { page = tt; lender = below d k h l sound.agrees up }
@@ -234,8 +252,10 @@ module _ (s : Sizes) (n : ℕ) where
 
   -- and keeps the pages of the calls that wait for room
   sent_rooms : (d : Device) (l : Lender) (q : Parcel) (e base : Device) → RoomsFit d → Sends There d l q e base → RoomsFit e × RoomsFit base
-  sent_rooms d l q e base rooms (write {c = c} {p = p} outs is) = let entered = rooms_ended s.page_bytes (calls.paged_out d.calls p) c (rooms_paged_out s.page_bytes d.calls p rooms) in (entered, entered)
-  sent_rooms d l q e base rooms (read {c = c} {p = p} {n = m} ins within is none at) = (rooms_reads s.page_bytes d.calls c p m (via.Lender l) d.failed_reads rooms, rooms)
+  sent_rooms d l q e base rooms (write {c = c} {p = p} outs is) =
+      let entered = rooms_ended s.page_bytes (calls.paged_out d.calls p) c (rooms_paged_out s.page_bytes d.calls p rooms) in (entered, entered)
+  sent_rooms d l q e base rooms (read {c = c} {p = p} {n = m} ins within is none at) =
+      (rooms_reads s.page_bytes d.calls c p m (via.Lender l) d.failed_reads rooms, rooms)
   sent_rooms d l q e base rooms (borrow within may) = (rooms, rooms)
   sent_rooms d l q e base rooms (query within may) = (rooms, rooms)
   sent_rooms d l q e base rooms (query_too within state other may) = (rooms, rooms)
@@ -250,7 +270,8 @@ module _ (s : Sizes) (n : ℕ) where
   heard_rooms d l q e rooms (brought {c = c} ring says named) = rooms_arrives s.page_bytes d.calls c arrived.Came q.page rooms
 
   rooms_kept : (x y : Speaker) (asked : Asked) → Move There x asked y → RoomsFit x.device → RoomsFit y.device
-  rooms_kept x y asked (enters {d = d} {c = c} {p = p} outs) rooms = rooms_ended s.page_bytes (calls.paged_out d.calls p) c (rooms_paged_out s.page_bytes d.calls p rooms)
+  rooms_kept x y asked (enters {d = d} {c = c} {p = p} outs) rooms =
+      rooms_ended s.page_bytes (calls.paged_out d.calls p) c (rooms_paged_out s.page_bytes d.calls p rooms)
   rooms_kept x y asked (gives {d = d} {c = c} given) rooms = rooms_ended s.page_bytes d.calls c rooms
   rooms_kept x y asked (faults {d = d} {c = c} why) rooms = rooms_ended s.page_bytes d.calls c rooms
   rooms_kept x y asked (waits_for_room {d = d} c p bytes e within hands) rooms = rooms_wait s.page_bytes d.calls c p d.failed_writes bytes hands rooms
@@ -258,11 +279,13 @@ module _ (s : Sizes) (n : ℕ) where
   rooms_kept x y asked (lets_go {d = d} l within up) rooms = rooms_lost s.page_bytes d.calls l rooms
   rooms_kept x y asked (gives_up l t off asks) rooms = rooms
   rooms_kept x y asked (starts el ec) rooms = rooms
-  rooms_kept x y asked (waits_for_disk {d = d} {c = c} {p = p} {n = m} ins within is none) rooms = rooms_reads s.page_bytes d.calls c p m via.Disk d.failed_reads rooms
+  rooms_kept x y asked (waits_for_disk {d = d} {c = c} {p = p} {n = m} ins within is none) rooms =
+      rooms_reads s.page_bytes d.calls c p m via.Disk d.failed_reads rooms
   rooms_kept x y asked (takes {d = d} {taken = taken}) rooms = took_back_rooms s d taken rooms
   rooms_kept x y asked lets_finish rooms = rooms
   rooms_kept x y asked (sends {d = d} {e = e} {base = base} {l = l} {q = q} one) rooms = (sent_rooms d l q e base rooms one).0
-  rooms_kept x y asked (finds_down {d = d} {e = e} {base = base} {l = l} {q = q} one) rooms = rooms_lost s.page_bytes base.calls l (sent_rooms d l q e base rooms one).1
+  rooms_kept x y asked (finds_down {d = d} {e = e} {base = base} {l = l} {q = q} one) rooms =
+      rooms_lost s.page_bytes base.calls l (sent_rooms d l q e base rooms one).1
   rooms_kept x y asked (raises within off) rooms = rooms
   rooms_kept x y asked (speaks word) rooms = rooms
   rooms_kept x y asked (speaks_to_nobody {d = d} {l = l} word) rooms = rooms_lost s.page_bytes d.calls l rooms
@@ -273,13 +296,21 @@ module _ (s : Sizes) (n : ℕ) where
   rooms_kept x y asked (breaks_off {d = d} {l = l}) rooms = rooms_lost s.page_bytes d.calls l rooms
   rooms_kept x y asked (far one) rooms = rooms
 
-  asks_move : (x y : Speaker) (k : Drive) (h h' : Harbor) (c : FabricCall) (r : FabricAnswer c) → Move There x (OfFabric c r) y → harbor.ask h c ≡ (r, h') → SoundAt x k h → harbor.Moves h c r h'
+  asks_move :
+      (x y : Speaker) (k : Drive) (h h' : Harbor) (c : FabricCall) (r : FabricAnswer c) → Move There x (OfFabric c r) y → harbor.ask h c ≡ (r, h')
+      → SoundAt x k h
+      → harbor.Moves h c r h'
   asks_move x y k h h' c r m is sound =
       let fit = asks_fit x y k h c r m sound in
       let sized : h.sizes ≡ s = ap (λ (a : FabricOf). a.sizes) sound.of in
-      let kept = whole.ask_keeps h c sound.harbor (subst (λ z. CallFits z.page_bytes c) (sym sized) fit.page) (subst (λ z. (lender_of c).0 < z) (sym (ap (λ (a : FabricOf). a.lenders) sound.of)) fit.lender) in (kept.1.0, is)
+      let kept =
+      whole.ask_keeps h c sound.harbor (subst (λ z. CallFits z.page_bytes c) (sym sized) fit.page)
+      (subst (λ z. (lender_of c).0 < z) (sym (ap (λ (a : FabricOf). a.lenders) sound.of)) fit.lender) in
+      (kept.1.0, is)
 
-  moves_told : (x : Speaker) (asked : Asked) (y : Speaker) (k k' : Drive) (h h' : Harbor) → Move There x asked y → PortsGo (Does drive.ask harbor.ask) (DoesOf drive.ask harbor.ask) asked k h k' h' → SoundAt x k h → PortsGo drive.Moves harbor.Moves asked k h k' h'
+  moves_told :
+      (x : Speaker) (asked : Asked) (y : Speaker) (k k' : Drive) (h h' : Harbor) → Move There x asked y
+      → PortsGo (Does drive.ask harbor.ask) (DoesOf drive.ask harbor.ask) asked k h k' h' → SoundAt x k h → PortsGo drive.Moves harbor.Moves asked k h k' h'
   moves_told x asked y k k' h h' m stay sound = stay
   moves_told x asked y k k' h h' m (by_disk is) sound = by_disk (sound.drive, is)
   moves_told x asked y k k' h h' m (by_fabric {c = c} {r = r} is) sound = by_fabric (asks_move x y k h h' c r m is sound)
@@ -288,15 +319,21 @@ module _ (s : Sizes) (n : ℕ) where
   sound_kept : EachKeeps (Does drive.ask harbor.ask) (DoesOf drive.ask harbor.ask) (Move There) SoundAt
   sound_kept x asked y k k' h h' m stay sound = record {
     agrees = keep.each_keeps drive_meaning drives.follows harbor_meaning harbor_promises true OfThese Below Whole x asked y k k' h h' m stay sound.agrees;
-    accounts = accounting.each_accounts drive_meaning drives.follows harbor_meaning harbor_promises true OfThese Below Whole x asked y k k' h h' m stay sound.agrees sound.accounts;
+    accounts =
+        accounting.each_accounts drive_meaning drives.follows harbor_meaning harbor_promises true OfThese Below Whole x asked y k k' h h' m stay sound.agrees
+        sound.accounts;
     of = sound.of;
     drive = sound.drive;
     harbor = sound.harbor;
     rooms = rooms_kept x y asked m sound.rooms;
   }
   sound_kept x asked y k k' h h' m (by_disk {c = c} {r = r} is) sound = record {
-    agrees = keep.each_keeps drive_meaning drives.follows harbor_meaning harbor_promises true OfThese Below Whole x asked y k k' h h' m (by_disk (sound.drive, is)) sound.agrees;
-    accounts = accounting.each_accounts drive_meaning drives.follows harbor_meaning harbor_promises true OfThese Below Whole x asked y k k' h h' m (by_disk (sound.drive, is)) sound.agrees sound.accounts;
+    agrees =
+        keep.each_keeps drive_meaning drives.follows harbor_meaning harbor_promises true OfThese Below Whole x asked y k k' h h' m
+        (by_disk (sound.drive, is)) sound.agrees;
+    accounts =
+        accounting.each_accounts drive_meaning drives.follows harbor_meaning harbor_promises true OfThese Below Whole x asked y k k' h h' m
+        (by_disk (sound.drive, is)) sound.agrees sound.accounts;
     of = sound.of;
     drive = subst IsDrive (ap (λ (a : DiskAnswer c × Drive). a.1) is) (drives.ask_keeps k c sound.drive);
     harbor = sound.harbor;
@@ -305,11 +342,17 @@ module _ (s : Sizes) (n : ℕ) where
   sound_kept x asked y k k' h h' m (by_fabric {c = c} {r = r} is) sound =
       let fit = asks_fit x y k h c r m sound in
       let sized : h.sizes ≡ s = ap (λ (a : FabricOf). a.sizes) sound.of in
-      let kept = whole.ask_keeps h c sound.harbor (subst (λ z. CallFits z.page_bytes c) (sym sized) fit.page) (subst (λ z. (lender_of c).0 < z) (sym (ap (λ (a : FabricOf). a.lenders) sound.of)) fit.lender) in
+      let kept =
+      whole.ask_keeps h c sound.harbor (subst (λ z. CallFits z.page_bytes c) (sym sized) fit.page)
+      (subst (λ z. (lender_of c).0 < z) (sym (ap (λ (a : FabricOf). a.lenders) sound.of)) fit.lender) in
       let moved : harbor.Moves h c r h' = (kept.1.0, is) in
       record {
-        agrees = keep.each_keeps drive_meaning drives.follows harbor_meaning harbor_promises true OfThese Below Whole x asked y k k' h h' m (by_fabric moved) sound.agrees;
-        accounts = accounting.each_accounts drive_meaning drives.follows harbor_meaning harbor_promises true OfThese Below Whole x asked y k k' h h' m (by_fabric moved) sound.agrees sound.accounts;
+        agrees =
+            keep.each_keeps drive_meaning drives.follows harbor_meaning harbor_promises true OfThese Below Whole x asked y k k' h h' m
+            (by_fabric moved) sound.agrees;
+        accounts =
+            accounting.each_accounts drive_meaning drives.follows harbor_meaning harbor_promises true OfThese Below Whole x asked y k k' h h' m
+            (by_fabric moved) sound.agrees sound.accounts;
         of = harbor_promises.keep_of h c r h' moved ∙ sound.of;
         drive = sound.drive;
         harbor = subst IsHarbor (ap (λ (a : FabricAnswer c × Harbor). a.1) is) kept.0;
@@ -326,7 +369,8 @@ module _ (s : Sizes) (n : ℕ) where
 
   -- what an event names and hands in, for its moves
   goes_here : (w : World) (i : Input) → IsInput s n i → FaresTo There w.device i.page i.event (λ x. x) (happens w.device i.page i.event)
-  goes_here w i input = happens_fares There w.device i.page i.event (names_there s n Below Whole w.device i.page i.event input.0 (hands_whole i.page i.event input.1 input.0))
+  goes_here w i input =
+      happens_fares There w.device i.page i.event (names_there s n Below Whole w.device i.page i.event input.0 (hands_whole i.page i.event input.1 input.0))
 
   abbrev pub IsSound : World → Type 0
   IsSound w = SoundAt (quiet w.device) w.drive w.harbor
@@ -334,10 +378,16 @@ module _ (s : Sizes) (n : ℕ) where
   -- an event alone
   alone_sound : (w : World) (i : Input) → IsInput s n i → IsSound w → IsSound (alone w i.page i.event).world
   alone_sound w i input sound =
-      let r = Leads-runs drive.ask harbor.ask (happens w.device i.page i.event) w.drive w.harbor _ (Goes-leads (Move There) (Does drive.ask harbor.ask) (DoesOf drive.ask harbor.ask) SoundAt sound_kept _ w.drive w.harbor (goes_here w i input) sound) in
+      let r =
+      Leads-runs drive.ask harbor.ask (happens w.device i.page i.event) w.drive w.harbor _
+      (Goes-leads (Move There) (Does drive.ask harbor.ask) (DoesOf drive.ask harbor.ask) SoundAt sound_kept _ w.drive w.harbor
+      (goes_here w i input) sound) in
       subst (λ x. SoundAt x (alone w i.page i.event).world.drive (alone w i.page i.event).world.harbor) r.1.0 r.2
 
-  alone_step : (w : World) (i : Input) → IsInput s n i → IsSound w → IsStep drive.Moves harbor.Moves w.device w.drive w.harbor i (alone w i.page i.event).seen (alone w i.page i.event).world.device (alone w i.page i.event).world.drive (alone w i.page i.event).world.harbor
+  alone_step :
+      (w : World) (i : Input) → IsInput s n i → IsSound w
+      → IsStep drive.Moves harbor.Moves w.device w.drive w.harbor i (alone w i.page i.event).seen (alone w i.page i.event).world.device
+      (alone w i.page i.event).world.drive (alone w i.page i.event).world.harbor
   alone_step w i input sound =
       Goes-went (Move There) drive.ask harbor.ask drive.Moves harbor.Moves SoundAt sound_kept moves_told _ w.drive w.harbor (goes_here w i input) sound
 
@@ -350,18 +400,30 @@ module _ (s : Sizes) (n : ℕ) where
   -- a plan
   plan_sound : (plan : Plan) (w : World) → AreParts s n plan → IsSound w → IsSound (next_plan plan w).world
   plan_sound Stop w parts sound = sound
-  plan_sound (Make e more) w parts sound = plan_sound (more (alone w [] e).seen) (alone w [] e).world (parts.2 (alone w [] e).seen) (alone_sound w (bare e) (part_input e parts.0 parts.1) sound)
+  plan_sound (Make e more) w parts sound =
+      plan_sound (more (alone w [] e).seen) (alone w [] e).world (parts.2 (alone w [] e).seen) (alone_sound w (bare e) (part_input e parts.0 parts.1) sound)
 
-  plan_step : (plan : Plan) (w : World) → AreParts s n plan → IsSound w → let p : Planned = next_plan plan w in AlongPlan drive.Moves harbor.Moves plan w.device w.drive w.harbor p.world.device p.world.drive p.world.harbor p.effects
+  plan_step : (plan : Plan) (w : World) → AreParts s n plan → IsSound w → let p : Planned = next_plan plan w in
+      AlongPlan drive.Moves harbor.Moves plan w.device w.drive w.harbor p.world.device p.world.drive p.world.harbor p.effects
   plan_step Stop w parts sound = (refl, refl, refl, refl)
   plan_step (Make e more) w parts sound =
       let a : Next = alone w [] e in
       let input = part_input e parts.0 parts.1 in
-      let rest : Planned = next_plan (more a.seen) a.world in
-      (a.seen, a.world.device, a.world.drive, a.world.harbor, rest.effects, alone_step w (bare e) input sound, plan_step (more a.seen) a.world (parts.2 a.seen) (alone_sound w (bare e) input sound), refl)
+      let rest : Planned = next_plan (more a.seen) a.world in (
+        a.seen,
+        a.world.device,
+        a.world.drive,
+        a.world.harbor,
+        rest.effects,
+        alone_step w (bare e) input sound,
+        plan_step (more a.seen) a.world (parts.2 a.seen) (alone_sound w (bare e) input sound),
+        refl,
+      )
 
   these_parts : (w : World) (word : ℕ) → IsSound w → AreParts s n (round_plan w.device.sizes w.device.lenders word)
-  these_parts w word sound = let P : FabricOf → Type 0 = λ x. AreParts x.sizes x.lenders (round_plan w.device.sizes w.device.lenders word) in subst P sound.agrees.is (round_parts w.device.sizes w.device.lenders word)
+  these_parts w word sound =
+      let P : FabricOf → Type 0 = λ x. AreParts x.sizes x.lenders (round_plan w.device.sizes w.device.lenders word) in
+      subst P sound.agrees.is (round_parts w.device.sizes w.device.lenders word)
 
   -- and an event of every kind
   pub next_sound : (w : World) (i : Input) → IsInput s n i → IsSound w → IsSound (next w i).world
@@ -372,53 +434,75 @@ module _ (s : Sizes) (n : ℕ) where
       go e given = alone_sound w (record { event = e; page = i.page }) given sound
 
   -- the next world is a step from the one before, as the ports tell of their moves
-  pub next_step : (w : World) (i : Input) → IsInput s n i → IsSound w → IsEvent drive.Moves harbor.Moves w.device w.drive w.harbor i (next w i).seen (next w i).world.device (next w i).world.drive (next w i).world.harbor
+  pub next_step :
+      (w : World) (i : Input) → IsInput s n i → IsSound w
+      → IsEvent drive.Moves harbor.Moves w.device w.drive w.harbor i (next w i).seen (next w i).world.device (next w i).world.drive (next w i).world.harbor
   next_step w i input sound = go i.event input
     where
-      go : (e : Event) → IsInput s n (record { event = e; page = i.page }) → let x : Next = next_by w i.page e in StepOf drive.Moves harbor.Moves i.page e w.device w.drive w.harbor x.seen x.world.device x.world.drive x.world.harbor
-      go (event.Round word) given = ((round_from w word).effects, plan_step (round_plan w.device.sizes w.device.lenders word) w (these_parts w word sound) sound, refl)
+      go : (e : Event) → IsInput s n (record { event = e; page = i.page }) → let x : Next = next_by w i.page e in
+          StepOf drive.Moves harbor.Moves i.page e w.device w.drive w.harbor x.seen x.world.device x.world.drive x.world.harbor
+      go (event.Round word) given =
+          ((round_from w word).effects, plan_step (round_plan w.device.sizes w.device.lenders word) w (these_parts w word sound) sound, refl)
       go e given = alone_step w (record { event = e; page = i.page }) given sound
 
   -- what device and ports agree on there
-  pub sound_fits : (w : World) → IsSound w → Fits true (λ page given. page ≡ given) (harbor.KeepsAt w.harbor) (harbor.OwesAt w.harbor) w.device (port_of w.drive)
+  pub sound_fits :
+      (w : World) → IsSound w → Fits true (λ page given. page ≡ given) (harbor.KeepsAt w.harbor) (harbor.OwesAt w.harbor) w.device (port_of w.drive)
   sound_fits w sound = record { disk = sound.agrees.fits.disk; serves = sound.agrees.fits.serves; accounts = sound.accounts }
 
   pub sound_known : (w : World) → IsSound w → Known drive_meaning drives.follows harbor_meaning harbor_promises true OfThese w.device w.drive w.harbor
   sound_known w sound = record { agree = (sound_fits w sound, sound.agrees.of_f ∙ sym sound.agrees.is); is = sound.agrees.is }
 
   -- so what each event keeps holds of every list of events
-  module _ (P : List (Input × Seen) → Device → Type 0) (each : EachEventKeeps drive_meaning drives.follows harbor_meaning harbor_promises true OfThese P) (gathers : Gathers P) where
+  module _ (P : List (Input × Seen) → Device → Type 0) (each : EachEventKeeps drive_meaning drives.follows harbor_meaning harbor_promises true OfThese P)
+      (gathers : Gathers P) where
     record Kept (made : List (Input × Seen)) (d : Device) : Type 0 where
       inner : List (Input × Seen)
       tell : AllTellNothing inner
       keeps : P (inner ++ made) d
 
-    alone_keeps : (w : World) (i : Input) (made : List (Input × Seen)) → IsInput s n i → IsSound w → P made w.device → P ((i, (alone w i.page i.event).seen) ∷ made) (alone w i.page i.event).world.device
+    alone_keeps :
+        (w : World) (i : Input) (made : List (Input × Seen)) → IsInput s n i → IsSound w → P made w.device
+        → P ((i, (alone w i.page i.event).seen) ∷ made) (alone w i.page i.event).world.device
     alone_keeps w i made input sound h =
         let a : Next = alone w i.page i.event in
-        each.event made w.device a.world.device w.drive a.world.drive w.harbor a.world.harbor i a.seen (sound_known w sound) input.0 (alone_step w i input sound) h
+        each.event made w.device a.world.device w.drive a.world.drive w.harbor a.world.harbor i a.seen (sound_known w sound) input.0
+        (alone_step w i input sound) h
 
-    plan_keeps : (plan : Plan) (w : World) (made inner : List (Input × Seen)) → AreParts s n plan → IsSound w → AllTellNothing inner → P (inner ++ made) w.device → Kept made (next_plan plan w).world.device
+    plan_keeps :
+        (plan : Plan) (w : World) (made inner : List (Input × Seen)) → AreParts s n plan → IsSound w → AllTellNothing inner → P (inner ++ made) w.device
+        → Kept made (next_plan plan w).world.device
     plan_keeps Stop w made inner parts sound tell h = record { inner = inner; tell = tell; keeps = h }
     plan_keeps (Make e more) w made inner parts sound tell h =
         let a : Next = alone w [] e in
         let input = part_input e parts.0 parts.1 in
-        let comes : ComesTo w.device [] e a.world.device a.seen = step_comes drive.Moves harbor.Moves w.device a.world.device w.drive a.world.drive w.harbor a.world.harbor (bare e) a.seen (alone_step w (bare e) input sound) in
+        let comes : ComesTo w.device [] e a.world.device a.seen =
+        step_comes drive.Moves harbor.Moves w.device a.world.device w.drive a.world.drive w.harbor a.world.harbor (bare e) a.seen
+        (alone_step w (bare e) input sound) in
         let says : SaysLittle a.seen = part_says (record w.device { rates = comes.0 }) a.world.device [] e a.seen parts.0 comes.2 in
-        plan_keeps (more a.seen) a.world made ((bare e, a.seen) ∷ inner) (parts.2 a.seen) (alone_sound w (bare e) input sound) (part_tells (bare e) a.seen parts.0 says, tell) (alone_keeps w (bare e) (inner ++ made) input sound h)
+        plan_keeps (more a.seen) a.world made ((bare e, a.seen) ∷ inner) (parts.2 a.seen) (alone_sound w (bare e) input sound)
+        (part_tells (bare e) a.seen parts.0 says, tell) (alone_keeps w (bare e) (inner ++ made) input sound h)
 
-    next_keeps : (w : World) (i : Input) (made : List (Input × Seen)) → IsInput s n i → IsSound w → P made w.device → P ((i, (next w i).seen) ∷ made) (next w i).world.device
+    next_keeps :
+        (w : World) (i : Input) (made : List (Input × Seen)) → IsInput s n i → IsSound w → P made w.device
+        → P ((i, (next w i).seen) ∷ made) (next w i).world.device
     next_keeps w i made input sound h = go i.event input
       where
-        go : (e : Event) → IsInput s n (record { event = e; page = i.page }) → P ((record { event = e; page = i.page }, (next_by w i.page e).seen) ∷ made) (next_by w i.page e).world.device
+        go :
+            (e : Event) → IsInput s n (record { event = e; page = i.page })
+            → P ((record { event = e; page = i.page }, (next_by w i.page e).seen) ∷ made) (next_by w i.page e).world.device
         go (event.Round word) given =
             let kept = plan_keeps (round_plan w.device.sizes w.device.lenders word) w made [] (these_parts w word sound) sound tt h in
-            gathers.round kept.inner made (round_from w word).world.device i.page word (round_from w word).effects (mapped (round_from w word).world.device.remote.slabs) kept.tell kept.keeps
+            gathers.round kept.inner made (round_from w word).world.device i.page word (round_from w word).effects
+            (mapped (round_from w word).world.device.remote.slabs) kept.tell kept.keeps
         go e given = alone_keeps w (record { event = e; page = i.page }) made given sound h
 
-    pub reach_keeps : (w : World) (is : List Input) (made : List (Input × Seen)) → AllByRecursion (IsInput s n) is → IsSound w → P made w.device → P (made_by made w is) (reach w is).device
+    pub reach_keeps :
+        (w : World) (is : List Input) (made : List (Input × Seen)) → AllByRecursion (IsInput s n) is → IsSound w → P made w.device
+        → P (made_by made w is) (reach w is).device
     reach_keeps w [] made inputs sound h = h
-    reach_keeps w (i ∷ is) made inputs sound h = reach_keeps (next w i).world is ((i, (next w i).seen) ∷ made) inputs.1 (next_sound w i inputs.0 sound) (next_keeps w i made inputs.0 sound h)
+    reach_keeps w (i ∷ is) made inputs sound h =
+        reach_keeps (next w i).world is ((i, (next w i).seen) ∷ made) inputs.1 (next_sound w i inputs.0 sound) (next_keeps w i made inputs.0 sound h)
 
   pub reach_sound : (w : World) (is : List Input) → AllByRecursion (IsInput s n) is → IsSound w → IsSound (reach w is)
   reach_sound w [] inputs sound = sound
@@ -437,7 +521,9 @@ new_of s specs = ap (λ n. record { sizes = s; lenders = n }) (map_length s spec
 
 pub starts_sound : (s : Sizes) (specs : List LenderSpec) → length specs ≤ MOST_LENDERS → IsSound s (length specs) (start s specs)
 starts_sound s specs few =
-    let k = new_agrees drive_meaning drives.follows harbor_meaning harbor_promises s (length specs) (new_drive s) (new_harbor s specs) (new_blank s) (new_of s specs) few in
+    let k =
+    new_agrees drive_meaning drives.follows harbor_meaning harbor_promises s (length specs) (new_drive s) (new_harbor s specs) (new_blank s)
+    (new_of s specs) few in
     record {
       agrees = record { fits = record { disk = k.0.disk; serves = k.0.serves }; is = refl; of_f = k.1 };
       accounts = k.0.accounts;

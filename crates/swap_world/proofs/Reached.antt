@@ -45,7 +45,9 @@ use Rattle.swap_queue.specs.Queue as queue
 use Rattle.swap_base.specs.declared.DiskWhich.TheVariants as which
 
 -- what the disk gives is seen
-wrote_is_seen : (T : Bool) (bytes : List ℕ) (d : Device) (p : Page) (copy : Option Copy) (ok : Bool) → IsCopyOf T bytes copy → see_disk (wrote d p copy ok).1 ≡ seen.Nothing → ⊥
+wrote_is_seen :
+    (T : Bool) (bytes : List ℕ) (d : Device) (p : Page) (copy : Option Copy) (ok : Bool) → IsCopyOf T bytes copy → see_disk (wrote d p copy ok).1 ≡ seen.Nothing
+    → ⊥
 wrote_is_seen T bytes d p None ok is e = is
 wrote_is_seen T bytes d p (Some copy) true is e = cc
 wrote_is_seen T bytes d p (Some copy) false is e = by_next (queue.next d.queue p) e
@@ -54,18 +56,23 @@ wrote_is_seen T bytes d p (Some copy) false is e = by_next (queue.next d.queue p
     by_next None e = cc
     by_next (Some x) e = cc
 
-flight_is_seen : (T : Bool) (d : Device) (f : Flight) (ok : Bool) (bytes : List ℕ) → IsExpected T (pages_of d.sizes) d.sizes.callers d.queue d.calls f → see_disk (took d (which_of f) (page_of f) ok bytes).1 ≡ seen.Nothing → ⊥
+flight_is_seen :
+    (T : Bool) (d : Device) (f : Flight) (ok : Bool) (bytes : List ℕ) → IsExpected T (pages_of d.sizes) d.sizes.callers d.queue d.calls f
+    → see_disk (took d (which_of f) (page_of f) ok bytes).1 ≡ seen.Nothing → ⊥
 flight_is_seen T d (Write page kept) ok bytes is e = wrote_is_seen T kept d page (queue.flying d.queue page) ok is.1 e
 flight_is_seen T d (Read caller page) true bytes is e = cc
 flight_is_seen T d (Read caller page) false bytes is e = cc
 
-nothing_is_none : (T : Bool) (answers : List ℕ → List ℕ → Type 0) (d : Device) (p now : Port) (taken : Option Taken) → FitsDisk T answers d p → Takes p taken now → see_disk (took_back d taken).1 ≡ seen.Nothing → taken ≡ None
+nothing_is_none :
+    (T : Bool) (answers : List ℕ → List ℕ → Type 0) (d : Device) (p now : Port) (taken : Option Taken) → FitsDisk T answers d p → Takes p taken now
+    → see_disk (took_back d taken).1 ≡ seen.Nothing → taken ≡ None
 nothing_is_none T answers d p now None k takes e = refl
 nothing_is_none T answers d p now (Some t) k takes e =
     let f : Flight = takes.flight in
     let is_which : t.done.which ≡ which_of f = ap (λ (x : DiskDone). x.which) takes.is in
     let is_page : t.done.page ≡ page_of f = ap (λ (x : DiskDone). x.page) takes.is in
-    let there : IsExpected T (pages_of d.sizes) d.sizes.callers d.queue d.calls f = found (IsExpected T (pages_of d.sizes) d.sizes.callers d.queue d.calls) t.done.which p.flights f takes.was k.agrees.expected in
+    let there : IsExpected T (pages_of d.sizes) d.sizes.callers d.queue d.calls f =
+    found (IsExpected T (pages_of d.sizes) d.sizes.callers d.queue d.calls) t.done.which p.flights f takes.was k.agrees.expected in
     let P : DiskWhich → Type 0 = λ w. see_disk (took d w t.done.page t.done.ok t.bytes).1 ≡ seen.Nothing in
     let Q : Page → Type 0 = λ r. see_disk (took d (which_of f) r t.done.ok t.bytes).1 ≡ seen.Nothing in
     absurd (flight_is_seen T d f t.done.ok t.bytes there (subst Q is_page (subst P is_which e)))
@@ -127,11 +134,16 @@ few_more m made d d' little few = go (is_part m.0.event) refl
 
 few_polled : (made : List (Input × Seen)) (d d' : Device) (step : DiskStep) → Few made d → Few (with_polled step made) d'
 few_polled made d d' DiskStep.Nothing few = few
-few_polled made d d' (DiskStep.Written p e) few = few_more (record { event = event.Disk (which.Write p) true; page = [] }, seen.Written e) made d d' (λ part. cc) few
-few_polled made d d' (DiskStep.Kept p e) few = few_more (record { event = event.Disk (which.Write p) false; page = [] }, seen.WriteKept e) made d d' (λ part. cc) few
-few_polled made d d' (DiskStep.Dropped p e) few = few_more (record { event = event.Disk (which.Write p) false; page = [] }, seen.WriteDropped e) made d d' (λ part. cc) few
-few_polled made d d' (DiskStep.Came c p) few = few_more (record { event = event.Disk (which.Read c) true; page = [] }, seen.ReadCame p) made d d' (λ part. cc) few
-few_polled made d d' (DiskStep.Failed c p) few = few_more (record { event = event.Disk (which.Read c) false; page = [] }, seen.ReadFailed p) made d d' (λ part. cc) few
+few_polled made d d' (DiskStep.Written p e) few =
+    few_more (record { event = event.Disk (which.Write p) true; page = [] }, seen.Written e) made d d' (λ part. cc) few
+few_polled made d d' (DiskStep.Kept p e) few =
+    few_more (record { event = event.Disk (which.Write p) false; page = [] }, seen.WriteKept e) made d d' (λ part. cc) few
+few_polled made d d' (DiskStep.Dropped p e) few =
+    few_more (record { event = event.Disk (which.Write p) false; page = [] }, seen.WriteDropped e) made d d' (λ part. cc) few
+few_polled made d d' (DiskStep.Came c p) few =
+    few_more (record { event = event.Disk (which.Read c) true; page = [] }, seen.ReadCame p) made d d' (λ part. cc) few
+few_polled made d d' (DiskStep.Failed c p) few =
+    few_more (record { event = event.Disk (which.Read c) false; page = [] }, seen.ReadFailed p) made d d' (λ part. cc) few
 
 whole_parts : (parts made : List (Input × Seen)) → AllParts parts → whole_in (parts ++ made) ≡ whole_in made
 whole_parts [] made all = refl
@@ -154,7 +166,8 @@ whole_few (Together word mapped parts ∷ written) all =
     let n = whole_parts parts (made_of written) all.0 in
     let later = whole_few written all.1 in omega (arith, n, later)
 
-module _ {D F : Type 0} (disk : DiskMeaning D) (follows : FollowsItsMoves disk) (fabric : FabricMeaning F) (laws : Promises fabric) (core : Core D F) (log : List (Event × Seen)) (r : IsReached disk fabric core log) where
+module _ {D F : Type 0} (disk : DiskMeaning D) (follows : FollowsItsMoves disk) (fabric : FabricMeaning F) (laws : Promises fabric) (core : Core D F)
+    (log : List (Event × Seen)) (r : IsReached disk fabric core log) where
   began : Began disk fabric r.sizes r.lenders r.first r.first_fabric
   began = record { blank = r.blank; is_of = laws.fresh_is_of r.first_fabric _ r.fresh; few = r.few }
 
@@ -169,7 +182,12 @@ module _ {D F : Type 0} (disk : DiskMeaning D) (follows : FollowsItsMoves disk) 
 
   few_each : EachEventKeeps disk follows fabric laws Told OfThese Few
   few_each = record {
-    event = λ made d d' k k' f f' i s known range step few. few_more (i, s) made d d' (λ part. let comes : ComesTo d i.page i.event d' s = step_comes disk.moves fabric.moves d d' k k' f f' i s step in part_says (record d { rates = comes.0 }) d' i.page i.event s part comes.2) few;
+    event =
+        λ made d d' k k' f f' i s known range step few.
+        few_more (i, s) made d d'
+        (λ part. let comes : ComesTo d i.page i.event d' s = step_comes disk.moves fabric.moves d d' k k' f f' i s step in
+        part_says (record d { rates = comes.0 }) d' i.page i.event s part comes.2)
+        few;
     poll = λ made d k k' f taken known moved few. few_polled made d (took_back d taken).0 (took_back d taken).1 few;
   }
 
@@ -177,8 +195,12 @@ module _ {D F : Type 0} (disk : DiskMeaning D) (follows : FollowsItsMoves disk) 
   pub reached_counts : (core.device.failed_writes ≤ length log) × (core.device.failed_reads ≤ length log)
   reached_counts =
       let made : List (Input × Seen) = made_of r.written in
-      let told : IsTold r.sizes made core.device = run_keeps disk follows fabric laws r.sizes r.lenders r.first r.first_fabric began (IsTold r.sizes) (each_told disk follows fabric laws Told OfThese) made core.device core.disk core.fabric (new_told r.sizes r.lenders) r.run in
-      let few : Few made core.device = run_keeps disk follows fabric laws r.sizes r.lenders r.first r.first_fabric began Few few_each made core.device core.disk core.fabric (lit≤ tt, lit≤ tt) r.run in
+      let told : IsTold r.sizes made core.device =
+      run_keeps disk follows fabric laws r.sizes r.lenders r.first r.first_fabric began (IsTold r.sizes)
+      (each_told disk follows fabric laws Told OfThese) made core.device core.disk core.fabric (new_told r.sizes r.lenders) r.run in
+      let few : Few made core.device =
+      run_keeps disk follows fabric laws r.sizes r.lenders r.first r.first_fabric began Few few_each made core.device core.disk core.fabric
+      (lit≤ tt, lit≤ tt) r.run in
       let counts = told.counted in
       let whole = whole_few r.written r.parts in
       let len : length log ≡ length r.written = ap length r.logged ∙ length-logged_of r.written in
@@ -188,7 +210,9 @@ module _ {D F : Type 0} (disk : DiskMeaning D) (follows : FollowsItsMoves disk) 
   reached_range : (i : Input) → IsInRange core.device.sizes core.device.lenders i.event → IsInRange r.sizes r.lenders i.event
   reached_range i range = subst (λ (x : FabricOf). IsInRange x.sizes x.lenders i.event) reached_known.is range
 
-  reached_by : (i : Input) (s : Seen) (d' : Device) (k' : D) (f' : F) (spare : ℕ) (b : Bool) → has_effect i.event s ≡ b → IsInRange core.device.sizes core.device.lenders i.event → IsStep disk.moves fabric.moves core.device core.disk core.fabric i s d' k' f'
+  reached_by :
+      (i : Input) (s : Seen) (d' : Device) (k' : D) (f' : F) (spare : ℕ) (b : Bool) → has_effect i.event s ≡ b
+      → IsInRange core.device.sizes core.device.lenders i.event → IsStep disk.moves fabric.moves core.device core.disk core.fabric i s d' k' f'
       → IsReached disk fabric (record { device = d'; disk = k'; fabric = f'; spare = spare }) (logged_if b log i.event s)
   reached_by i s d' k' f' spare true e range step = record {
     sizes = r.sizes;
@@ -204,7 +228,8 @@ module _ {D F : Type 0} (disk : DiskMeaning D) (follows : FollowsItsMoves disk) 
     logged = ap (λ l. l ++ (i.event, s) ∷ []) r.logged;
   }
   reached_by i s d' k' f' spare false e range step =
-      let stays : d' ≡ core.device = comes_to_stays core.device d' i.page i.event s (step_comes disk.moves fabric.moves core.device d' core.disk k' core.fabric f' i s step) e in
+      let stays : d' ≡ core.device =
+      comes_to_stays core.device d' i.page i.event s (step_comes disk.moves fabric.moves core.device d' core.disk k' core.fabric f' i s step) e in
       record {
         sizes = r.sizes;
         lenders = r.lenders;
@@ -223,12 +248,16 @@ module _ {D F : Type 0} (disk : DiskMeaning D) (follows : FollowsItsMoves disk) 
       }
 
   -- a Round, by its parts
-  reached_round : (word effects : ℕ) (d' : Device) (k' : D) (f' : F) (spare : ℕ) → AlongPlan disk.moves fabric.moves (round_plan core.device.sizes core.device.lenders word) core.device core.disk core.fabric d' k' f' effects
+  reached_round :
+      (word effects : ℕ) (d' : Device) (k' : D) (f' : F) (spare : ℕ)
+      → AlongPlan disk.moves fabric.moves (round_plan core.device.sizes core.device.lenders word) core.device core.disk core.fabric d' k' f' effects
       → IsReached disk fabric (record { device = d'; disk = k'; fabric = f'; spare = spare }) (log ++ (event.Round word, rounded d' effects) ∷ [])
   reached_round word effects d' k' f' spare along =
       let P : FabricOf → Type 0 = λ x. AreParts x.sizes x.lenders (round_plan core.device.sizes core.device.lenders word) in
       let parts = subst P reached_known.is (round_parts core.device.sizes core.device.lenders word) in
-      let ran : Ran disk.moves fabric.moves (new r.sizes r.lenders) r.first r.first_fabric (made_of r.written) d' k' f' (effects + 0) = plan_runs disk.moves fabric.moves (new r.sizes r.lenders) r.first r.first_fabric (made_of r.written) [] (round_plan core.device.sizes core.device.lenders word) core.device d' core.disk k' core.fabric f' effects parts tt r.run along in
+      let ran : Ran disk.moves fabric.moves (new r.sizes r.lenders) r.first r.first_fabric (made_of r.written) d' k' f' (effects + 0) =
+      plan_runs disk.moves fabric.moves (new r.sizes r.lenders) r.first r.first_fabric (made_of r.written) []
+      (round_plan core.device.sizes core.device.lenders word) core.device d' core.disk k' core.fabric f' effects parts tt r.run along in
       let count : length ran.inner ≡ effects = let n = ran.counted in omega (arith, n) in
       record {
         sizes = r.sizes;
@@ -241,19 +270,33 @@ module _ {D F : Type 0} (disk : DiskMeaning D) (follows : FollowsItsMoves disk) 
         blank = r.blank;
         fresh = r.fresh;
         run = ran.run;
-        logged = ap (λ l. l ++ (event.Round word, rounded d' effects) ∷ []) r.logged ∙ ap (λ n. logged_of r.written ++ (event.Round word, rounded d' n) ∷ []) (sym count);
+        logged =
+            ap (λ l. l ++ (event.Round word, rounded d' effects) ∷ []) r.logged
+            ∙ ap (λ n. logged_of r.written ++ (event.Round word, rounded d' n) ∷ []) (sym count);
       }
 
-  pub reached_step : (i : Input) (s : Seen) (d' : Device) (k' : D) (f' : F) (spare : ℕ) → IsInRange core.device.sizes core.device.lenders i.event → IsEvent disk.moves fabric.moves core.device core.disk core.fabric i s d' k' f' → IsReached disk fabric (record { device = d'; disk = k'; fabric = f'; spare = spare }) (logged_if (has_effect i.event s) log i.event s)
+  pub reached_step :
+      (i : Input) (s : Seen) (d' : Device) (k' : D) (f' : F) (spare : ℕ) → IsInRange core.device.sizes core.device.lenders i.event
+      → IsEvent disk.moves fabric.moves core.device core.disk core.fabric i s d' k' f'
+      → IsReached disk fabric (record { device = d'; disk = k'; fabric = f'; spare = spare }) (logged_if (has_effect i.event s) log i.event s)
   reached_step i s d' k' f' spare range step = go (splits disk.moves fabric.moves i.page i.event s core.device d' core.disk k' core.fabric f' step) range
     where
-      go : {e : Event} {s : Seen} → Splits disk.moves fabric.moves i.page core.device core.disk core.fabric d' k' f' e s → IsInRange core.device.sizes core.device.lenders e → IsReached disk fabric (record { device = d'; disk = k'; fabric = f'; spare = spare }) (logged_if (has_effect e s) log e s)
+      go :
+          {e : Event} {s : Seen} → Splits disk.moves fabric.moves i.page core.device core.disk core.fabric d' k' f' e s
+          → IsInRange core.device.sizes core.device.lenders e
+          → IsReached disk fabric (record { device = d'; disk = k'; fabric = f'; spare = spare }) (logged_if (has_effect e s) log e s)
       go {e} {s} (by_program along) there = reached_by (record { event = e; page = i.page }) s d' k' f' spare (has_effect e s) refl there along
       go (by_plan {word = word} effects along is) there =
-          let P : Seen → Type 0 = λ x. IsReached disk fabric (record { device = d'; disk = k'; fabric = f'; spare = spare }) (logged_if (has_effect (event.Round word) x) log (event.Round word) x) in
+          let P : Seen
+          → Type 0 =
+          λ x.
+          IsReached disk fabric (record { device = d'; disk = k'; fabric = f'; spare = spare })
+          (logged_if (has_effect (event.Round word) x) log (event.Round word) x) in
           subst P (sym is) (reached_round word effects d' k' f' spare along)
 
-  pub reached_same : (core' : Core D F) (log' : List (Event × Seen)) → core'.device ≡ core.device → core'.disk ≡ core.disk → core'.fabric ≡ core.fabric → log' ≡ log → IsReached disk fabric core' log'
+  pub reached_same :
+      (core' : Core D F) (log' : List (Event × Seen)) → core'.device ≡ core.device → core'.disk ≡ core.disk → core'.fabric ≡ core.fabric → log' ≡ log
+      → IsReached disk fabric core' log'
   reached_same core' log' ed ek ef el = record {
     sizes = r.sizes;
     lenders = r.lenders;
@@ -269,14 +312,23 @@ module _ {D F : Type 0} (disk : DiskMeaning D) (follows : FollowsItsMoves disk) 
   }
 
   -- no event changes what the device is of, or makes another's idle caller busy
-  pub reached_of : (i : Input) (s : Seen) (d' : Device) (k' : D) (f' : F) → IsInRange core.device.sizes core.device.lenders i.event → IsEvent disk.moves fabric.moves core.device core.disk core.fabric i s d' k' f' → of_device d' ≡ of_device core.device
-  reached_of i s d' k' f' range step = (event_known disk follows fabric laws Told OfThese core.device d' core.disk k' core.fabric f' i s reached_known (reached_range i range) step).is ∙ sym reached_known.is
+  pub reached_of :
+      (i : Input) (s : Seen) (d' : Device) (k' : D) (f' : F) → IsInRange core.device.sizes core.device.lenders i.event
+      → IsEvent disk.moves fabric.moves core.device core.disk core.fabric i s d' k' f' → of_device d' ≡ of_device core.device
+  reached_of i s d' k' f' range step =
+      (event_known disk follows fabric laws Told OfThese core.device d' core.disk k' core.fabric f' i s reached_known (reached_range i range) step).is
+      ∙ sym reached_known.is
 
-  pub reached_idle : (i : Input) (s : Seen) (d' : Device) (k' : D) (f' : F) → IsEvent disk.moves fabric.moves core.device core.disk core.fabric i s d' k' f' → StaysIdle core.device i.event d'
+  pub reached_idle :
+      (i : Input) (s : Seen) (d' : Device) (k' : D) (f' : F) → IsEvent disk.moves fabric.moves core.device core.disk core.fabric i s d' k' f'
+      → StaysIdle core.device i.event d'
   reached_idle i s d' k' f' step = event_idle disk follows fabric laws Told OfThese core.device d' core.disk k' core.fabric f' i s reached_known step
 
   -- a poll
-  pub reached_polled : (step : DiskStep) (d' : Device) (k' : D) (f' : F) (spare : ℕ) → Along disk.moves fabric.moves (disk_take core.device) core.disk core.fabric k' f' (d', step) → IsReached disk fabric (record { device = d'; disk = k'; fabric = f'; spare = spare }) (logged_polled step log)
+  pub reached_polled :
+      (step : DiskStep) (d' : Device) (k' : D) (f' : F) (spare : ℕ)
+      → Along disk.moves fabric.moves (disk_take core.device) core.disk core.fabric k' f' (d', step)
+      → IsReached disk fabric (record { device = d'; disk = k'; fabric = f'; spare = spare }) (logged_polled step log)
   reached_polled step d' k' f' spare along = record {
     sizes = r.sizes;
     lenders = r.lenders;
@@ -287,11 +339,16 @@ module _ {D F : Type 0} (disk : DiskMeaning D) (follows : FollowsItsMoves disk) 
     parts = parts_written r.written (event_of step) (see_disk step) r.parts;
     blank = r.blank;
     fresh = r.fresh;
-    run = let P : List (Input × Seen) → Type 0 = λ made. IsRun disk.moves fabric.moves (new r.sizes r.lenders) r.first r.first_fabric made d' k' f' in subst P (sym (made_written r.written (event_of step) (see_disk step))) (polled step d' k' f' r.run along);
+    run =
+        let P : List (Input × Seen) → Type 0 = λ made. IsRun disk.moves fabric.moves (new r.sizes r.lenders) r.first r.first_fabric made d' k' f' in
+        subst P (sym (made_written r.written (event_of step) (see_disk step))) (polled step d' k' f' r.run along);
     logged = ap (λ l. logged_polled step l) r.logged ∙ logged_made r.written (event_of step) (see_disk step);
   }
 
-  pub is_polled : (log' : List (Event × Seen)) (step : DiskStep) (d' : Device) (k' : D) (f' : F) → Along disk.moves fabric.moves (disk_take core.device) core.disk core.fabric k' f' (d', step) → log' ≡ logged_polled step log → IsPolled disk.moves core.device core.disk log (see_disk step) d' k' log'
+  pub is_polled :
+      (log' : List (Event × Seen)) (step : DiskStep) (d' : Device) (k' : D) (f' : F)
+      → Along disk.moves fabric.moves (disk_take core.device) core.disk core.fabric k' f' (d', step) → log' ≡ logged_polled step log
+      → IsPolled disk.moves core.device core.disk log (see_disk step) d' k' log'
   is_polled log' step d' k' f' along logged =
       let taken = along.0 in
       let moved : disk.moves core.disk TakeDone taken k' = subst (λ k. disk.moves core.disk TakeDone taken k) (sym along.3.0) along.2 in
@@ -304,11 +361,30 @@ module _ {D F : Type 0} (disk : DiskMeaning D) (follows : FollowsItsMoves disk) 
         device = ap (λ (a : Device × DiskStep). a.0) along.3.2;
         answer = is_seen;
         logged = logged ∙ ap (λ x. logged_polled x log) is_step;
-        nothing = (λ e. nothing_is_none _ fabric.answers core.device (disk.means core.disk) (disk.means k') taken reached_known.agree.0.disk f.1 (sym is_seen ∙ e), λ e. is_seen ∙ none_is_nothing core.device taken e);
+        nothing = (
+          λ e. nothing_is_none _ fabric.answers core.device (disk.means core.disk) (disk.means k') taken reached_known.agree.0.disk f.1 (sym is_seen ∙ e),
+          λ e. is_seen ∙ none_is_nothing core.device taken e,
+        );
       }
 
-pub reached_new : {D F : Type 0} (disk : DiskMeaning D) (fabric : FabricMeaning F) (s : Sizes) (n : ℕ) (k : D) (f : F) (spare : ℕ) → IsBlank s (disk.means k) → fabric.fresh f (record { sizes = s; lenders = n }) → n ≤ MOST_LENDERS → IsReached disk fabric (record { device = new s n; disk = k; fabric = f; spare = spare }) []
-reached_new disk fabric s n k f spare blank fresh few = record { sizes = s; lenders = n; few = few; first = k; first_fabric = f; written = []; parts = tt; blank = blank; fresh = fresh; run = begin; logged = refl }
+pub reached_new :
+    {D F : Type 0} (disk : DiskMeaning D) (fabric : FabricMeaning F) (s : Sizes) (n : ℕ) (k : D) (f : F) (spare : ℕ) → IsBlank s (disk.means k)
+    → fabric.fresh f (record { sizes = s; lenders = n }) → n ≤ MOST_LENDERS
+    → IsReached disk fabric (record { device = new s n; disk = k; fabric = f; spare = spare }) []
+reached_new disk fabric s n k f spare blank fresh few =
+    record {
+      sizes = s;
+      lenders = n;
+      few = few;
+      first = k;
+      first_fabric = f;
+      written = [];
+      parts = tt;
+      blank = blank;
+      fresh = fresh;
+      run = begin;
+      logged = refl;
+    }
 
 -- what a poll leaves of a device
 pub polled_of : (d d' : Device) (taken : Option Taken) → d' ≡ (took_back d taken).0 → of_device d' ≡ of_device d
@@ -317,5 +393,6 @@ polled_of d d' taken is = ap of_device is ∙ took_back_of d taken
 pub polled_history : (d d' : Device) (taken : Option Taken) → d' ≡ (took_back d taken).0 → d'.history ≡ d.history
 polled_history d d' taken is = ap (λ (x : Device). x.history) is ∙ took_history d taken
 
-pub polled_idle : (d d' : Device) (taken : Option Taken) → d' ≡ (took_back d taken).0 → (c : Caller) → is_idle (state_of d'.calls c) ≡ is_idle (state_of d.calls c)
+pub polled_idle :
+    (d d' : Device) (taken : Option Taken) → d' ≡ (took_back d taken).0 → (c : Caller) → is_idle (state_of d'.calls c) ≡ is_idle (state_of d.calls c)
 polled_idle d d' taken is c = ap (λ (x : Device). is_idle (state_of x.calls c)) is ∙ took_back_idle d taken c

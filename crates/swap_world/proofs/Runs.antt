@@ -54,10 +54,14 @@ module _ {D F : Type 0} (disk : DiskMeaning D) (follows : FollowsItsMoves disk) 
   pub holds : HoldsAfterEach disk fabric
   holds s n first first_fabric made d k f began run =
       let known = run_known disk follows fabric laws s n first first_fabric began made d k f run in
-      let told : IsTold s made d = run_keeps disk follows fabric laws s n first first_fabric began (IsTold s) (each_told disk follows fabric laws (is_some (disk.means first).blocks) (record { sizes = s; lenders = n })) made d k f (new_told s n) run in
+      let told : IsTold s made d =
+      run_keeps disk follows fabric laws s n first first_fabric began (IsTold s)
+      (each_told disk follows fabric laws (is_some (disk.means first).blocks) (record { sizes = s; lenders = n })) made d k f (new_told s n) run in
       record {
         ordered = known.agree.0.disk.in_order.ordered;
-        faithful = let P : FabricOf → Type 0 = λ x. IsFaithfulOver (is_some (disk.means first).blocks) fabric.answers (zeros x.sizes) d.history in subst P known.is known.agree.0.disk.agrees.faithful;
+        faithful =
+            let P : FabricOf → Type 0 = λ x. IsFaithfulOver (is_some (disk.means first).blocks) fabric.answers (zeros x.sizes) d.history in
+            subst P known.is known.agree.0.disk.agrees.faithful;
         once = λ c within. answered_once c d made (told.once c within);
         entries = told.entries;
       }
@@ -66,9 +70,13 @@ module _ {D F : Type 0} (disk : DiskMeaning D) (follows : FollowsItsMoves disk) 
   agrees s n first first_fabric made d k f began run = (run_known disk follows fabric laws s n first first_fabric began made d k f run).agree
 
 -- over the disk and the lenders in memory
-reach_told : (s : Sizes) (specs : List LenderSpec) (is : List Input) → length specs ≤ MOST_LENDERS → AreInputs s specs is → IsTold s (made_by [] (start s specs) is) (reach (start s specs) is).device
+reach_told :
+    (s : Sizes) (specs : List LenderSpec) (is : List Input) → length specs ≤ MOST_LENDERS → AreInputs s specs is
+    → IsTold s (made_by [] (start s specs) is) (reach (start s specs) is).device
 reach_told s specs is few inputs =
-    reach_keeps s (length specs) (IsTold s) (each_told drive_meaning drives.follows harbor_meaning harbor_promises true (record { sizes = s; lenders = length specs })) (told_gathers s) (start s specs) is [] inputs (starts_sound s specs few) (new_told s (length specs))
+    reach_keeps s (length specs) (IsTold s)
+    (each_told drive_meaning drives.follows harbor_meaning harbor_promises true (record { sizes = s; lenders = length specs })) (told_gathers s)
+    (start s specs) is [] inputs (starts_sound s specs few) (new_told s (length specs))
 
 pub always_legal : AlwaysLegal
 always_legal s specs is few inputs =
@@ -78,21 +86,26 @@ always_legal s specs is few inputs =
     subst P sound.agrees.is (sound.agrees.fits.disk.in_order.ordered, all_faithful (zeros w.device.sizes) (history w) sound.agrees.fits.disk.agrees.faithful)
 
 pub always_agrees : AlwaysAgrees
-always_agrees s specs is few inputs = sound_fits s (length specs) (reach (start s specs) is) (reach_sound s (length specs) (start s specs) is inputs (starts_sound s specs few))
+always_agrees s specs is few inputs =
+    sound_fits s (length specs) (reach (start s specs) is) (reach_sound s (length specs) (start s specs) is inputs (starts_sound s specs few))
 
 pub entries_are_seen : EntriesAreSeen
 entries_are_seen s specs is few inputs = (reach_told s specs is few inputs).entries
 
 pub each_call_once : EachCallOnce
-each_call_once s specs is c within few inputs = answered_once c (reach (start s specs) is).device (made_by [] (start s specs) is) ((reach_told s specs is few inputs).once c within)
+each_call_once s specs is c within few inputs =
+    answered_once c (reach (start s specs) is).device (made_by [] (start s specs) is) ((reach_told s specs is few inputs).once c within)
 
 -- over the disk and the lenders in memory: what goes along a program is what it computes
-run_along : {A : Type 0} (p : Prog A) (d e : Drive) (f g : Harbor) (a : A) → Along drive.Moves harbor.Moves p d f e g a → run drive.ask harbor.ask p d f ≡ (a, (e, g))
+run_along :
+    {A : Type 0} (p : Prog A) (d e : Drive) (f g : Harbor) (a : A) → Along drive.Moves harbor.Moves p d f e g a → run drive.ask harbor.ask p d f ≡ (a, (e, g))
 run_along (Ret b) d e f g a along = rw (along.0, along.1, along.2) refl
 run_along (AskDisk c more) d e f g a along = rw along.2.1 (run_along (more along.0) along.1 e f g a along.3)
-run_along (AskFabric c more) d e f g a along = ap (λ (r : FabricAnswer c × Harbor). run drive.ask harbor.ask (more r.0) d r.1) along.2.1 ∙ run_along (more along.0) d e along.1 g a along.3
+run_along (AskFabric c more) d e f g a along =
+    ap (λ (r : FabricAnswer c × Harbor). run drive.ask harbor.ask (more r.0) d r.1) along.2.1 ∙ run_along (more along.0) d e along.1 g a along.3
 
-alone_along : (d d' : Device) (k k' : Drive) (h h' : Harbor) (page : List ℕ) (e : Event) (s : Seen) → Along drive.Moves harbor.Moves (happens d page e) k h k' h' (d', s)
+alone_along :
+    (d d' : Device) (k k' : Drive) (h h' : Harbor) (page : List ℕ) (e : Event) (s : Seen) → Along drive.Moves harbor.Moves (happens d page e) k h k' h' (d', s)
     → alone (record { device = d; drive = k; harbor = h }) page e ≡ record { world = record { device = d'; drive = k'; harbor = h' }; seen = s }
 alone_along d d' k k' h h' page e s along = ap next_of (run_along (happens d page e) k k' h h' (d', s) along)
 
@@ -108,7 +121,10 @@ pub steps_are_next : (d d' : Device) (k k' : Drive) (h h' : Harbor) (i : Input) 
     → next (record { device = d; drive = k; harbor = h }) i ≡ record { world = record { device = d'; drive = k'; harbor = h' }; seen = s }
 steps_are_next d d' k k' h h' i s step = go i.event s step
   where
-    go : (e : Event) (s : Seen) → StepOf drive.Moves harbor.Moves i.page e d k h s d' k' h' → next_by (record { device = d; drive = k; harbor = h }) i.page e ≡ record { world = record { device = d'; drive = k'; harbor = h' }; seen = s }
+    go :
+        (e : Event) (s : Seen) → StepOf drive.Moves harbor.Moves i.page e d k h s d' k' h'
+        → next_by (record { device = d; drive = k; harbor = h }) i.page e ≡ record { world = record { device = d'; drive = k'; harbor = h' }; seen = s }
     go (event.Round word) s step =
-        ap next_round (plan_along (round_plan d.sizes d.lenders word) d d' k k' h h' step.0 step.1) ∙ ap (λ x. record { world = record { device = d'; drive = k'; harbor = h' }; seen = x }) (sym step.2)
+        ap next_round (plan_along (round_plan d.sizes d.lenders word) d d' k k' h h' step.0 step.1)
+        ∙ ap (λ x. record { world = record { device = d'; drive = k'; harbor = h' }; seen = x }) (sym step.2)
     go e s step = alone_along d d' k k' h h' i.page e s step

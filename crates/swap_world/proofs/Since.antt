@@ -66,10 +66,13 @@ took_rows d (Some t) = by t.done.which t.done.ok
 linked_rows : (x y : Device) → Linked x y → y.history ≡ x.history
 linked_rows x y used = linked_keep (λ z. z.history ≡ x.history) (λ z r made k. k) (λ z l k. k) x y used refl
 
-other_rows : (d d' : Device) (page : List ℕ) (e : Event) (s : Seen) → ((c : Caller) (p : Page) → e ≡ event.PageIn c p → ⊥) → ((c : Caller) → e ≡ event.Finish c → ⊥) → Comes d page e d' s → AddsNoRead d d'.history
+other_rows :
+    (d d' : Device) (page : List ℕ) (e : Event) (s : Seen) → ((c : Caller) (p : Page) → e ≡ event.PageIn c p → ⊥) → ((c : Caller) → e ≡ event.Finish c → ⊥)
+    → Comes d page e d' s → AddsNoRead d d'.history
 other_rows d d' page e s no_in no_finish (refuses new_) = inl refl
 other_rows d d' page e s no_in no_finish (rests new_ rest) = inl refl
-other_rows d d' page e s no_in no_finish (accepts {c = c} {p = p} {bytes = bytes} step used) = inr (row_of d.history c p op.PageOut bytes, linked_rows (enter d c p bytes) d' used, refl)
+other_rows d d' page e s no_in no_finish (accepts {c = c} {p = p} {bytes = bytes} step used) =
+    inr (row_of d.history c p op.PageOut bytes, linked_rows (enter d c p bytes) d' used, refl)
 other_rows d d' page e s no_in no_finish (gives_page {c = c} {p = p} (begins_in is)) = absurd (no_in c p refl)
 other_rows d d' page e s no_in no_finish (gives_page {c = c} (goes_on_in is)) = absurd (no_finish c refl)
 other_rows d d' page e s no_in no_finish (fails {c = c} why) = absurd (no_finish c refl)
@@ -109,24 +112,35 @@ module _ {D F : Type 0} (disk_moves : D → (c : DiskCall) → DiskAnswer c → 
           let one : r.0 ≡ row = same_row d.history r.0 row (sym r.1 ∙ is) in
           let caller : row.entry.caller ≡ c = subst (λ (x : Row). x.entry.caller ≡ c) one r.2 in
           let bytes : row.bytes ≡ (call_of d.calls c).bytes = subst (λ (x : Row). x.bytes ≡ (call_of d.calls c).bytes) one r.3 in
-          subst (λ (x : Caller). last_handed disk_moves moves x run ≡ Some row.bytes) (sym caller) (run_holds disk_moves moves c run (idle_first c) r.4 ∙ ap (λ b. Some b) (sym bytes))
+          subst (λ (x : Caller). last_handed disk_moves moves x run ≡ Some row.bytes) (sym caller)
+          (run_holds disk_moves moves c run (idle_first c) r.4 ∙ ap (λ b. Some b) (sym bytes))
 
       by : (e : Event) → i.event ≡ e → last_handed disk_moves moves row.entry.caller run ≡ Some row.bytes
       by (event.PageIn c p) same =
           let there = subst (λ x. Along disk_moves moves (happens d i.page x) k f k' f' (d', seen_)) same step in
-          absurd (no_read d d'.history row (Leads-Along disk_moves moves (happens d i.page (event.PageIn c p)) k f k' f' (d', seen_) (λ (a : Device × Seen) e g. AddsNoRead d a.0.history) (page_in_rows disk_moves moves d k f i.page c p) there) is read)
+          absurd
+          (no_read d d'.history row
+          (Leads-Along disk_moves moves (happens d i.page (event.PageIn c p)) k f k' f' (d', seen_) (λ (a : Device × Seen) e g. AddsNoRead d a.0.history)
+          (page_in_rows disk_moves moves d k f i.page c p) there)
+          is read)
       by (event.Finish c) same =
           let there = subst (λ x. Along disk_moves moves (happens d i.page x) k f k' f' (d', seen_)) same step in
-          kept c (Leads-Along disk_moves moves (happens d i.page (event.Finish c)) k f k' f' (d', seen_) (λ (a : Device × Seen) e g. AddsKept d c a.0.history) (finish_rows disk_moves moves d k f i.page c) there)
+          kept c
+          (Leads-Along disk_moves moves (happens d i.page (event.Finish c)) k f k' f' (d', seen_) (λ (a : Device × Seen) e g. AddsKept d c a.0.history)
+          (finish_rows disk_moves moves d k f i.page c) there)
       by e same =
           let there = subst (λ x. Along disk_moves moves (happens d i.page x) k f k' f' (d', seen_)) same step in
-          let comes : ComesTo d i.page e d' seen_ = Leads-Along disk_moves moves (happens d i.page e) k f k' f' (d', seen_) (λ (a : Device × Seen) _ _. ComesTo d i.page e a.0 a.1) (happens_comes disk_moves moves d k f i.page e) there in
+          let comes : ComesTo d i.page e d' seen_ =
+          Leads-Along disk_moves moves (happens d i.page e) k f k' f' (d', seen_) (λ (a : Device × Seen) _ _. ComesTo d i.page e a.0 a.1)
+          (happens_comes disk_moves moves d k f i.page e) there in
           absurd (no_read d d'.history row (other_rows (record d { rates = comes.0 }) d' i.page e seen_ (λ c p e. cc) (λ c e. cc) comes.2) is read)
 
 module _ {D F : Type 0} (disk : DiskMeaning D) (fabric : FabricMeaning F) where
   pub again_has_cause : AgainHasCause disk fabric
   again_has_cause s n first first_fabric made d k f run c page v d' k' f' step =
-      by (state_of d.calls c) refl (Leads-Along disk.moves fabric.moves (happens d page (event.Finish c)) k f k' f' (d', seen.Again v) (λ (a : Device × Seen) e g. ReadsAnew (state_of d.calls c) a.1) (finish_anew disk.moves fabric.moves d k f page c) step v refl)
+      by (state_of d.calls c) refl
+      (Leads-Along disk.moves fabric.moves (happens d page (event.Finish c)) k f k' f' (d', seen.Again v)
+      (λ (a : Device × Seen) e g. ReadsAnew (state_of d.calls c) a.1) (finish_anew disk.moves fabric.moves d k f page c) step v refl)
     where
       not_newer : (p : Page) → IsNewerOf p (state_of (new s n).calls c) → ⊥
       not_newer p is = let P : CallState → Type 0 = λ x. IsNewerOf p x in let none : IsNewerOf p Idle = subst P (new_idle s n c) is in none
@@ -137,19 +151,25 @@ module _ {D F : Type 0} (disk : DiskMeaning D) (fabric : FabricMeaning F) where
       not_at_disk : IsLostAtDisk (state_of (new s n).calls c) → ⊥
       not_at_disk is = let none : IsLostAtDisk Idle = subst IsLostAtDisk (new_idle s n c) is in none
 
-      by_how : (p : Page) (m : EntryNo) (w : Via) (how : Arrived) (newer : Bool) (since : ℕ) → state_of d.calls c ≡ Reading p m w how newer since → (newer ≡ true) ⊎ (how ≡ arrived.Lost) → AcceptedSince disk.moves fabric.moves c p run ⊎ ((l : Lender) × (w ≡ via.Lender l) × EndedSince disk.moves fabric.moves c l run)
+      by_how :
+          (p : Page) (m : EntryNo) (w : Via) (how : Arrived) (newer : Bool) (since : ℕ) → state_of d.calls c ≡ Reading p m w how newer since
+          → (newer ≡ true) ⊎ (how ≡ arrived.Lost)
+          → AcceptedSince disk.moves fabric.moves c p run ⊎ ((l : Lender) × (w ≡ via.Lender l) × EndedSince disk.moves fabric.moves c l run)
       by_how p m w how newer since is (inl e) =
           let P : CallState → Type 0 = λ x. IsNewerOf p x in inl (newer_since disk.moves fabric.moves c p run (not_newer p) (subst P (sym is) (refl, e)))
       by_how p m (via.Lender l) how newer since is (inr e) =
           let P : CallState → Type 0 = λ x. IsLostBy l x in
           let Q : Arrived → Type 0 = λ x. state_of d.calls c ≡ Reading p m (via.Lender l) x newer since in
-          let lost_is : state_of d.calls c ≡ Reading p m (via.Lender l) arrived.Lost newer since = subst Q e is in inr (l, refl, ended_since disk.moves fabric.moves c l run (not_lost l) (subst P (sym lost_is) refl))
+          let lost_is : state_of d.calls c ≡ Reading p m (via.Lender l) arrived.Lost newer since = subst Q e is in
+          inr (l, refl, ended_since disk.moves fabric.moves c l run (not_lost l) (subst P (sym lost_is) refl))
       by_how p m via.Disk how newer since is (inr e) =
           let P : CallState → Type 0 = λ x. IsLostAtDisk x in
           let Q : Arrived → Type 0 = λ x. state_of d.calls c ≡ Reading p m via.Disk x newer since in
-          let lost_is : state_of d.calls c ≡ Reading p m via.Disk arrived.Lost newer since = subst Q e is in absurd (never_at_disk disk.moves fabric.moves c run not_at_disk (subst P (sym lost_is) tt))
+          let lost_is : state_of d.calls c ≡ Reading p m via.Disk arrived.Lost newer since = subst Q e is in
+          absurd (never_at_disk disk.moves fabric.moves c run not_at_disk (subst P (sym lost_is) tt))
 
       by : (state : CallState) → state_of d.calls c ≡ state → MayGoOn state → HasAgainCause disk fabric s n first first_fabric made d k f run c
       by Idle is may = absurd may
       by (Room p since) is may = absurd may
-      by (Reading p m w how newer since) is may = record { page = p; entry = m; through = w; how = how; newer = newer; since = since; reads = is; cause = by_how p m w how newer since is may }
+      by (Reading p m w how newer since) is may =
+          record { page = p; entry = m; through = w; how = how; newer = newer; since = since; reads = is; cause = by_how p m w how newer since is may }

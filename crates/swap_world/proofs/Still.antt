@@ -76,22 +76,31 @@ run_answering f (AskDisk c next) k h = run_answering f (next (drive.ask k c).0) 
 run_answering f (AskFabric c next) k h = run_answering f (next (harbor.ask h c).0) k (harbor.ask h c).1
 
 -- an answer that always has an effect, at once and through one more answer
-effect : {A : Type 0} (e : Event) (f : A → Device × Seen) (p : Prog A) (d : Device) (k k' : Drive) (h h' : Harbor) → ((a : A) → has_effect e (f a).1 ≡ true) → Stills e d k' h' (runs (answering f p) k h)
+effect :
+    {A : Type 0} (e : Event) (f : A → Device × Seen) (p : Prog A) (d : Device) (k k' : Drive) (h h' : Harbor) → ((a : A) → has_effect e (f a).1 ≡ true)
+    → Stills e d k' h' (runs (answering f p) k h)
 effect e f p d k k' h h' each none =
-    let is : has_effect e (runs (answering f p) k h).0.1 ≡ true = ap (λ (x : Device × Seen). has_effect e x.1) (run_answering f p k h) ∙ each (runs p k h).0 in absurd (both is none)
+    let is : has_effect e (runs (answering f p) k h).0.1 ≡ true = ap (λ (x : Device × Seen). has_effect e x.1) (run_answering f p k h) ∙ each (runs p k h).0 in
+    absurd (both is none)
   where
     both : {b : Bool} → b ≡ true → b ≡ false → ⊥
     both a b = cc
 
-effect_through : {A B : Type 0} (e : Event) (g : B → Device × Seen) (f : A → B) (p : Prog A) (d : Device) (k k' : Drive) (h h' : Harbor) → ((a : A) → has_effect e (g (f a)).1 ≡ true) → Stills e d k' h' (runs (answering g (answering f p)) k h)
+effect_through :
+    {A B : Type 0} (e : Event) (g : B → Device × Seen) (f : A → B) (p : Prog A) (d : Device) (k k' : Drive) (h h' : Harbor)
+    → ((a : A) → has_effect e (g (f a)).1 ≡ true) → Stills e d k' h' (runs (answering g (answering f p)) k h)
 effect_through e g f p d k k' h h' each none =
-    let is : has_effect e (runs (answering g (answering f p)) k h).0.1 ≡ true = ap (λ (x : Device × Seen). has_effect e x.1) (run_answering g (answering f p) k h ∙ ap g (run_answering f p k h)) ∙ each (runs p k h).0 in absurd (both is none)
+    let is : has_effect e (runs (answering g (answering f p)) k h).0.1 ≡ true =
+    ap (λ (x : Device × Seen). has_effect e x.1) (run_answering g (answering f p) k h ∙ ap g (run_answering f p k h)) ∙ each (runs p k h).0 in
+    absurd (both is none)
   where
     both : {b : Bool} → b ≡ true → b ≡ false → ⊥
     both a b = cc
 
 -- calls
-out_still : (d : Device) (k : Drive) (h : Harbor) (page : List ℕ) (c : Caller) (p : Page) → Stills (event.PageOut c p) d k h (runs (happens d page (event.PageOut c p)) k h)
+out_still :
+    (d : Device) (k : Drive) (h : Harbor) (page : List ℕ) (c : Caller) (p : Page)
+    → Stills (event.PageOut c p) d k h (runs (happens d page (event.PageOut c p)) k h)
 out_still d k h page c p = go (is_idle (state_of d.calls c))
   where
     each : (x : Device × OutStep) → has_effect (event.PageOut c p) (see_out x.1) ≡ true
@@ -102,7 +111,9 @@ out_still d k h page c p = go (is_idle (state_of d.calls c))
     go true = effect (event.PageOut c p) (λ (x : Device × OutStep). (x.0, see_out x.1)) (device.out d c p page) d k k h h each
     go false = λ none. (refl, refl, refl)
 
-in_still : (d : Device) (k : Drive) (h : Harbor) (page : List ℕ) (c : Caller) (p : Page) → Stills (event.PageIn c p) d k h (runs (happens d page (event.PageIn c p)) k h)
+in_still :
+    (d : Device) (k : Drive) (h : Harbor) (page : List ℕ) (c : Caller) (p : Page)
+    → Stills (event.PageIn c p) d k h (runs (happens d page (event.PageIn c p)) k h)
 in_still d k h page c p = go (is_idle (state_of d.calls c))
   where
     each : (x : Device × InStep) → has_effect (event.PageIn c p) (see_in x.1) ≡ true
@@ -126,14 +137,29 @@ finish_still d k h page c = go (is_idle (state_of d.calls c))
     room : (p : Page) (since : ℕ) (bytes : List ℕ) → Stills (event.Finish c) d k h (runs (seen_by see_step (device.finish_out d c p since bytes)) k h)
     room p since bytes = by_room (queue.has_room d.queue p)
       where
-        fails : (b : Bool) → Stills (event.Finish c) d k h (runs (seen_by see_step (cond b (Ret (fault d c p kind.PageOut since d.failed_writes bytes, steps.Fault (next_name d.history) since d.failed_writes)) (Ret (d, steps.Room)))) k h)
+        fails :
+            (b : Bool)
+            → Stills (event.Finish c) d k h
+            (runs
+            (seen_by see_step
+            (cond b (Ret (fault d c p kind.PageOut since d.failed_writes bytes, steps.Fault (next_name d.history) since d.failed_writes))
+            (Ret (d, steps.Room))))
+            k h)
         fails true = λ none. absurd (let no : true ≡ false = none in cc)
         fails false = λ none. (refl, refl, refl)
 
         by_room : (b : Bool)
             → Stills (event.Finish c) d k h
-            (runs (seen_by see_step (cond b (answering (accepted_late (next_name d.history)) (accept d c p bytes)) (cond (nat_lt since d.failed_writes) (Ret (fault d c p kind.PageOut since d.failed_writes bytes, steps.Fault (next_name d.history) since d.failed_writes)) (Ret (d, steps.Room))))) k h)
-        by_room true = effect_through (event.Finish c) (λ (x : Device × Step). (x.0, see_step x.1)) (accepted_late (next_name d.history)) (accept d c p bytes) d k k h h (λ x. refl)
+            (runs
+            (seen_by see_step
+            (cond b (answering (accepted_late (next_name d.history)) (accept d c p bytes))
+            (cond (nat_lt since d.failed_writes)
+            (Ret (fault d c p kind.PageOut since d.failed_writes bytes, steps.Fault (next_name d.history) since d.failed_writes))
+            (Ret (d, steps.Room)))))
+            k h)
+        by_room true =
+            effect_through (event.Finish c) (λ (x : Device × Step). (x.0, see_step x.1)) (accepted_late (next_name d.history)) (accept d c p bytes) d k k h h
+            (λ x. refl)
         by_room false = fails (nat_lt since d.failed_writes)
 
     by_state : (bytes : List ℕ) (state : CallState) → Stills (event.Finish c) d k h (runs (seen_by see_step (finish_by d c bytes state)) k h)
@@ -162,10 +188,15 @@ start_still d k h page = by_line d.queue.line
     by_line [] = λ none. (refl, refl, refl)
     by_line (p ∷ line) = by_copy p (queue.next d.queue p)
 
-disk_still : (d : Device) (k : Drive) (h : Harbor) (page : List ℕ) (w : DiskWhich) (ok : Bool) → ((f : Flight) → in_flight k.disk w ≡ Some f → IsExpected true (pages_of d.sizes) d.sizes.callers d.queue d.calls f) → Stills (event.Disk w ok) d k h (runs (happens d page (event.Disk w ok)) k h)
+disk_still :
+    (d : Device) (k : Drive) (h : Harbor) (page : List ℕ) (w : DiskWhich) (ok : Bool)
+    → ((f : Flight) → in_flight k.disk w ≡ Some f → IsExpected true (pages_of d.sizes) d.sizes.callers d.queue d.calls f)
+    → Stills (event.Disk w ok) d k h (runs (happens d page (event.Disk w ok)) k h)
 disk_still d k h page w ok expected = by_parts k.disk.finished (in_flight k.disk w) expected
   where
-    wrote_seen : (p : Page) (bytes : List ℕ) (copy : Option Copy) (good : Bool) → IsCopyOf true bytes copy → has_effect (event.Disk w ok) (see_disk (wrote d p copy good).1) ≡ true
+    wrote_seen :
+        (p : Page) (bytes : List ℕ) (copy : Option Copy) (good : Bool) → IsCopyOf true bytes copy
+        → has_effect (event.Disk w ok) (see_disk (wrote d p copy good).1) ≡ true
     wrote_seen p bytes None good is = absurd is
     wrote_seen p bytes (Some copy) true is = refl
     wrote_seen p bytes (Some copy) false is = by_next (is_none (queue.next d.queue p))
@@ -174,7 +205,9 @@ disk_still d k h page w ok expected = by_parts k.disk.finished (in_flight k.disk
         by_next true = refl
         by_next false = refl
 
-    took_seen : (f : Flight) (good : Bool) (bytes : List ℕ) → IsExpected true (pages_of d.sizes) d.sizes.callers d.queue d.calls f → has_effect (event.Disk w ok) (see_disk (took d (which_of f) (page_of f) good bytes).1) ≡ true
+    took_seen :
+        (f : Flight) (good : Bool) (bytes : List ℕ) → IsExpected true (pages_of d.sizes) d.sizes.callers d.queue d.calls f
+        → has_effect (event.Disk w ok) (see_disk (took d (which_of f) (page_of f) good bytes).1) ≡ true
     took_seen (Write p written) good bytes is = wrote_seen p written (queue.flying d.queue p) good is.1
     took_seen (Read c p) true bytes is = refl
     took_seen (Read c p) false bytes is = refl
@@ -182,28 +215,39 @@ disk_still d k h page w ok expected = by_parts k.disk.finished (in_flight k.disk
     both : {b : Bool} → b ≡ true → b ≡ false → ⊥
     both a b = cc
 
-    by_parts : (fin : Option Finished) (fl : Option Flight) → ((f : Flight) → fl ≡ Some f → IsExpected true (pages_of d.sizes) d.sizes.callers d.queue d.calls f)
+    by_parts :
+        (fin : Option Finished) (fl : Option Flight) → ((f : Flight) → fl ≡ Some f → IsExpected true (pages_of d.sizes) d.sizes.callers d.queue d.calls f)
         → Stills (event.Disk w ok) d k h (runs (taken_if d (is_none fin && is_some fl)) (record k { disk = finish_flight k.disk fin fl ok }) h)
     by_parts (Some f) fl is = λ none. (refl, refl, refl)
     by_parts None None is = λ none. (refl, refl, refl)
     by_parts None (Some f) is = λ none. absurd (both (took_seen f ok _ (is f refl)) none)
 
 -- links
-map_still : (d : Device) (k : Drive) (h : Harbor) (page : List ℕ) (t : Slab) (l : Lender) → Stills (event.Map t l) d k h (runs (happens d page (event.Map t l)) k h)
+map_still :
+    (d : Device) (k : Drive) (h : Harbor) (page : List ℕ) (t : Slab) (l : Lender) → Stills (event.Map t l) d k h (runs (happens d page (event.Map t l)) k h)
 map_still d k h page t l = go (may_map d t l)
   where
-    go : (b : Bool) → Stills (event.Map t l) d k h (runs (seen_by see_map (answering (with_answer b) (cond b (AskFabric (Send l (parcel_of (msg.Borrow t) [])) (after_borrow lose d t l)) (Ret d)))) k h)
-    go true = effect_through (event.Map t l) (λ (x : Device × Bool). (x.0, see_map x.1)) (with_answer true) (AskFabric (Send l (parcel_of (msg.Borrow t) [])) (after_borrow lose d t l)) d k k h h (λ x. refl)
+    go :
+        (b : Bool)
+        → Stills (event.Map t l) d k h
+        (runs (seen_by see_map (answering (with_answer b) (cond b (AskFabric (Send l (parcel_of (msg.Borrow t) [])) (after_borrow lose d t l)) (Ret d)))) k h)
+    go true =
+        effect_through (event.Map t l) (λ (x : Device × Bool). (x.0, see_map x.1)) (with_answer true)
+        (AskFabric (Send l (parcel_of (msg.Borrow t) [])) (after_borrow lose d t l)) d k k h h (λ x. refl)
     go false = λ none. (refl, refl, refl)
 
-connect_still : (d : Device) (k : Drive) (h : Harbor) (page : List ℕ) (l : Lender) → Stills (event.Connect l) d k h (runs (happens d page (event.Connect l)) k h)
+connect_still :
+    (d : Device) (k : Drive) (h : Harbor) (page : List ℕ) (l : Lender) → Stills (event.Connect l) d k h (runs (happens d page (event.Connect l)) k h)
 connect_still d k h page l = go (nat_lt d.links_made MOST_LINKS)
   where
     both : {b : Bool} → b ≡ true → b ≡ false → ⊥
     both a b = cc
 
     -- a link that was made is seen, whatever was lost before
-    made : (p : Prog Device) (e : Device → Prog (Device × Option Link)) (k : Drive) (h : Harbor) → ((x : Device) (k : Drive) (h : Harbor) → has_effect (event.Connect l) (see_link (runs (e x) k h).0.1) ≡ true) → has_effect (event.Connect l) (see_link (runs (and_then p e) k h).0.1) ≡ true
+    made :
+        (p : Prog Device) (e : Device → Prog (Device × Option Link)) (k : Drive) (h : Harbor)
+        → ((x : Device) (k : Drive) (h : Harbor) → has_effect (event.Connect l) (see_link (runs (e x) k h).0.1) ≡ true)
+        → has_effect (event.Connect l) (see_link (runs (and_then p e) k h).0.1) ≡ true
     made (Ret x) e k h each = each x k h
     made (AskDisk c next) e k h each = made (next (drive.ask k c).0) e (drive.ask k c).1 h each
     made (AskFabric c next) e k h each = made (next (harbor.ask h c).0) e k (harbor.ask h c).1 each
@@ -211,12 +255,17 @@ connect_still d k h page l = go (nat_lt d.links_made MOST_LINKS)
     linked : (x : Device) (k : Drive) (h : Harbor) → has_effect (event.Connect l) (see_link (runs (connect_on x l) k h).0.1) ≡ true
     linked x k h =
         let h' : Harbor = (harbor.ask h (FabricCall.Connect l (next_link x))).1 in
-        let p : Prog Device = say (raised x l) l (Some (hello x.sizes)) in ap (λ (a : Device × Option Link). has_effect (event.Connect l) (see_link a.1)) (run_answering (with_link (next_link x)) p k h')
+        let p : Prog Device = say (raised x l) l (Some (hello x.sizes)) in
+        ap (λ (a : Device × Option Link). has_effect (event.Connect l) (see_link a.1)) (run_answering (with_link (next_link x)) p k h')
 
     go : (b : Bool) → Stills (event.Connect l) d k h (runs (seen_by see_link (cond b (and_then (without_link d l) (λ x. connect_on x l)) (Ret (d, None)))) k h)
     go true = λ none.
         let p : Prog (Device × Option Link) = and_then (without_link d l) (λ x. connect_on x l) in
-        absurd (both (ap (λ (a : Device × Seen). has_effect (event.Connect l) a.1) (run_answering (λ (x : Device × Option Link). (x.0, see_link x.1)) p k h) ∙ made (without_link d l) (λ x. connect_on x l) k h linked) none)
+        absurd
+        (both
+        (ap (λ (a : Device × Seen). has_effect (event.Connect l) a.1) (run_answering (λ (x : Device × Option Link). (x.0, see_link x.1)) p k h)
+        ∙ made (without_link d l) (λ x. connect_on x l) k h linked)
+        none)
     go false = λ none. (refl, refl, refl)
 
 -- a period's end is seen
@@ -234,22 +283,28 @@ set_same (x ∷ xs) zero d = refl
 set_same (x ∷ xs) (suc i) d = ap (λ ys. x ∷ ys) (set_same xs i d)
 
 harbor_same : (h : Harbor) (l : Lender) (ch : Channel) → ch ≡ channel_of h l → with_channel h l ch ≡ h
-harbor_same h l ch is = ap (λ x. with_channel h l x) is ∙ ap (λ (xs : List Channel). record { sizes = h.sizes; channels = xs }) (set_same h.channels l.0 (no_channel h.sizes))
+harbor_same h l ch is =
+    ap (λ x. with_channel h l x) is ∙ ap (λ (xs : List Channel). record { sizes = h.sizes; channels = xs }) (set_same h.channels l.0 (no_channel h.sizes))
 
 given_nothing : (e : Event) (ch : Channel) → has_effect e (see_gave (given ch).0) ≡ false → (given ch).1 ≡ ch
 given_nothing e ch = by_gone ch.lender_gone
   where
-    by_may : (b : Bool) (p : Parcel) (reply : Option Msg) (evicted : ℕ) (x y : Channel) → has_effect e (see_gave (cond {A = Gave × Channel} b (gave.Got p.msg reply evicted, x) (gave.Ended p.msg, y)).0) ≡ false → ⊥
+    by_may :
+        (b : Bool) (p : Parcel) (reply : Option Msg) (evicted : ℕ) (x y : Channel)
+        → has_effect e (see_gave (cond {A = Gave × Channel} b (gave.Got p.msg reply evicted, x) (gave.Ended p.msg, y)).0) ≡ false → ⊥
     by_may true p reply evicted x y none = let no : true ≡ false = none in cc
     by_may false p reply evicted x y none = let no : true ≡ false = none in cc
 
-    by_ended : (b : Bool) (x : Channel) → has_effect e (see_gave (cond {A = Gave × Channel} b (gave.End, x) (gave.Nothing, ch)).0) ≡ false → (cond {A = Gave × Channel} b (gave.End, x) (gave.Nothing, ch)).1 ≡ ch
+    by_ended :
+        (b : Bool) (x : Channel) → has_effect e (see_gave (cond {A = Gave × Channel} b (gave.End, x) (gave.Nothing, ch)).0) ≡ false
+        → (cond {A = Gave × Channel} b (gave.End, x) (gave.Nothing, ch)).1 ≡ ch
     by_ended true x none = absurd (let no : true ≡ false = none in cc)
     by_ended false x none = refl
 
     by_parcels : (ps : List Parcel) → has_effect e (see_gave (given_from ch ps).0) ≡ false → (given_from ch ps).1 ≡ ch
     by_parcels [] none = by_ended ch.to_lender.ended _ none
-    by_parcels (p ∷ ps) none = absurd (by_may (may_send ch.lender ch.number p.msg) p (reply_of turn.parcels) turn.evicted (delivered after turn) (abandoned after) none)
+    by_parcels (p ∷ ps) none =
+        absurd (by_may (may_send ch.lender ch.number p.msg) p (reply_of turn.parcels) turn.evicted (delivered after turn) (abandoned after) none)
       where
         after : Channel
         after = record ch { to_lender = record ch.to_lender { parcels = ps } }
@@ -257,7 +312,9 @@ given_nothing e ch = by_gone ch.lender_gone
         turn : Turn
         turn = served ch.lender ch.number p.msg p.page
 
-    by_gone : (b : Bool) → has_effect e (see_gave (cond {A = Gave × Channel} b (gave.Nothing, ch) (given_from ch ch.to_lender.parcels)).0) ≡ false → (cond {A = Gave × Channel} b (gave.Nothing, ch) (given_from ch ch.to_lender.parcels)).1 ≡ ch
+    by_gone :
+        (b : Bool) → has_effect e (see_gave (cond {A = Gave × Channel} b (gave.Nothing, ch) (given_from ch ch.to_lender.parcels)).0) ≡ false
+        → (cond {A = Gave × Channel} b (gave.Nothing, ch) (given_from ch ch.to_lender.parcels)).1 ≡ ch
     by_gone true none = refl
     by_gone false none = by_parcels ch.to_lender.parcels none
 
@@ -278,19 +335,23 @@ cut_same l n = by_ended l.ended refl
     by_ended : (b : Bool) → l.ended ≡ b → cond b (cond (nat_lt n (length l.parcels)) false true) false ≡ true → cut l n ≡ l
     by_ended false is same = absurd (both same refl)
     by_ended true is same =
-        ap (λ (ps : List Parcel). record l { parcels = ps; ended = true }) (take_all n l.parcels (short (nat_lt n (length l.parcels)) refl same)) ∙ ap (λ (x : Bool). record l { ended = x }) (sym is)
+        ap (λ (ps : List Parcel). record l { parcels = ps; ended = true }) (take_all n l.parcels (short (nat_lt n (length l.parcels)) refl same))
+        ∙ ap (λ (x : Bool). record l { ended = x }) (sym is)
 
 severed_nothing : (ch : Channel) (a b : ℕ) → (severed ch a b).0 ≡ false → (severed ch a b).1 ≡ ch
 severed_nothing ch a b = by (is_cut ch.to_lender a) refl (is_cut ch.to_device b) refl
   where
     by : (x : Bool) → is_cut ch.to_lender a ≡ x → (y : Bool) → is_cut ch.to_device b ≡ y → not (x && y) ≡ false → (severed ch a b).1 ≡ ch
     by true first true second none =
-        ap (λ (x : Lane). record ch { to_lender = x; to_device = cut ch.to_device b }) (cut_same ch.to_lender a first) ∙ ap (λ (y : Lane). record ch { to_device = y }) (cut_same ch.to_device b second)
+        ap (λ (x : Lane). record ch { to_lender = x; to_device = cut ch.to_device b }) (cut_same ch.to_lender a first)
+        ∙ ap (λ (y : Lane). record ch { to_device = y }) (cut_same ch.to_device b second)
     by true first false second none = cc
     by false first y second none = cc
 
-cut_still : (d : Device) (k : Drive) (h : Harbor) (page : List ℕ) (l : Lender) (a b : ℕ) → Stills (event.Cut l a b) d k h (runs (happens d page (event.Cut l a b)) k h)
-cut_still d k h page l a b = λ none. (refl, refl, harbor_same h l (severed (channel_of h l) a b).1 (severed_nothing (channel_of h l) a b (unseen (severed (channel_of h l) a b).0 none)))
+cut_still :
+    (d : Device) (k : Drive) (h : Harbor) (page : List ℕ) (l : Lender) (a b : ℕ) → Stills (event.Cut l a b) d k h (runs (happens d page (event.Cut l a b)) k h)
+cut_still d k h page l a b =
+    λ none. (refl, refl, harbor_same h l (severed (channel_of h l) a b).1 (severed_nothing (channel_of h l) a b (unseen (severed (channel_of h l) a b).0 none)))
   where
     unseen : (x : Bool) → has_effect (event.Cut l a b) (see_cut x) ≡ false → x ≡ false
     unseen true none = cc
@@ -300,13 +361,17 @@ cut_still d k h page l a b = λ none. (refl, refl, harbor_same h l (severed (cha
 crash_still : (d : Device) (k : Drive) (h : Harbor) (page : List ℕ) (l : Lender) → Stills (event.Crash l) d k h (runs (happens d page (event.Crash l)) k h)
 crash_still d k h page l = λ none. absurd (let no : true ≡ false = none in cc)
 
-host_still : (d : Device) (k : Drive) (h : Harbor) (page : List ℕ) (l : Lender) (used word : ℕ) → Stills (event.Host l used word) d k h (runs (happens d page (event.Host l used word)) k h)
+host_still :
+    (d : Device) (k : Drive) (h : Harbor) (page : List ℕ) (l : Lender) (used word : ℕ)
+    → Stills (event.Host l used word) d k h (runs (happens d page (event.Host l used word)) k h)
 host_still d k h page l used word = λ none. absurd (let no : true ≡ false = none in cc)
 
 taken_nothing : (ch : Channel) → (taken ch).0 ≡ NothingCame → (taken ch).1 ≡ ch
 taken_nothing ch = by_gone ch.device_gone
   where
-    by_ended : (b : Bool) (x : Channel) → (cond {A = Handed × Channel} b (LinkLost, x) (NothingCame, ch)).0 ≡ NothingCame → (cond {A = Handed × Channel} b (LinkLost, x) (NothingCame, ch)).1 ≡ ch
+    by_ended :
+        (b : Bool) (x : Channel) → (cond {A = Handed × Channel} b (LinkLost, x) (NothingCame, ch)).0 ≡ NothingCame
+        → (cond {A = Handed × Channel} b (LinkLost, x) (NothingCame, ch)).1 ≡ ch
     by_ended true x is = cc
     by_ended false x is = refl
 
@@ -314,7 +379,9 @@ taken_nothing ch = by_gone ch.device_gone
     by_parcels [] is = by_ended ch.to_device.ended _ is
     by_parcels (p ∷ ps) is = cc
 
-    by_gone : (b : Bool) → (cond {A = Handed × Channel} b (NothingCame, ch) (taken_from ch ch.to_device.parcels)).0 ≡ NothingCame → (cond {A = Handed × Channel} b (NothingCame, ch) (taken_from ch ch.to_device.parcels)).1 ≡ ch
+    by_gone :
+        (b : Bool) → (cond {A = Handed × Channel} b (NothingCame, ch) (taken_from ch ch.to_device.parcels)).0 ≡ NothingCame
+        → (cond {A = Handed × Channel} b (NothingCame, ch) (taken_from ch ch.to_device.parcels)).1 ≡ ch
     by_gone true is = refl
     by_gone false is = by_parcels ch.to_device.parcels is
 
@@ -322,20 +389,29 @@ take_still : (d : Device) (k : Drive) (h : Harbor) (page : List ℕ) (l : Lender
 take_still d k h page l = go (is_up d.remote.links l)
   where
     by_heard : (q : Parcel) (o : Option Heard) (h' : Harbor) → Stills (event.Take l) d k h (runs (seen_by see_take (understood d l q.msg o)) k h')
-    by_heard q None h' = effect_through (event.Take l) (λ (x : Device × LinkStep). (x.0, see_take x.1)) (with_step link.Lied) (lose d l) d k k (harbor.ask h' (End l)).1 h (λ x. refl)
-    by_heard q (Some e) h' = effect_through (event.Take l) (λ (x : Device × LinkStep). (x.0, see_take x.1)) (with_step (link.Got q.msg)) (follow e l) d k k h' h (λ x. refl)
+    by_heard q None h' =
+        effect_through (event.Take l) (λ (x : Device × LinkStep). (x.0, see_take x.1)) (with_step link.Lied) (lose d l) d k k (harbor.ask h' (End l)).1 h
+        (λ x. refl)
+    by_heard q (Some e) h' =
+        effect_through (event.Take l) (λ (x : Device × LinkStep). (x.0, see_take x.1)) (with_step (link.Got q.msg)) (follow e l) d k k h' h (λ x. refl)
 
     by_handed : (x : Handed) (h' : Harbor) → (x ≡ NothingCame → h' ≡ h) → Stills (event.Take l) d k h (runs (seen_by see_take (took_from d l x)) k h')
     by_handed (Brought q) h' same = by_heard q (heard d l q (oldest (ring_of d.remote.links l))) h'
     by_handed NothingCame h' same = λ none. (refl, refl, same refl)
-    by_handed LinkLost h' same = effect_through (event.Take l) (λ (x : Device × LinkStep). (x.0, see_take x.1)) (with_step link.Lost) (lose d l) d k k h' h (λ x. refl)
+    by_handed LinkLost h' same =
+        effect_through (event.Take l) (λ (x : Device × LinkStep). (x.0, see_take x.1)) (with_step link.Lost) (lose d l) d k k h' h (λ x. refl)
 
     go : (b : Bool) → Stills (event.Take l) d k h (runs (seen_by see_take (cond b (AskFabric (Take l) (took_from d l)) (Ret (d, link.Nothing)))) k h)
-    go true = by_handed (taken (channel_of h l)).0 (with_channel h l (taken (channel_of h l)).1) (λ is. harbor_same h l (taken (channel_of h l)).1 (taken_nothing (channel_of h l) is))
+    go true =
+        by_handed (taken (channel_of h l)).0 (with_channel h l (taken (channel_of h l)).1)
+        (λ is. harbor_same h l (taken (channel_of h l)).1 (taken_nothing (channel_of h l) is))
     go false = λ none. (refl, refl, refl)
 
 -- any event
-still : (d : Device) (k : Drive) (h : Harbor) (page : List ℕ) (e : Event) → ((w : DiskWhich) (f : Flight) → in_flight k.disk w ≡ Some f → IsExpected true (pages_of d.sizes) d.sizes.callers d.queue d.calls f) → Stills e d k h (runs (happens d page e) k h)
+still :
+    (d : Device) (k : Drive) (h : Harbor) (page : List ℕ) (e : Event)
+    → ((w : DiskWhich) (f : Flight) → in_flight k.disk w ≡ Some f → IsExpected true (pages_of d.sizes) d.sizes.callers d.queue d.calls f)
+    → Stills e d k h (runs (happens d page e) k h)
 still d k h page (event.PageOut c p) expected = out_still d k h page c p
 still d k h page (event.PageIn c p) expected = in_still d k h page c p
 still d k h page (event.Finish c) expected = finish_still d k h page c
@@ -356,9 +432,15 @@ nothing_changes s specs is i few inputs none =
     let w : World = reach (start s specs) is in
     let sound = reach_sound s (length specs) (start s specs) is inputs (starts_sound s specs few) in
     let expected = (sound_fits s (length specs) w sound).disk.agrees.expected in
-    unmoved w i.page i.event (λ which_ f is. found (IsExpected true (pages_of w.device.sizes) w.device.sizes.callers w.device.queue w.device.calls) which_ w.drive.disk.flights f is expected) none
+    unmoved w i.page i.event
+    (λ which_ f is.
+    found (IsExpected true (pages_of w.device.sizes) w.device.sizes.callers w.device.queue w.device.calls) which_ w.drive.disk.flights f is expected)
+    none
   where
-    unmoved : (w : World) (page : List ℕ) (e : Event) → ((which_ : DiskWhich) (f : Flight) → in_flight w.drive.disk which_ ≡ Some f → IsExpected true (pages_of w.device.sizes) w.device.sizes.callers w.device.queue w.device.calls f)
+    unmoved :
+        (w : World) (page : List ℕ) (e : Event)
+        → ((which_ : DiskWhich) (f : Flight) → in_flight w.drive.disk which_ ≡ Some f
+        → IsExpected true (pages_of w.device.sizes) w.device.sizes.callers w.device.queue w.device.calls f)
         → has_effect e (next_by w page e).seen ≡ false → (next_by w page e).world ≡ w
     unmoved w page (event.Round word) expected none = absurd (let no : true ≡ false = none in cc)
     unmoved w page e expected none = let same = still w.device w.drive w.harbor page e expected none in rw (same.0, same.1, same.2) refl

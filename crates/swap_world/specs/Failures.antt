@@ -1,4 +1,5 @@
--- Which events saw the disk fail, when a caller's call was started last, and what a failed call's entry has for a cause.
+-- Which events saw the disk fail, when a caller's call was started last, and what a failed call's entry has for a
+-- cause.
 use Rattle.std.specs.Prelude.{◌≡◌, ◌<◌, ℕ, Bool, true, false, ◌&&◌, ◌==◌, if◌then◌else◌, List, [], ◌∷◌, length, take, count_by, is_some, Option, None, Some}
 use Rattle.std.specs.List.{AllByRecursion}
 use Rattle.swap_base.specs.declared.Page.{Page}
@@ -92,14 +93,17 @@ pub record FailsByItsRead (c : Caller) (page : Page) (made : List (Input × Seen
 abbrev pub HasItsCause : Caller → Page → List (Input × Seen) → List Row → Op → Type 0
 HasItsCause c page made H op.PageOut = Unit {0}
 HasItsCause c page made H (op.PageIn named from) = Unit {0}
-HasItsCause c page made H (op.Failed kind.PageOut since at) = AreItsCounts since at (failed_writes_in (before_start c made)) (failed_writes_in made)
-HasItsCause c page made H (op.Failed kind.PageIn since at) = AreItsCounts since at (failed_reads_in (before_start c made)) (failed_reads_in made) × FailsByItsRead c page made H
+HasItsCause c page made H (op.Failed kind.PageOut since at) =
+    AreItsCounts since at (failed_writes_in (before_start c made)) (failed_writes_in made)
+HasItsCause c page made H (op.Failed kind.PageIn since at) =
+    AreItsCounts since at (failed_reads_in (before_start c made)) (failed_reads_in made) × FailsByItsRead c page made H
 
 -- The history holds exactly the entries that were seen, in order, and each that tells a failure has its cause.
 abbrev pub HoldsEntry : (List Row → Type 0) → List (Input × Seen) → List Row → Option EntryNo → Type 0
 HoldsEntry rest made H None = rest H
 HoldsEntry rest made [] (Some e) = ⊥
-HoldsEntry rest made (row ∷ H) (Some e) = (e.0 ≡ length H) × HasItsCause row.entry.caller row.entry.page made H row.entry.op × rest H
+HoldsEntry rest made (row ∷ H) (Some e) =
+    (e.0 ≡ length H) × HasItsCause row.entry.caller row.entry.page made H row.entry.op × rest H
 
 abbrev pub HoldsEntriesSeen : List (Input × Seen) → List Row → Type 0
 HoldsEntriesSeen [] H = H ≡ []

@@ -35,7 +35,9 @@ again (suc left) e rest = Make e (λ s. if has_effect e s then again left e rest
 -- Give and then Take of each of these many lenders from the n-th on
 abbrev pub each_lender : ℕ → ℕ → ℕ → Plan → Plan
 each_lender times zero n rest = rest
-each_lender times (suc left) n rest = again times (event.Give (record { 0 = n })) (again times (event.Take (record { 0 = n })) (each_lender times left (n + 1) rest))
+each_lender times (suc left) n rest =
+    again times (event.Give (record { 0 = n }))
+    (again times (event.Take (record { 0 = n })) (each_lender times left (n + 1) rest))
 
 -- how often a lender, or its link, is asked for a message, at most
 abbrev pub most_messages : Sizes → ℕ
@@ -43,7 +45,8 @@ most_messages s = s.window + 66
 
 -- a tick, and then twice each lender's messages
 abbrev pub round_plan : Sizes → ℕ → ℕ → Plan
-round_plan s lenders word = Make (event.Tick word) (λ _. each_lender (most_messages s) lenders 0 (each_lender (most_messages s) lenders 0 Stop))
+round_plan s lenders word =
+    Make (event.Tick word) (λ _. each_lender (most_messages s) lenders 0 (each_lender (most_messages s) lenders 0 Stop))
 
 -- the events that a Round is made of
 abbrev pub is_part : Event → Bool
@@ -60,18 +63,24 @@ one_if_so false = 0
 abbrev pub rounded : Device → ℕ → Seen
 rounded d effects = seen.Rounded effects (mapped d.remote.slabs)
 
-module _ {D F : Type 0} (disk_moves : D → (c : DiskCall) → DiskAnswer c → D → Type 0) (moves : F → (c : FabricCall) → FabricAnswer c → F → Type 0) where
+module _ {D F : Type 0} (disk_moves : D → (c : DiskCall) → DiskAnswer c → D → Type 0)
+    (moves : F → (c : FabricCall) → FabricAnswer c → F → Type 0) where
   -- device, disk and fabric went along a plan, with so many events that had an effect
   abbrev pub AlongPlan : Plan → Device → D → F → Device → D → F → ℕ → Type 0
   AlongPlan Stop d k f d' k' f' effects = (d' ≡ d) × (k' ≡ k) × (f' ≡ f) × (effects ≡ 0)
   AlongPlan (Make e next) d k f d' k' f' effects =
-      (s : Seen) × (x : Device) × (kx : D) × (fx : F) × (more : ℕ) × Along disk_moves moves (happens d [] e) k f kx fx (x, s) × AlongPlan (next s) x kx fx d' k' f' more × (effects ≡ more + one_if_so (has_effect e s))
+      (s : Seen) × (x : Device) × (kx : D) × (fx : F) × (more : ℕ)
+      × Along disk_moves moves (happens d [] e) k f kx fx (x, s) × AlongPlan (next s) x kx fx d' k' f' more
+      × (effects ≡ more + one_if_so (has_effect e s))
 
   -- one event: a Round goes along its plan, and every other along its program
   abbrev pub StepOf : List ℕ → Event → Device → D → F → Seen → Device → D → F → Type 0
-  StepOf page (event.Round word) d k f s d' k' f' = (effects : ℕ) × AlongPlan (round_plan d.sizes d.lenders word) d k f d' k' f' effects × (s ≡ rounded d' effects)
+  StepOf page (event.Round word) d k f s d' k' f' =
+      (effects : ℕ) × AlongPlan (round_plan d.sizes d.lenders word) d k f d' k' f' effects × (s ≡ rounded d' effects)
   StepOf page e d k f s d' k' f' = Along disk_moves moves (happens d page e) k f k' f' (d', s)
 
   -- what goes on from now as the rest of a plan went from before as the whole, with so many more that had an effect
   abbrev pub Continues : Plan → Plan → Core D F → Core D F → ℕ → Type 0
-  Continues whole rest before now more = (d' : Device) (k' : D) (f' : F) (effects : ℕ) → AlongPlan rest now.device now.disk now.fabric d' k' f' effects → AlongPlan whole before.device before.disk before.fabric d' k' f' (effects + more)
+  Continues whole rest before now more =
+      (d' : Device) (k' : D) (f' : F) (effects : ℕ) → AlongPlan rest now.device now.disk now.fabric d' k' f' effects
+      → AlongPlan whole before.device before.disk before.fabric d' k' f' (effects + more)

@@ -50,19 +50,25 @@ seen_of (pair ∷ pairs) = pair.1 ∷ seen_of pairs
 
 abbrev pub PageOutWithoutRoomFailsWhereAWriteFailed : Type 0
 PageOutWithoutRoomFailsWhereAWriteFailed =
-    seen_of (seens (start (sizes 1) []) (out 0 1 170 ∷ by event.Start ∷ out 1 2 187 ∷ disk_write 1 false ∷ by (event.Finish (caller 1)) ∷ by (event.PageIn (caller 0) (page 1)) ∷ []))
-    ≡ seen.Done (entry 0) None ∷ seen.Started (page 1) (entry 0) ∷ seen.Room ∷ seen.WriteKept (entry 0) ∷ seen.Fault (entry 1) ∷ seen.Done (entry 2) None ∷ []
+    seen_of
+    (seens (start (sizes 1) [])
+    (out 0 1 170 ∷ by event.Start ∷ out 1 2 187 ∷ disk_write 1 false ∷ by (event.Finish (caller 1))
+    ∷ by (event.PageIn (caller 0) (page 1)) ∷ []))
+    ≡ seen.Done (entry 0) None ∷ seen.Started (page 1) (entry 0) ∷ seen.Room ∷ seen.WriteKept (entry 0)
+    ∷ seen.Fault (entry 1) ∷ seen.Done (entry 2) None ∷ []
 
 abbrev pub ReadOvertakenByAPageOutAlreadyOnTheDisk : Type 0
 ReadOvertakenByAPageOutAlreadyOnTheDisk =
     seen_of (
     seens (start (sizes 4) []) (
-    out 0 3 170 ∷ by event.Start ∷ disk_write 3 true ∷ by (event.PageIn (caller 0) (page 3)) ∷ out 1 3 187 ∷ by event.Start ∷ disk_read 0 true ∷ disk_write 3 true ∷ by (event.Finish (caller 0)) ∷ disk_read 0 true
+    out 0 3 170 ∷ by event.Start ∷ disk_write 3 true ∷ by (event.PageIn (caller 0) (page 3)) ∷ out 1 3 187
+    ∷ by event.Start ∷ disk_read 0 true ∷ disk_write 3 true ∷ by (event.Finish (caller 0)) ∷ disk_read 0 true
     ∷ by (event.Finish (caller 0))
     ∷ []
     )
     )
-    ≡ seen.Done (entry 0) None ∷ seen.Started (page 3) (entry 0) ∷ seen.Written (entry 0) ∷ seen.Wait via.Disk ∷ seen.Done (entry 1) None ∷ seen.Started (page 3) (entry 1) ∷ seen.ReadCame (page 3) ∷ seen.Written (entry 1)
+    ≡ seen.Done (entry 0) None ∷ seen.Started (page 3) (entry 0) ∷ seen.Written (entry 0) ∷ seen.Wait via.Disk
+    ∷ seen.Done (entry 1) None ∷ seen.Started (page 3) (entry 1) ∷ seen.ReadCame (page 3) ∷ seen.Written (entry 1)
     ∷ seen.Again via.Disk
     ∷ seen.ReadCame (page 3)
     ∷ seen.Done (entry 2) None
@@ -73,13 +79,17 @@ abbrev own_ends : ℕ → List Input → List (Event × Seen)
 own_ends c is = read_ends (caller c) (since_start (caller c) (made_by [] (start (sizes 4) []) is))
 
 abbrev outs_since : ℕ → ℕ → List Input → List Bool
-outs_since c p is = map (is_out_of (page p)) (take (entries_in (since_start (caller c) (made_by [] (start (sizes 4) []) is))) (history (reach (start (sizes 4) []) is)))
+outs_since c p is =
+    map (is_out_of (page p))
+    (take (entries_in (since_start (caller c) (made_by [] (start (sizes 4) []) is)))
+    (history (reach (start (sizes 4) []) is)))
 
 abbrev seen_in_the_end : List Input → List Input → List Seen
 seen_in_the_end is more = seen_of (seens (reach (start (sizes 4) []) is) more)
 
 abbrev failed_read : List Input
-failed_read = out 0 3 170 ∷ by event.Start ∷ disk_write 3 true ∷ by (event.PageIn (caller 0) (page 3)) ∷ disk_read 0 false ∷ []
+failed_read =
+    out 0 3 170 ∷ by event.Start ∷ disk_write 3 true ∷ by (event.PageIn (caller 0) (page 3)) ∷ disk_read 0 false ∷ []
 
 abbrev pub FailedDiskReadFailsThePageIn : Type 0
 FailedDiskReadFailsThePageIn =
@@ -90,17 +100,21 @@ FailedDiskReadFailsThePageIn =
 abbrev pub FailedDiskReadWithANewerPageOut : Type 0
 FailedDiskReadWithANewerPageOut =
     (outs_since 0 3 (failed_read ++ out 1 3 187 ∷ []) ≡ true ∷ [])
-    × (seen_in_the_end (failed_read ++ out 1 3 187 ∷ []) (by (event.Finish (caller 0)) ∷ []) ≡ seen.Done (entry 2) None ∷ [])
+    × (seen_in_the_end (failed_read ++ out 1 3 187 ∷ []) (by (event.Finish (caller 0)) ∷ []) ≡ seen.Done (entry 2) None
+    ∷ [])
 
 abbrev two_reads : List Input
 two_reads =
-    out 0 3 170 ∷ by event.Start ∷ disk_write 3 true ∷ by (event.PageIn (caller 0) (page 3)) ∷ by (event.PageIn (caller 1) (page 3)) ∷ disk_read 1 false ∷ disk_read 0 true ∷ []
+    out 0 3 170 ∷ by event.Start ∷ disk_write 3 true ∷ by (event.PageIn (caller 0) (page 3))
+    ∷ by (event.PageIn (caller 1) (page 3)) ∷ disk_read 1 false ∷ disk_read 0 true ∷ []
 
 abbrev pub AnotherCallersReadFails : Type 0
 AnotherCallersReadFails =
     (own_ends 0 two_reads ≡ (event.Disk (which.Read (caller 0)) true, seen.ReadCame (page 3)) ∷ [])
     × (own_ends 1 two_reads ≡ (event.Disk (which.Read (caller 1)) false, seen.ReadFailed (page 3)) ∷ [])
-    × (seen_in_the_end two_reads (by (event.Finish (caller 0)) ∷ by (event.Finish (caller 1)) ∷ []) ≡ seen.Done (entry 1) None ∷ seen.Fault (entry 2) ∷ [])
+    × (seen_in_the_end two_reads (by (event.Finish (caller 0)) ∷ by (event.Finish (caller 1)) ∷ [])
+    ≡ seen.Done (entry 1) None
+    ∷ seen.Fault (entry 2) ∷ [])
 
 -- one lender, lent to by its messages
 abbrev lender_spec : LenderSpec
@@ -143,11 +157,14 @@ PageInFromALender =
     seen_of (
     seens (start (sizes 4) (lender_spec ∷ [])) (
     mapping_events
-    ++ (out 0 3 170 ∷ by gives ∷ by takes ∷ by event.Start ∷ disk_write 3 true ∷ by (event.PageIn (caller 0) (page 3)) ∷ by gives ∷ by takes ∷ by (event.Finish (caller 0)) ∷ [])
+    ++ (out 0 3 170 ∷ by gives ∷ by takes ∷ by event.Start ∷ disk_write 3 true ∷ by (event.PageIn (caller 0) (page 3))
+    ∷ by gives ∷ by takes ∷ by (event.Finish (caller 0)) ∷ [])
     )
     )
     ≡ mapping_seen
-    ++ (seen.Done (entry 0) (Some lender) ∷ seen.Gave (msg.Write lease 3) (Some (msg.Wrote lease 3)) 0 ∷ seen.Took (msg.Wrote lease 3) ∷ seen.Started (page 3) (entry 0) ∷ seen.Written (entry 0) ∷ seen.Wait (via.Lender lender)
+    ++ (seen.Done (entry 0) (Some lender) ∷ seen.Gave (msg.Write lease 3) (Some (msg.Wrote lease 3)) 0
+    ∷ seen.Took (msg.Wrote lease 3) ∷ seen.Started (page 3) (entry 0) ∷ seen.Written (entry 0)
+    ∷ seen.Wait (via.Lender lender)
     ∷ seen.Gave (msg.Read lease 3) (Some (msg.PageIs lease 3)) 0
     ∷ seen.Took (msg.PageIs lease 3)
     ∷ seen.Done (entry 1) None
@@ -231,7 +248,11 @@ TwoLendersAreAskedAndTheFreerLends =
 
 abbrev pub TwoLendersAreAsked : Type 0
 TwoLendersAreAsked =
-    seen_of (seens (reach (start hot_sizes (lender_spec ∷ roomier ∷ [])) (map by (event.Connect lender ∷ event.Connect second ∷ []) ++ replicate 5 reads_zero)) (by (event.Tick 0) ∷ by (event.Tick 0) ∷ []))
+    seen_of
+    (seens
+    (reach (start hot_sizes (lender_spec ∷ roomier ∷ []))
+    (map by (event.Connect lender ∷ event.Connect second ∷ []) ++ replicate 5 reads_zero))
+    (by (event.Tick 0) ∷ by (event.Tick 0) ∷ []))
     ≡ seen.Asked slab lender (Some second) ∷ seen.Ticked ∷ []
 
 -- a lender takes its slot back while a write and a read of it are under way: both are answered before it's given back
@@ -244,12 +265,19 @@ written_at_lender = mapping_events ++ (out 0 3 170 ∷ by gives ∷ by takes ∷
 abbrev taken_back : List Input
 taken_back =
     map by (event.Host lender 10 0 ∷ takes ∷ gives ∷ event.PageIn (caller 0) (page 3) ∷ [])
-    ++ (out 1 2 187 ∷ map by (takes ∷ gives ∷ gives ∷ gives ∷ takes ∷ gives ∷ takes ∷ gives ∷ event.Finish (caller 0) ∷ event.PageIn (caller 0) (page 3) ∷ []))
+    ++ (out 1 2 187
+    ∷ map by
+    (takes ∷ gives ∷ gives ∷ gives ∷ takes ∷ gives ∷ takes ∷ gives ∷ event.Finish (caller 0)
+    ∷ event.PageIn (caller 0) (page 3) ∷ []))
 
 abbrev pub RevocationWithReadAndWriteInFlight : Type 0
 RevocationWithReadAndWriteInFlight =
     seen_of (seens (reach (start (sizes 4) (small ∷ [])) written_at_lender) taken_back)
-    ≡ seen.Hosted 2 1 ∷ seen.Took (msg.AskRates lease) ∷ seen.Gave (msg.Rates lease 0) None 1 ∷ seen.Wait (via.Lender lender)
-    ∷ seen.Done (entry 1) (Some lender) ∷ seen.Took (msg.Evict lease) ∷ seen.Gave (msg.Read lease 3) (Some (msg.PageIs lease 3)) 0
-    ∷ seen.Gave (msg.Write lease 2) (Some (msg.Wrote lease 2)) 0 ∷ seen.Nothing ∷ seen.Took (msg.PageIs lease 3) ∷ seen.Nothing
-    ∷ seen.Took (msg.Wrote lease 2) ∷ seen.Gave (msg.Done lease) None 0 ∷ seen.Done (entry 2) None ∷ seen.Wait via.Disk ∷ []
+    ≡ seen.Hosted 2 1 ∷ seen.Took (msg.AskRates lease) ∷ seen.Gave (msg.Rates lease 0) None 1
+    ∷ seen.Wait (via.Lender lender)
+    ∷ seen.Done (entry 1) (Some lender) ∷ seen.Took (msg.Evict lease)
+    ∷ seen.Gave (msg.Read lease 3) (Some (msg.PageIs lease 3)) 0
+    ∷ seen.Gave (msg.Write lease 2) (Some (msg.Wrote lease 2)) 0 ∷ seen.Nothing ∷ seen.Took (msg.PageIs lease 3)
+    ∷ seen.Nothing
+    ∷ seen.Took (msg.Wrote lease 2) ∷ seen.Gave (msg.Done lease) None 0 ∷ seen.Done (entry 2) None ∷ seen.Wait via.Disk
+    ∷ []

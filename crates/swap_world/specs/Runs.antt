@@ -59,16 +59,25 @@ abbrev pub IsInput : Sizes → ℕ → Input → Type 0
 IsInput s lenders i = IsInRange s lenders i.event × IsPaged s i.event i.page
 
 -- A run from a device, its disk and its fabric, with the events that had an effect and what was seen
--- of each, the newest first; a Round stands in it by its parts. Events without an effect leave the device as it was, and disk and fabric where they are in
+-- of each, the newest first; a Round stands in it by its parts. Events without an effect leave the device as it was,
+-- and disk and fabric where they are in
 -- memory. A disk that ends its operations by itself is polled; what it ended counts as an event.
-pub data IsRun {D F : Type 0} (disk_moves : D → (c : DiskCall) → DiskAnswer c → D → Type 0) (moves : F → (c : FabricCall) → FabricAnswer c → F → Type 0) (first : Device) (disk : D) (fabric : F) : List (Input × Seen) → Device → D → F → Type 0 where
+pub data IsRun {D F : Type 0} (disk_moves : D → (c : DiskCall) → DiskAnswer c → D → Type 0)
+    (moves : F → (c : FabricCall) → FabricAnswer c → F → Type 0) (first : Device) (disk : D) (fabric : F) :
+    List (Input × Seen) → Device → D → F → Type 0 where
   begin : IsRun disk_moves moves first disk fabric [] first disk fabric
-  effect : {made : List (Input × Seen)} {d : Device} {k : D} {f : F} (i : Input) (s : Seen) (d' : Device) (k' : D) (f' : F)
-      → IsRun disk_moves moves first disk fabric made d k f → IsInRange first.sizes first.lenders i.event → IsStep disk_moves moves d k f i s d' k' f' → has_effect i.event s ≡ true → IsRun disk_moves moves first disk fabric ((i, s) ∷ made) d' k' f'
+  effect : {made : List (Input × Seen)} {d : Device} {k : D} {f : F} (i : Input) (s : Seen) (d' : Device) (k' : D)
+      (f' : F)
+      → IsRun disk_moves moves first disk fabric made d k f → IsInRange first.sizes first.lenders i.event
+      → IsStep disk_moves moves d k f i s d' k' f' → has_effect i.event s ≡ true
+      → IsRun disk_moves moves first disk fabric ((i, s) ∷ made) d' k' f'
   without : {made : List (Input × Seen)} {d : Device} {k : D} {f : F} (i : Input) (s : Seen) (k' : D) (f' : F)
-      → IsRun disk_moves moves first disk fabric made d k f → IsInRange first.sizes first.lenders i.event → IsStep disk_moves moves d k f i s d k' f' → has_effect i.event s ≡ false → IsRun disk_moves moves first disk fabric made d k' f'
+      → IsRun disk_moves moves first disk fabric made d k f → IsInRange first.sizes first.lenders i.event
+      → IsStep disk_moves moves d k f i s d k' f' → has_effect i.event s ≡ false
+      → IsRun disk_moves moves first disk fabric made d k' f'
   polled : {made : List (Input × Seen)} {d : Device} {k : D} {f : F} (step : DiskStep) (d' : Device) (k' : D) (f' : F)
-      → IsRun disk_moves moves first disk fabric made d k f → Along disk_moves moves (disk_take d) k f k' f' (d', step) → IsRun disk_moves moves first disk fabric (with_polled step made) d' k' f'
+      → IsRun disk_moves moves first disk fabric made d k f → Along disk_moves moves (disk_take d) k f k' f' (d', step)
+      → IsRun disk_moves moves first disk fabric (with_polled step made) d' k' f'
 
 -- a device over its ports, its events that had an effect with what was seen of each, the oldest first, and for how
 -- many more there is room
@@ -106,7 +115,8 @@ HasParts (Together word mapped parts) = AllByRecursion (λ (m : Input × Seen). 
 
 -- A world's device, disk and fabric were reached by the events of its log, a Round by its parts, from a device that
 -- nothing had happened to, over a disk that was blank and a fabric as it is made.
-pub record IsReached {D F : Type 0} (disk : DiskMeaning D) (fabric : FabricMeaning F) (core : Core D F) (log : List (Event × Seen)) : Type 0 where
+pub record IsReached {D F : Type 0} (disk : DiskMeaning D) (fabric : FabricMeaning F) (core : Core D F)
+    (log : List (Event × Seen)) : Type 0 where
   pub sizes : Sizes
   pub lenders : ℕ
   pub few : lenders ≤ MOST_LENDERS
@@ -116,11 +126,13 @@ pub record IsReached {D F : Type 0} (disk : DiskMeaning D) (fabric : FabricMeani
   pub parts : AllByRecursion HasParts written
   pub blank : IsBlank sizes (disk.means first)
   pub fresh : fabric.fresh first_fabric (record { sizes = sizes; lenders = lenders })
-  pub run : IsRun disk.moves fabric.moves (new sizes lenders) first first_fabric (made_of written) core.device core.disk core.fabric
+  pub run : IsRun disk.moves fabric.moves (new sizes lenders) first first_fabric
+      (made_of written) core.device core.disk core.fabric
   pub logged : log ≡ logged_of written
 
 -- so of a world, which keeps the number of its lenders
-pub record IsMachine {D F : Type 0} (disk : DiskMeaning D) (fabric : FabricMeaning F) (core : Core D F) (lenders : ℕ) (log : List (Event × Seen)) : Type 0 where
+pub record IsMachine {D F : Type 0} (disk : DiskMeaning D) (fabric : FabricMeaning F) (core : Core D F) (lenders : ℕ)
+    (log : List (Event × Seen)) : Type 0 where
   pub reached : IsReached disk fabric core log
   pub has : lenders ≡ core.device.lenders
   pub most : lenders ≤ MOST_LENDERS
@@ -134,7 +146,8 @@ abbrev pub logged_polled : DiskStep → List (Event × Seen) → List (Event × 
 logged_polled step log = logged_with (event_of step) (see_disk step) log
 
 -- a poll took what the disk gave; nothing is seen of it exactly where the disk gave nothing
-pub record IsPolled {D : Type 0} (moves : D → (c : DiskCall) → DiskAnswer c → D → Type 0) (d : Device) (k : D) (log : List (Event × Seen)) (s : Seen) (d' : Device) (k' : D) (log' : List (Event × Seen)) : Type 0 where
+pub record IsPolled {D : Type 0} (moves : D → (c : DiskCall) → DiskAnswer c → D → Type 0) (d : Device) (k : D)
+    (log : List (Event × Seen)) (s : Seen) (d' : Device) (k' : D) (log' : List (Event × Seen)) : Type 0 where
   pub taken : Option Taken
   pub moved : moves k TakeDone taken k'
   pub device : d' ≡ (took_back d taken).0
@@ -200,11 +213,14 @@ AnswersCall d i row = AnswersEvent d i.page i.event row
 -- an event adds nothing to the history, or the one entry that is seen, which answers the event's call
 pub data Adds (d : Device) (i : Input) (s : Seen) (H : History) : Type 0 where
   nothing : entry_seen s ≡ None → H ≡ d.history → Adds d i s H
-  one : (row : Row) → entry_seen s ≡ Some (next_name d.history) → H ≡ row ∷ d.history → AnswersCall d i row → Adds d i s H
+  one :
+      (row : Row) → entry_seen s ≡ Some (next_name d.history) → H ≡ row ∷ d.history → AnswersCall d i row → Adds d i s H
 
 -- a caller that is idle stays so, but by a call of its own
 abbrev pub StaysIdle : Device → Event → Device → Type 0
-StaysIdle d e d' = (c : Caller) → c.0 < d.sizes.callers → is_idle (state_of d.calls c) ≡ true → is_call_of c e ≡ false → is_idle (state_of d'.calls c) ≡ true
+StaysIdle d e d' =
+    (c : Caller) → c.0 < d.sizes.callers → is_idle (state_of d.calls c) ≡ true → is_call_of c e ≡ false
+    → is_idle (state_of d'.calls c) ≡ true
 
 -- how many callers have a call that isn't answered
 abbrev pub is_busy_call : Call → Bool
@@ -220,7 +236,8 @@ is_new_call e = 0
 
 -- the entries and the calls under way grow by no more than the new calls
 abbrev pub GrowsByCalls : Event → Device → Device → Type 0
-GrowsByCalls e before now = length now.history + busy_callers now ≤ length before.history + busy_callers before + is_new_call e
+GrowsByCalls e before now =
+    length now.history + busy_callers now ≤ length before.history + busy_callers before + is_new_call e
 
 -- an event with an effect takes one from the log's room, and stands there with what was seen of it
 pub record IsLogged {D F : Type 0} (e : Event) (s : Seen) (before now : WorldOf D F) : Type 0 where
@@ -233,5 +250,8 @@ written_with None s written = written
 written_with (Some e) s written = Alone (record { event = e; page = [] }) s ∷ written
 
 -- one event of a world: its device, disk and fabric went from one to the other
-abbrev pub Steps : {D F : Type 0} → (D → (c : DiskCall) → DiskAnswer c → D → Type 0) → (F → (c : FabricCall) → FabricAnswer c → F → Type 0) → Input → Core D F → Core D F → Seen → Type 0
-Steps disk_moves moves i before now s = IsEvent disk_moves moves before.device before.disk before.fabric i s now.device now.disk now.fabric
+abbrev pub Steps :
+    {D F : Type 0} → (D → (c : DiskCall) → DiskAnswer c → D → Type 0)
+    → (F → (c : FabricCall) → FabricAnswer c → F → Type 0) → Input → Core D F → Core D F → Seen → Type 0
+Steps disk_moves moves i before now s =
+    IsEvent disk_moves moves before.device before.disk before.fabric i s now.device now.disk now.fabric

@@ -55,7 +55,8 @@ is_of_caller c (Some (request.Read e p)) = e.0 == c.0
 is_of_caller c _ = false
 
 abbrev pub from_link : Caller → Device → Lender → Handed → Option (List ℕ)
-from_link c d l (Brought q) = if is_of_caller c (oldest (ring_of d.remote.links l)) && is_page q.msg then Some q.page else None
+from_link c d l (Brought q) =
+    if is_of_caller c (oldest (ring_of d.remote.links l)) && is_page q.msg then Some q.page else None
 from_link c d l NothingCame = None
 from_link c d l LinkLost = None
 
@@ -125,44 +126,67 @@ is_read_op op.PageOut = false
 is_read_op (op.PageIn named from) = is_read from
 is_read_op (op.Failed kind since at) = false
 
-module _ {D F : Type 0} (disk_moves : D → (c : DiskCall) → DiskAnswer c → D → Type 0) (moves : F → (c : FabricCall) → FabricAnswer c → F → Type 0) where
+module _ {D F : Type 0} (disk_moves : D → (c : DiskCall) → DiskAnswer c → D → Type 0)
+    (moves : F → (c : FabricCall) → FabricAnswer c → F → Type 0) where
   -- the calls of disk and fabric along a program, with their answers, in order
-  abbrev pub asked_along : {A : Type 0} (p : Prog A) (k : D) (f : F) (k' : D) (f' : F) (a : A) → Along disk_moves moves p k f k' f' a → List Asked
+  abbrev pub asked_along :
+      {A : Type 0} (p : Prog A) (k : D) (f : F) (k' : D) (f' : F) (a : A) → Along disk_moves moves p k f k' f' a
+      → List Asked
   asked_along (Ret b) k f k' f' a along = []
-  asked_along (AskDisk c next) k f k' f' a along = OfDisk c along.0 ∷ asked_along (next along.0) along.1 f k' f' a along.3
-  asked_along (AskFabric c next) k f k' f' a along = OfFabric c along.0 ∷ asked_along (next along.0) k along.1 k' f' a along.3
+  asked_along (AskDisk c next) k f k' f' a along =
+      OfDisk c along.0 ∷ asked_along (next along.0) along.1 f k' f' a along.3
+  asked_along (AskFabric c next) k f k' f' a along =
+      OfFabric c along.0 ∷ asked_along (next along.0) k along.1 k' f' a along.3
 
   -- what was handed over for a caller's last started read
-  abbrev pub last_handed : {first : Device} {disk : D} {fabric : F} {made : List (Input × Seen)} {d : Device} {k : D} {f : F} → Caller → IsRun disk_moves moves first disk fabric made d k f → Option (List ℕ)
+  abbrev pub last_handed :
+      {first : Device} {disk : D} {fabric : F} {made : List (Input × Seen)} {d : Device} {k : D} {f : F} → Caller
+      → IsRun disk_moves moves first disk fabric made d k f → Option (List ℕ)
   last_handed c begin = None
   last_handed c (effect {d = d} {k = k} {f = f} i s d' k' f' run range step has) =
-      if is_start_of c i.event s then None else first_of (handed c d (asked_along (happens d i.page i.event) k f k' f' (d', s) step)) (last_handed c run)
+      if is_start_of c i.event s then None
+      else first_of (handed c d (asked_along (happens d i.page i.event) k f k' f' (d', s) step)) (last_handed c run)
   last_handed c (without i s k' f' run range step has) = last_handed c run
-  last_handed c (polled {d = d} {k = k} {f = f} step d' k' f' run along) = first_of (handed c d (asked_along (disk_take d) k f k' f' (d', step) along)) (last_handed c run)
+  last_handed c (polled {d = d} {k = k} {f = f} step d' k' f' run along) =
+      first_of (handed c d (asked_along (disk_take d) k f k' f' (d', step) along)) (last_handed c run)
 
   -- a page-out of a page was accepted, and a lender's link ended, since a caller's last start
-  abbrev pub AcceptedSince : {first : Device} {disk : D} {fabric : F} {made : List (Input × Seen)} {d : Device} {k : D} {f : F} → Caller → Page → IsRun disk_moves moves first disk fabric made d k f → Type 0
+  abbrev pub AcceptedSince :
+      {first : Device} {disk : D} {fabric : F} {made : List (Input × Seen)} {d : Device} {k : D} {f : F} → Caller → Page
+      → IsRun disk_moves moves first disk fabric made d k f → Type 0
   AcceptedSince c p begin = ⊥
-  AcceptedSince c p (effect {d = d} i s d' k' f' run range step has) = SinceStart (is_start_of c i.event s) (AcceptsOut p d d' ⊎ AcceptedSince c p run)
+  AcceptedSince c p (effect {d = d} i s d' k' f' run range step has) =
+      SinceStart (is_start_of c i.event s) (AcceptsOut p d d' ⊎ AcceptedSince c p run)
   AcceptedSince c p (without i s k' f' run range step has) = AcceptedSince c p run
   AcceptedSince c p (polled step d' k' f' run along) = AcceptedSince c p run
 
-  abbrev pub EndedSince : {first : Device} {disk : D} {fabric : F} {made : List (Input × Seen)} {d : Device} {k : D} {f : F} → Caller → Lender → IsRun disk_moves moves first disk fabric made d k f → Type 0
+  abbrev pub EndedSince :
+      {first : Device} {disk : D} {fabric : F} {made : List (Input × Seen)} {d : Device} {k : D} {f : F} → Caller
+      → Lender
+      → IsRun disk_moves moves first disk fabric made d k f → Type 0
   EndedSince c l begin = ⊥
-  EndedSince c l (effect {d = d} {k = k} {f = f} i s d' k' f' run range step has) = SinceStart (is_start_of c i.event s) (EndsIn l (asked_along (happens d i.page i.event) k f k' f' (d', s) step) ⊎ EndedSince c l run)
+  EndedSince c l (effect {d = d} {k = k} {f = f} i s d' k' f' run range step has) =
+      SinceStart (is_start_of c i.event s)
+      (EndsIn l (asked_along (happens d i.page i.event) k f k' f' (d', s) step) ⊎ EndedSince c l run)
   EndedSince c l (without i s k' f' run range step has) = EndedSince c l run
   EndedSince c l (polled step d' k' f' run along) = EndedSince c l run
 
 -- A page-in that a read answered gives exactly what was handed over for its caller's last started read.
-abbrev pub GivesWhatWasHanded : {D F : Type 0} → (D → (c : DiskCall) → DiskAnswer c → D → Type 0) → (F → (c : FabricCall) → FabricAnswer c → F → Type 0) → Type 0
+abbrev pub GivesWhatWasHanded :
+    {D F : Type 0} → (D → (c : DiskCall) → DiskAnswer c → D → Type 0)
+    → (F → (c : FabricCall) → FabricAnswer c → F → Type 0) → Type 0
 GivesWhatWasHanded {D} {F} disk_moves moves =
-    (s : Sizes) (n : ℕ) (first : D) (first_fabric : F) (made : List (Input × Seen)) (d : Device) (k : D) (f : F) (run : IsRun disk_moves moves (new s n) first first_fabric made d k f) (i : Input) (seen_ : Seen) (d' : Device) (k' : D) (f' : F) (row : Row)
+    (s : Sizes) (n : ℕ) (first : D) (first_fabric : F) (made : List (Input × Seen)) (d : Device) (k : D) (f : F)
+    (run : IsRun disk_moves moves (new s n) first first_fabric made d k f) (i : Input) (seen_ : Seen) (d' : Device)
+    (k' : D) (f' : F) (row : Row)
     → IsStep disk_moves moves d k f i seen_ d' k' f' → d'.history ≡ row ∷ d.history → is_read_op row.entry.op ≡ true
     → last_handed disk_moves moves row.entry.caller run ≡ Some row.bytes
 
 -- A call that reads anew has its cause: since its last start a page-out of its page was accepted, or the link ended
 -- through which it waited.
-pub record HasAgainCause {D F : Type 0} (disk : DiskMeaning D) (fabric : FabricMeaning F) (s : Sizes) (n : ℕ) (first : D) (first_fabric : F) (made : List (Input × Seen)) (d : Device) (k : D) (f : F) (run : IsRun disk.moves fabric.moves (new s n) first first_fabric made d k f) (c : Caller) : Type 0 where
+pub record HasAgainCause {D F : Type 0} (disk : DiskMeaning D) (fabric : FabricMeaning F) (s : Sizes) (n : ℕ)
+    (first : D) (first_fabric : F) (made : List (Input × Seen)) (d : Device) (k : D) (f : F)
+    (run : IsRun disk.moves fabric.moves (new s n) first first_fabric made d k f) (c : Caller) : Type 0 where
   pub page : Page
   pub entry : EntryNo
   pub through : Via
@@ -170,10 +194,13 @@ pub record HasAgainCause {D F : Type 0} (disk : DiskMeaning D) (fabric : FabricM
   pub newer : Bool
   pub since : ℕ
   pub reads : state_of d.calls c ≡ Reading page entry through how newer since
-  pub cause : AcceptedSince disk.moves fabric.moves c page run ⊎ ((l : Lender) × (through ≡ via.Lender l) × EndedSince disk.moves fabric.moves c l run)
+  pub cause : AcceptedSince disk.moves fabric.moves c page run
+      ⊎ ((l : Lender) × (through ≡ via.Lender l) × EndedSince disk.moves fabric.moves c l run)
 
 abbrev pub AgainHasCause : {D F : Type 0} → DiskMeaning D → FabricMeaning F → Type 0
 AgainHasCause {D} {F} disk fabric =
-    (s : Sizes) (n : ℕ) (first : D) (first_fabric : F) (made : List (Input × Seen)) (d : Device) (k : D) (f : F) (run : IsRun disk.moves fabric.moves (new s n) first first_fabric made d k f) (c : Caller) (page : List ℕ) (v : Via) (d' : Device) (k' : D) (f' : F)
+    (s : Sizes) (n : ℕ) (first : D) (first_fabric : F) (made : List (Input × Seen)) (d : Device) (k : D) (f : F)
+    (run : IsRun disk.moves fabric.moves (new s n) first first_fabric made d k f) (c : Caller) (page : List ℕ)
+    (v : Via) (d' : Device) (k' : D) (f' : F)
     → IsStep disk.moves fabric.moves d k f (record { event = event.Finish c; page = page }) (seen.Again v) d' k' f'
     → HasAgainCause disk fabric s n first first_fabric made d k f run c

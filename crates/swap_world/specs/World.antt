@@ -21,11 +21,16 @@ use Rattle.swap_wire.specs.declared.Event.TheVariants as event
 use Rattle.swap_world.specs.Rounds.{Plan, Stop, Make, round_plan, rounded, has_effect, one_if_so, StepOf}
 
 -- one event but a Round, over a disk and a fabric
-abbrev pub IsStep : {D F : Type 0} → (D → (c : DiskCall) → DiskAnswer c → D → Type 0) → (F → (c : FabricCall) → FabricAnswer c → F → Type 0) → Device → D → F → Input → Seen → Device → D → F → Type 0
-IsStep disk_moves moves d disk f i s d' disk' f' = Along disk_moves moves (happens d i.page i.event) disk f disk' f' (d', s)
+abbrev pub IsStep :
+    {D F : Type 0} → (D → (c : DiskCall) → DiskAnswer c → D → Type 0)
+    → (F → (c : FabricCall) → FabricAnswer c → F → Type 0) → Device → D → F → Input → Seen → Device → D → F → Type 0
+IsStep disk_moves moves d disk f i s d' disk' f' =
+    Along disk_moves moves (happens d i.page i.event) disk f disk' f' (d', s)
 
 -- one event of every kind
-abbrev pub IsEvent : {D F : Type 0} → (D → (c : DiskCall) → DiskAnswer c → D → Type 0) → (F → (c : FabricCall) → FabricAnswer c → F → Type 0) → Device → D → F → Input → Seen → Device → D → F → Type 0
+abbrev pub IsEvent :
+    {D F : Type 0} → (D → (c : DiskCall) → DiskAnswer c → D → Type 0)
+    → (F → (c : FabricCall) → FabricAnswer c → F → Type 0) → Device → D → F → Input → Seen → Device → D → F → Type 0
 IsEvent disk_moves moves d disk f i s d' disk' f' = StepOf disk_moves moves i.page i.event d disk f s d' disk' f'
 
 -- the disk in memory and the lenders in memory are functions, and so is the world over them

@@ -36,8 +36,10 @@ fn page_out<D: DiskPort, F: Fabric>(
     requires caller { caller.0 < device.old.device.sizes.callers }
     requires page { page.0 < pages_of device.old.device.sizes }
     requires bytes { length bytes.now ≡ device.old.device.sizes.page_bytes }
-    requires spare { is_idle (state_of device.old.device.calls caller) ≡ true → 0 < device.old.spare }
-    ensures step { Went D.moves F.moves (λ d. happens d bytes.now (Event.PageOut caller page)) device.old device.new result }
+    requires spare { is_idle (state_of device.old.device.calls caller) ≡ true
+        → 0 < device.old.spare }
+    ensures step { Went D.moves F.moves
+        (λ d. happens d bytes.now (Event.PageOut caller page)) device.old device.new result }
     ensures room { KeepsRoom device.old device.new }
 {
     if !is_idle(device.state(caller)) {
@@ -55,10 +57,13 @@ fn page_in<D: DiskPort, F: Fabric>(
     requires caller { caller.0 < device.old.device.sizes.callers }
     requires page { page.0 < pages_of device.old.device.sizes }
     requires buf { length buf.old ≡ device.old.device.sizes.page_bytes }
-    requires spare { is_idle (state_of device.old.device.calls caller) ≡ true → 0 < device.old.spare }
-    ensures step { Went D.moves F.moves (λ d. happens d buf.old (Event.PageIn caller page)) device.old device.new result }
+    requires spare { is_idle (state_of device.old.device.calls caller) ≡ true
+        → 0 < device.old.spare }
+    ensures step { Went D.moves F.moves
+        (λ d. happens d buf.old (Event.PageIn caller page)) device.old device.new result }
     ensures room { KeepsRoom device.old device.new }
-    ensures gives { GivesPage (Event.PageIn caller page) result device.new.device.history buf.old buf.new }
+    ensures gives { GivesPage
+        (Event.PageIn caller page) result device.new.device.history buf.old buf.new }
 {
     if !is_idle(device.state(caller)) {
         return Seen::Busy;
@@ -73,10 +78,13 @@ fn finish<D: DiskPort, F: Fabric>(
 ) -> Seen
     requires caller { caller.0 < device.old.device.sizes.callers }
     requires buf { length buf.old ≡ device.old.device.sizes.page_bytes }
-    requires spare { is_idle (state_of device.old.device.calls caller) ≡ false → 0 < device.old.spare }
-    ensures step { Went D.moves F.moves (λ d. happens d buf.old (Event.Finish caller)) device.old device.new result }
+    requires spare { is_idle (state_of device.old.device.calls caller) ≡ false
+        → 0 < device.old.spare }
+    ensures step { Went D.moves F.moves
+        (λ d. happens d buf.old (Event.Finish caller)) device.old device.new result }
     ensures room { KeepsRoom device.old device.new }
-    ensures gives { GivesPage (Event.Finish caller) result device.new.device.history buf.old buf.new }
+    ensures gives { GivesPage
+        (Event.Finish caller) result device.new.device.history buf.old buf.new }
 {
     if is_idle(device.state(caller)) {
         return Seen::Idle;
@@ -92,7 +100,8 @@ fn disk_event<D: DiskPort, F: Fabric>(
 ) -> Seen
     requires writes { device.old.device.failed_writes + 1 < 2 ^ 64 }
     requires reads { device.old.device.failed_reads + 1 < 2 ^ 64 }
-    ensures step { Went D.moves F.moves (λ d. happens d page.now (Event.Disk which ok)) device.old device.new result }
+    ensures step { Went D.moves F.moves
+        (λ d. happens d page.now (Event.Disk which ok)) device.old device.new result }
     ensures room { KeepsRoom device.old device.new }
 {
     if !device.disk_finish(which, ok) {
@@ -106,7 +115,8 @@ pub(crate) fn give_event<D: DiskPort, F: Fabric>(
     lender: Lender,
 ) -> Seen
     requires { lender.0 < device.old.device.lenders }
-    ensures step { Went D.moves F.moves (λ d. happens d [] (Event.Give lender)) device.old device.new result }
+    ensures step { Went D.moves F.moves
+        (λ d. happens d [] (Event.Give lender)) device.old device.new result }
     ensures room { KeepsRoom device.old device.new }
 {
     see_gave(device.give(lender))
@@ -117,14 +127,16 @@ pub(crate) fn take_event<D: DiskPort, F: Fabric>(
     lender: Lender,
 ) -> Seen
     requires { lender.0 < device.old.device.lenders }
-    ensures step { Went D.moves F.moves (λ d. happens d [] (Event.Take lender)) device.old device.new result }
+    ensures step { Went D.moves F.moves
+        (λ d. happens d [] (Event.Take lender)) device.old device.new result }
     ensures room { KeepsRoom device.old device.new }
 {
     see_take(device.link_take(lender))
 }
 
 pub(crate) fn tick_event<D: DiskPort, F: Fabric>(device: &mut DeviceCore<D, F>, word: u64) -> Seen
-    ensures step { Went D.moves F.moves (λ d. happens d [] (Event.Tick word)) device.old device.new result }
+    ensures step { Went D.moves F.moves
+        (λ d. happens d [] (Event.Tick word)) device.old device.new result }
     ensures room { KeepsRoom device.old device.new }
     ensures acts { has_effect (Event.Tick word) result ≡ true }
 {
@@ -138,7 +150,8 @@ fn cut_event<D: DiskPort, F: Fabric>(
     to_device: u32,
 ) -> Seen
     requires { lender.0 < device.old.device.lenders }
-    ensures step { Went D.moves F.moves (λ d. happens d [] (Event.Cut lender to_lender to_device)) device.old device.new result }
+    ensures step { Went D.moves F.moves
+        (λ d. happens d [] (Event.Cut lender to_lender to_device)) device.old device.new result }
     ensures room { KeepsRoom device.old device.new }
 {
     see_cut(device.cut(lender, to_lender, to_device))
@@ -146,7 +159,8 @@ fn cut_event<D: DiskPort, F: Fabric>(
 
 fn crash_event<D: DiskPort, F: Fabric>(device: &mut DeviceCore<D, F>, lender: Lender) -> Seen
     requires { lender.0 < device.old.device.lenders }
-    ensures step { Went D.moves F.moves (λ d. happens d [] (Event.Crash lender)) device.old device.new result }
+    ensures step { Went D.moves F.moves
+        (λ d. happens d [] (Event.Crash lender)) device.old device.new result }
     ensures room { KeepsRoom device.old device.new }
 {
     see_crash(device.crash(lender))
@@ -159,7 +173,8 @@ fn host_event<D: DiskPort, F: Fabric>(
     word: u64,
 ) -> Seen
     requires { lender.0 < device.old.device.lenders }
-    ensures step { Went D.moves F.moves (λ d. happens d [] (Event.Host lender used word)) device.old device.new result }
+    ensures step { Went D.moves F.moves
+        (λ d. happens d [] (Event.Host lender used word)) device.old device.new result }
     ensures room { KeepsRoom device.old device.new }
 {
     see_host(device.host(lender, used, word))
@@ -179,7 +194,8 @@ pub fn happen<D: DiskPort, F: Fabric>(
     requires spare { HasSpare device.old.device event.now device.old.spare }
     requires writes { device.old.device.failed_writes + 1 < 2 ^ 64 }
     requires reads { device.old.device.failed_reads + 1 < 2 ^ 64 }
-    ensures step { Steps D.moves F.moves (record { event = event.now; page = page.old }) device.old device.new result }
+    ensures step { Steps D.moves F.moves
+        (record { event = event.now; page = page.old }) device.old device.new result }
     ensures room { KeepsRoom device.old device.new }
     ensures gives { GivesPage event.now result device.new.device.history page.old page.new }
 {

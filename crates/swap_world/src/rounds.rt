@@ -20,7 +20,9 @@ fn give_all<D: DiskPort, F: Fabric>(
     times: u32,
 ) -> u32
     requires { lender.0 < device.old.device.lenders }
-    ensures goes { (rest : Plan) → Continues D.moves F.moves (again times (Event.Give lender) rest) rest device.old device.new result }
+    ensures goes { (rest : Plan)
+        → Continues D.moves F.moves
+        (again times (Event.Give lender) rest) rest device.old device.new result }
     ensures room { KeepsRoom device.old device.new }
     ensures of { of_device device.new.device ≡ of_device device.old.device }
     ensures most { result ≤ times }
@@ -43,7 +45,9 @@ fn take_all<D: DiskPort, F: Fabric>(
     times: u32,
 ) -> u32
     requires { lender.0 < device.old.device.lenders }
-    ensures goes { (rest : Plan) → Continues D.moves F.moves (again times (Event.Take lender) rest) rest device.old device.new result }
+    ensures goes { (rest : Plan)
+        → Continues D.moves F.moves
+        (again times (Event.Take lender) rest) rest device.old device.new result }
     ensures room { KeepsRoom device.old device.new }
     ensures of { of_device device.new.device ≡ of_device device.old.device }
     ensures most { result ≤ times }
@@ -59,12 +63,15 @@ fn take_all<D: DiskPort, F: Fabric>(
     effects
 }
 
-// Each lender, ascending, takes its messages, and then its link's are taken: how many there were in all.
+// Each lender, ascending, takes its messages, and then its link's are taken: how many there were in
+// all.
 fn hear_all<D: DiskPort, F: Fabric>(device: &mut DeviceCore<D, F>, lenders: u32, times: u32) -> u32
     requires lenders { lenders ≡ device.old.device.lenders }
     requires few { lenders ≤ MOST_LENDERS }
     requires times { times ≤ 130 }
-    ensures goes { (rest : Plan) → Continues D.moves F.moves (each_lender times lenders 0 rest) rest device.old device.new result }
+    ensures goes { (rest : Plan)
+        → Continues D.moves F.moves
+        (each_lender times lenders 0 rest) rest device.old device.new result }
     ensures room { KeepsRoom device.old device.new }
     ensures of { of_device device.new.device ≡ of_device device.old.device }
     ensures most { result ≤ 2_080 }
@@ -77,12 +84,13 @@ fn hear_all<D: DiskPort, F: Fabric>(device: &mut DeviceCore<D, F>, lenders: u32,
     effects
 }
 
-/// Makes a Round: a tick, and then twice the messages of each lender. How many of these events had an effect, and how
-/// many slabs are mapped after them.
+/// Makes a Round: a tick, and then twice the messages of each lender. How many of these events had
+/// an effect, and how many slabs are mapped after them.
 pub fn round<D: DiskPort, F: Fabric>(device: &mut DeviceCore<D, F>, lenders: u32, word: u64) -> Seen
     requires lenders { lenders ≡ device.old.device.lenders }
     requires few { lenders ≤ MOST_LENDERS }
-    ensures step { Steps D.moves F.moves (record { event = Event.Round word; page = [] }) device.old device.new result }
+    ensures step { Steps D.moves F.moves
+        (record { event = Event.Round word; page = [] }) device.old device.new result }
     ensures room { KeepsRoom device.old device.new }
 {
     let times = device.geometry().window() + 66;

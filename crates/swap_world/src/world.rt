@@ -34,14 +34,19 @@ impl<D: DiskPort, F: Fabric> Model for World<D, F> {
 
     ghost Value = { WorldOf D F };
 
-    ghost view = { λ w. record { core = w.device; log = w.log.items; log_spare = vec_capacity w.log - length w.log.items } };
+    ghost view = { λ w.
+        record {
+          core = w.device;
+          log = w.log.items;
+          log_spare = vec_capacity w.log - length w.log.items;
+        } };
 
     ghost invariant = { λ w. IsMachine D.DiskPort F.Fabric w.device w.lenders w.log.items };
 }
 
 impl<D: DiskPort, F: Fabric> World<D, F> {
-    /// Makes room for so many more entries and logged events. `TooMany` comes exactly where the history would
-    /// pass its limit; nothing but the room changes.
+    /// Makes room for so many more entries and logged events. `TooMany` comes exactly where the
+    /// history would pass its limit; nothing but the room changes.
     pub fn reserve(&mut self, calls: u32, events: usize) -> Result<(), ReserveRefused>
         ensures device { self.new.core.device ≡ self.old.core.device }
         ensures disk { self.new.core.disk ≡ self.old.core.disk }
@@ -51,7 +56,8 @@ impl<D: DiskPort, F: Fabric> World<D, F> {
         ensures no_less_log { self.old.log_spare ≤ self.new.log_spare }
         ensures spare { OnOk result (self.new.core.spare ≡ max self.old.core.spare calls) }
         ensures log_spare { OnOk result (events ≤ self.new.log_spare) }
-        ensures too_many { (result ≡ Err ReserveRefused.TooMany) ↔ (4_194_304 < length self.old.core.device.history + calls) }
+        ensures too_many { (result ≡ Err ReserveRefused.TooMany)
+            ↔ (4_194_304 < length self.old.core.device.history + calls) }
     {
         self.device.reserve(calls)?;
         if self.log.reserve(events).is_err() {
@@ -60,22 +66,27 @@ impl<D: DiskPort, F: Fabric> World<D, F> {
         Ok(())
     }
 
-    /// Makes one event. A page-out's page is handed in; after a page-in's `Done` the buffer holds the page, and else it
-    /// is as it was. An event with an effect is logged; one without leaves the device as it was.
+    /// Makes one event. A page-out's page is handed in; after a page-in's `Done` the buffer holds
+    /// the page, and else it is as it was. An event with an effect is logged; one without leaves
+    /// the device as it was.
     pub fn step(&mut self, event: &Event, page: &mut [u8]) -> Seen
-        requires range { IsInRange self.old.core.device.sizes self.old.core.device.lenders event.now }
+        requires range { IsInRange self.old.core.device.sizes self.old.core.device.lenders
+            event.now }
         requires page { length page.old ≡ self.old.core.device.sizes.page_bytes }
         requires spare { HasSpare self.old.core.device event.now self.old.core.spare }
         requires log_spare { 0 < self.old.log_spare }
-        ensures step { Steps D.moves F.moves (record { event = event.now; page = page.old }) self.old.core self.new.core result }
-        ensures adds { Adds self.old.core.device (record { event = event.now; page = page.old }) result self.new.core.device.history }
+        ensures step { Steps D.moves F.moves
+            (record { event = event.now; page = page.old }) self.old.core self.new.core result }
+        ensures adds { Adds self.old.core.device
+            (record { event = event.now; page = page.old }) result self.new.core.device.history }
         ensures log { IsLogged event.now result self.old self.new }
         ensures room { KeepsRoom self.old.core self.new.core }
         ensures grows { GrowsByCalls event.now self.old.core.device self.new.core.device }
         ensures idle { StaysIdle self.old.core.device event.now self.new.core.device }
         ensures of { of_device self.new.core.device ≡ of_device self.old.core.device }
         ensures page { GivesPage event.now result self.new.core.device.history page.old page.new }
-        ensures unchanged { has_effect event.now result ≡ false → self.new.core.device ≡ self.old.core.device }
+        ensures unchanged { has_effect event.now result ≡ false
+            → self.new.core.device ≡ self.old.core.device }
     {
         ports_promise::<D, F>();
         let _len = self.log.len();
@@ -85,17 +96,22 @@ impl<D: DiskPort, F: Fabric> World<D, F> {
         seen
     }
 
-    /// Takes one operation that the disk ended by itself, and logs it as the event of its end. `Nothing` comes exactly
-    /// where the disk had none.
+    /// Takes one operation that the disk ended by itself, and logs it as the event of its end.
+    /// `Nothing` comes exactly where the disk had none.
     pub fn poll_disk(&mut self) -> Seen
         requires log_spare { 0 < self.old.log_spare }
-        ensures polled { IsPolled D.moves self.old.core.device self.old.core.disk self.old.log result self.new.core.device self.new.core.disk self.new.log }
+        ensures polled { IsPolled D.moves self.old.core.device self.old.core.disk self.old.log
+            result
+            self.new.core.device self.new.core.disk self.new.log }
         ensures fabric { self.new.core.fabric ≡ self.old.core.fabric }
         ensures history { self.new.core.device.history ≡ self.old.core.device.history }
         ensures spare { self.new.core.spare ≡ self.old.core.spare }
-        ensures log_room { length self.new.log + self.new.log_spare ≡ length self.old.log + self.old.log_spare }
+        ensures log_room { length self.new.log + self.new.log_spare
+            ≡ length self.old.log + self.old.log_spare }
         ensures of { of_device self.new.core.device ≡ of_device self.old.core.device }
-        ensures idle { (c : Caller) → is_idle (state_of self.new.core.device.calls c) ≡ is_idle (state_of self.old.core.device.calls c) }
+        ensures idle { (c : Caller)
+            → is_idle (state_of self.new.core.device.calls c)
+            ≡ is_idle (state_of self.old.core.device.calls c) }
     {
         ports_promise::<D, F>();
         let _len = self.log.len();
@@ -119,8 +135,9 @@ impl<D: DiskPort, F: Fabric> World<D, F> {
         self.log.capacity() - self.log.len()
     }
 
-    /// How the world was reached: by the events of its log, from a device that nothing had happened to, over a disk
-    /// that was blank and a fabric as it is made. So every law over any ports holds of it.
+    /// How the world was reached: by the events of its log, from a device that nothing had happened
+    /// to, over a disk that was blank and a fabric as it is made. So every law over any ports holds
+    /// of it.
     pub fn reached(&self)
         ensures { IsReached D.DiskPort F.Fabric self.now.core self.now.log }
     {
@@ -158,8 +175,8 @@ impl<D: DiskPort, F: Fabric> World<D, F> {
 }
 
 impl<D: DiskPort + Drop, F: Fabric + Drop> World<D, F> {
-    /// A world that nothing happened in, over a disk of its geometry that nothing was asked of, and a fabric as it is
-    /// made for so many lenders.
+    /// A world that nothing happened in, over a disk of its geometry that nothing was asked of, and
+    /// a fabric as it is made for so many lenders.
     pub fn make(
         alloc: Global,
         geometry: Geometry,
@@ -170,7 +187,14 @@ impl<D: DiskPort + Drop, F: Fabric + Drop> World<D, F> {
         requires disk { IsBlank geometry (D.means disk) }
         requires lenders { lenders ≤ MOST_LENDERS }
         requires fabric { F.fresh fabric (record { sizes = geometry; lenders = lenders }) }
-        ensures core { IfOk result (λ w. w.core ≡ record { device = new geometry lenders; disk = disk; fabric = fabric; spare = 0 }) }
+        ensures core { IfOk result
+            (λ w. w.core
+            ≡ record {
+              device = new geometry lenders;
+              disk = disk;
+              fabric = fabric;
+              spare = 0;
+            }) }
         ensures log { IfOk result (λ w. w.log ≡ []) }
     {
         Ok(World {
@@ -191,7 +215,8 @@ impl<D: DiskPort + Drop, F: Fabric + Drop> World<D, F> {
 // An event with an effect is logged.
 fn note(log: &mut Vec<(Event, Seen)>, event: &Event, seen: Seen)
     requires { vec_len log.old < vec_capacity log.old }
-    ensures items { log.new.items ≡ logged_if (has_effect event.now seen) log.old.items event.now seen }
+    ensures items { log.new.items
+        ≡ logged_if (has_effect event.now seen) log.old.items event.now seen }
     ensures capacity { vec_capacity log.new ≡ vec_capacity log.old }
 {
     if has_effect(event, &seen) {

@@ -21,8 +21,13 @@ returns c = λ number calls.
       reached = reached is;
       inputs = fine;
       legal = subst (λ (w : World). IsLegal (zeros drill_sizes) (history w)) there (c.always_legal.ensures drill_sizes drill_lenders is (omega arith) fine);
-      once = λ (caller : Caller) within. subst (λ (w : World). AreAnsweredOnce caller (drill_made number calls) w.device) there (c.each_call_once.ensures drill_sizes drill_lenders is caller within (omega arith) fine);
-      entries = subst (λ (w : World). HoldsEntriesSeen (drill_made number calls) (history w)) there (c.entries_are_seen.ensures drill_sizes drill_lenders is (omega arith) fine);
+      once =
+          λ (caller : Caller) within.
+          subst (λ (w : World). AreAnsweredOnce caller (drill_made number calls) w.device) there
+          (c.each_call_once.ensures drill_sizes drill_lenders is caller within (omega arith) fine);
+      entries =
+          subst (λ (w : World). HoldsEntriesSeen (drill_made number calls) (history w)) there
+          (c.entries_are_seen.ensures drill_sizes drill_lenders is (omega arith) fine);
       agrees = subst (λ (w : World). Agrees w) there (c.always_agrees.ensures drill_sizes drill_lenders is (omega arith) fine);
       lent = λ n. c.always_lent.ensures drill_sizes drill_lenders is n (omega arith) fine;
     }

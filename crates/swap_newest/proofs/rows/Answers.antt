@@ -40,24 +40,249 @@ pub returns-clause-newest_fails : goal.returns-clause-newest_fails
 returns-clause-newest_fails c = (λ newest. no_truth (ap (λ o. is_old (first_byte o)) (newest page refl).1.0), λ newest. no_truth (newest page refl).1.2)
 
 pub returns-clause-owned_fails : goal.returns-clause-owned_fails
-returns-clause-owned_fails c = (λ owned. no_truth (ap is_first ((owned.slots lender (lit< tt)).slots.slabs 0 1 _ _ refl refl refl refl)), λ owned. no_truth (sym (ap is_there (owned.slabs slab (lit< tt)).1)))
+returns-clause-owned_fails c = (
+  λ owned. no_truth (ap is_first ((owned.slots lender (lit< tt)).slots.slabs 0 1 _ _ refl refl refl refl)),
+  λ owned. no_truth (sym (ap is_there (owned.slabs slab (lit< tt)).1)),
+)
 
 -- the events of a row name what there is
 
 revoked_fine : AreInputs sizes (spec 3 1 0 ∷ []) revoked
-revoked_fine = ((lit< tt, tt), (((lit< tt, lit< tt), tt), ((lit< tt, tt), ((lit< tt, tt), ((lit< tt, tt), (((lit< tt, lit< tt), refl), ((lit< tt, tt), ((lit< tt, tt), ((tt, tt), ((lit< tt, tt), ((lit< tt, tt), ((lit< tt, tt), ((lit< tt, tt), (((lit< tt, lit< tt), tt), (((lit< tt, lit< tt), refl), ((lit< tt, tt), ((lit< tt, tt), ((lit< tt, tt), ((lit< tt, tt), ((lit< tt, tt), ((lit< tt, tt), ((lit< tt, tt), ((lit< tt, tt), ((lit< tt, tt), (((lit< tt, lit< tt), tt), ((lit< tt, tt), ((lit< tt, tt), ((lit< tt, tt), ((lit< tt, tt), ((lit< tt, tt), ((lit< tt, tt), (((lit< tt, lit< tt), tt), ((lit< tt, tt), ((lit< tt, tt), tt))))))))))))))))))))))))))))))))))
+revoked_fine = (
+  (lit< tt, tt),
+  (
+    ((lit< tt, lit< tt), tt),
+    (
+      (lit< tt, tt),
+      (
+        (lit< tt, tt),
+        (
+          (lit< tt, tt),
+          (
+            ((lit< tt, lit< tt), refl),
+            (
+              (lit< tt, tt),
+              (
+                (lit< tt, tt),
+                (
+                  (tt, tt),
+                  (
+                    (lit< tt, tt),
+                    (
+                      (lit< tt, tt),
+                      (
+                        (lit< tt, tt),
+                        (
+                          (lit< tt, tt),
+                          (
+                            ((lit< tt, lit< tt), tt),
+                            (
+                              ((lit< tt, lit< tt), refl),
+                              (
+                                (lit< tt, tt),
+                                (
+                                  (lit< tt, tt),
+                                  (
+                                    (lit< tt, tt),
+                                    (
+                                      (lit< tt, tt),
+                                      (
+                                        (lit< tt, tt),
+                                        (
+                                          (lit< tt, tt),
+                                          (
+                                            (lit< tt, tt),
+                                            (
+                                              (lit< tt, tt),
+                                              (
+                                                (lit< tt, tt),
+                                                (
+                                                  ((lit< tt, lit< tt), tt),
+                                                  (
+                                                    (lit< tt, tt),
+                                                    (
+                                                      (lit< tt, tt),
+                                                      (
+                                                        (lit< tt, tt),
+                                                        (
+                                                          (lit< tt, tt),
+                                                          (
+                                                            (lit< tt, tt),
+                                                            (
+                                                              (lit< tt, tt),
+                                                              (((lit< tt, lit< tt), tt), ((lit< tt, tt), ((lit< tt, tt), tt))),
+                                                            ),
+                                                          ),
+                                                        ),
+                                                      ),
+                                                    ),
+                                                  ),
+                                                ),
+                                              ),
+                                            ),
+                                          ),
+                                        ),
+                                      ),
+                                    ),
+                                  ),
+                                ),
+                              ),
+                            ),
+                          ),
+                        ),
+                      ),
+                    ),
+                  ),
+                ),
+              ),
+            ),
+          ),
+        ),
+      ),
+    ),
+  ),
+)
 
 lost_fine : AreInputs sizes (spec 4 1 1 ∷ []) lost_events
-lost_fine = ((lit< tt, tt), (((lit< tt, lit< tt), tt), ((lit< tt, tt), ((lit< tt, tt), ((lit< tt, tt), (((lit< tt, lit< tt), refl), ((lit< tt, tt), ((lit< tt, tt), ((tt, tt), ((lit< tt, tt), (((lit< tt, lit< tt), tt), ((lit< tt, tt), ((lit< tt, tt), ((lit< tt, tt), ((lit< tt, tt), ((lit< tt, tt), ((lit< tt, tt), tt)))))))))))))))))
+lost_fine = (
+  (lit< tt, tt),
+  (
+    ((lit< tt, lit< tt), tt),
+    (
+      (lit< tt, tt),
+      (
+        (lit< tt, tt),
+        (
+          (lit< tt, tt),
+          (
+            ((lit< tt, lit< tt), refl),
+            (
+              (lit< tt, tt),
+              (
+                (lit< tt, tt),
+                (
+                  (tt, tt),
+                  (
+                    (lit< tt, tt),
+                    (
+                      ((lit< tt, lit< tt), tt),
+                      ((lit< tt, tt), ((lit< tt, tt), ((lit< tt, tt), ((lit< tt, tt), ((lit< tt, tt), ((lit< tt, tt), tt)))))),
+                    ),
+                  ),
+                ),
+              ),
+            ),
+          ),
+        ),
+      ),
+    ),
+  ),
+)
 
 unread_fine : AreInputs sizes (spec 4 1 1 ∷ []) unread_events
-unread_fine = ((lit< tt, tt), (((lit< tt, lit< tt), tt), ((lit< tt, tt), ((lit< tt, tt), ((lit< tt, tt), (((lit< tt, lit< tt), refl), ((lit< tt, tt), ((lit< tt, tt), ((tt, tt), ((lit< tt, tt), ((lit< tt, tt), (((lit< tt, lit< tt), tt), ((lit< tt, tt), ((lit< tt, tt), (((lit< tt, lit< tt), tt), ((lit< tt, tt), ((lit< tt, tt), ((lit< tt, tt), ((lit< tt, tt), ((lit< tt, tt), tt))))))))))))))))))))
+unread_fine = (
+  (lit< tt, tt),
+  (
+    ((lit< tt, lit< tt), tt),
+    (
+      (lit< tt, tt),
+      (
+        (lit< tt, tt),
+        (
+          (lit< tt, tt),
+          (
+            ((lit< tt, lit< tt), refl),
+            (
+              (lit< tt, tt),
+              (
+                (lit< tt, tt),
+                (
+                  (tt, tt),
+                  (
+                    (lit< tt, tt),
+                    (
+                      (lit< tt, tt),
+                      (
+                        ((lit< tt, lit< tt), tt),
+                        (
+                          (lit< tt, tt),
+                          (
+                            (lit< tt, tt),
+                            (((lit< tt, lit< tt), tt), ((lit< tt, tt), ((lit< tt, tt), ((lit< tt, tt), ((lit< tt, tt), ((lit< tt, tt), tt)))))),
+                          ),
+                        ),
+                      ),
+                    ),
+                  ),
+                ),
+              ),
+            ),
+          ),
+        ),
+      ),
+    ),
+  ),
+)
 
 behind_fine : AreInputs sizes (spec 4 1 1 ∷ []) behind
-behind_fine = ((lit< tt, tt), (((lit< tt, lit< tt), tt), ((lit< tt, tt), ((lit< tt, tt), ((lit< tt, tt), (((lit< tt, lit< tt), refl), ((lit< tt, tt), ((lit< tt, tt), ((tt, tt), ((lit< tt, tt), (((lit< tt, lit< tt), refl), (((lit< tt, lit< tt), tt), ((lit< tt, tt), ((lit< tt, tt), ((lit< tt, tt), tt)))))))))))))))
+behind_fine = (
+  (lit< tt, tt),
+  (
+    ((lit< tt, lit< tt), tt),
+    (
+      (lit< tt, tt),
+      (
+        (lit< tt, tt),
+        (
+          (lit< tt, tt),
+          (
+            ((lit< tt, lit< tt), refl),
+            (
+              (lit< tt, tt),
+              (
+                (lit< tt, tt),
+                (
+                  (tt, tt),
+                  ((lit< tt, tt), (((lit< tt, lit< tt), refl), (((lit< tt, lit< tt), tt), ((lit< tt, tt), ((lit< tt, tt), ((lit< tt, tt), tt)))))),
+                ),
+              ),
+            ),
+          ),
+        ),
+      ),
+    ),
+  ),
+)
 
 given_fine : AreInputs sizes (spec 3 1 0 ∷ []) given_up
-given_fine = ((lit< tt, tt), (((lit< tt, lit< tt), tt), ((lit< tt, tt), ((lit< tt, tt), ((lit< tt, tt), (((lit< tt, lit< tt), refl), ((lit< tt, tt), ((lit< tt, tt), ((tt, tt), ((lit< tt, tt), ((lit< tt, tt), ((lit< tt, tt), ((lit< tt, tt), ((lit< tt, tt), ((lit< tt, tt), (((lit< tt, lit< tt), tt), tt))))))))))))))))
+given_fine = (
+  (lit< tt, tt),
+  (
+    ((lit< tt, lit< tt), tt),
+    (
+      (lit< tt, tt),
+      (
+        (lit< tt, tt),
+        (
+          (lit< tt, tt),
+          (
+            ((lit< tt, lit< tt), refl),
+            (
+              (lit< tt, tt),
+              (
+                (lit< tt, tt),
+                (
+                  (tt, tt),
+                  ((lit< tt, tt), ((lit< tt, tt), ((lit< tt, tt), ((lit< tt, tt), ((lit< tt, tt), ((lit< tt, tt), (((lit< tt, lit< tt), tt), tt))))))),
+                ),
+              ),
+            ),
+          ),
+        ),
+      ),
+    ),
+  ),
+)
 
 pub returns-clause-revoked : goal.returns-clause-revoked
 unfolding slots least_of rank
@@ -67,11 +292,14 @@ pub returns-clause-reply_lost : goal.returns-clause-reply_lost
 returns-clause-reply_lost c = record { inputs = lost_fine; lent = λ n. always_lent sizes (spec 4 1 1 ∷ []) lost_events n (lit≤ tt) lost_fine; bit = refl }
 
 pub returns-clause-loss_unread : goal.returns-clause-loss_unread
-returns-clause-loss_unread c = record { inputs = unread_fine; lent = λ n. always_lent sizes (spec 4 1 1 ∷ []) unread_events n (lit≤ tt) unread_fine; bit = refl }
+returns-clause-loss_unread c =
+    record { inputs = unread_fine; lent = λ n. always_lent sizes (spec 4 1 1 ∷ []) unread_events n (lit≤ tt) unread_fine; bit = refl }
 
 pub returns-clause-read_behind : goal.returns-clause-read_behind
-returns-clause-read_behind c = (record { inputs = behind_fine; lent = λ n. always_lent sizes (spec 4 1 1 ∷ []) behind n (lit≤ tt) behind_fine; bit = refl }, refl, refl)
+returns-clause-read_behind c =
+    (record { inputs = behind_fine; lent = λ n. always_lent sizes (spec 4 1 1 ∷ []) behind n (lit≤ tt) behind_fine; bit = refl }, refl, refl)
 
 pub returns-clause-given_up : goal.returns-clause-given_up
 unfolding slots least_of rank
-returns-clause-given_up c = (record { inputs = given_fine; lent = λ n. always_lent sizes (spec 3 1 0 ∷ []) given_up n (lit≤ tt) given_fine; bit = refl }, refl, refl)
+returns-clause-given_up c =
+    (record { inputs = given_fine; lent = λ n. always_lent sizes (spec 3 1 0 ∷ []) given_up n (lit≤ tt) given_fine; bit = refl }, refl, refl)

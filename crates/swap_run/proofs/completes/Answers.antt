@@ -14,7 +14,9 @@ use Rattle.swap_run.proofs.completes.Goals as goal
 not_both : (text : List ℕ) (s : reading.Script) (refused : ScriptRefused) → script text ≡ Ok s → script text ≡ Err refused → ⊥
 not_both text s refused a b = cc
 
-completes : (source out : Stream) (end : Ending) (text : List ℕ) (s : reading.Script) → Ends (Some RunScript) source out end → source.before ≡ Some text → length text ≤ TEXT_LIMIT → script text ≡ Ok s → ¬ Failed source → ¬ Failed out
+completes :
+    (source out : Stream) (end : Ending) (text : List ℕ) (s : reading.Script) → Ends (Some RunScript) source out end → source.before ≡ Some text
+    → length text ≤ TEXT_LIMIT → script text ≡ Ok s → ¬ Failed source → ¬ Failed out
     → (end ≡ ending.Done) ⊎ ((end ≡ ending.Faulted) ⊎ (end ≡ ending.NoMemory))
 completes source out ending.Done text s h told fits is no_fault no_write = inl refl
 completes source out ending.Faulted text s h told fits is no_fault no_write = inr (inl refl)
@@ -22,7 +24,9 @@ completes source out ending.Usage text s h told fits is no_fault no_write = absu
 completes source out ending.ReadFailed text s h told fits is no_fault no_write = absurd (no_fault h.0.failed)
 completes source out ending.WriteFailed text s h told fits is no_fault no_write = absurd (no_write h.failed)
 completes source out (ending.Refused refused) text s h told fits is no_fault no_write =
-    absurd (not_both text s refused is (subst (λ t. script t ≡ Err refused) (sym (read_whole_is source.before source.now text h.0.text told h.0.was_read)) h.0.is_refused))
+    absurd
+    (not_both text s refused is
+    (subst (λ t. script t ≡ Err refused) (sym (read_whole_is source.before source.now text h.0.text told h.0.was_read)) h.0.is_refused))
 completes source out ending.NoMemory text s h told fits is no_fault no_write = inr (inr refl)
 completes source out ending.NotLegal text s h told fits is no_fault no_write = absurd h
 completes source out ending.HostFailed text s h told fits is no_fault no_write = absurd h

@@ -30,21 +30,32 @@ computed (Ret a) d h = (refl, refl, refl)
 computed (AskDisk c more) d h = ((drive.ask d c).0, (drive.ask d c).1, refl, computed (more (drive.ask d c).0) (drive.ask d c).1 h)
 computed (AskFabric c more) d h = ((harbor.ask h c).0, (harbor.ask h c).1, refl, computed (more (harbor.ask h c).0) d (harbor.ask h c).1)
 
-planned : (plan : Plan) (w : World) → let p : Planned = next_plan plan w in AlongPlan DiskAsks FabricAsks plan w.device w.drive w.harbor p.world.device p.world.drive p.world.harbor p.effects
+planned : (plan : Plan) (w : World) → let p : Planned = next_plan plan w in
+    AlongPlan DiskAsks FabricAsks plan w.device w.drive w.harbor p.world.device p.world.drive p.world.harbor p.effects
 planned Stop w = (refl, refl, refl, refl)
 planned (Make e more) w =
     let a : Next = alone w [] e in
-    let rest : Planned = next_plan (more a.seen) a.world in
-    (a.seen, a.world.device, a.world.drive, a.world.harbor, rest.effects, computed (happens w.device [] e) w.drive w.harbor, planned (more a.seen) a.world, refl)
+    let rest : Planned = next_plan (more a.seen) a.world in (
+      a.seen,
+      a.world.device,
+      a.world.drive,
+      a.world.harbor,
+      rest.effects,
+      computed (happens w.device [] e) w.drive w.harbor,
+      planned (more a.seen) a.world,
+      refl,
+    )
 
-next_went : (w : World) (page : List ℕ) (e : Event) → let x : Next = next_by w page e in StepOf DiskAsks FabricAsks page e w.device w.drive w.harbor x.seen x.world.device x.world.drive x.world.harbor
+next_went : (w : World) (page : List ℕ) (e : Event) → let x : Next = next_by w page e in
+    StepOf DiskAsks FabricAsks page e w.device w.drive w.harbor x.seen x.world.device x.world.drive x.world.harbor
 next_went w page (event.Round word) = ((round_from w word).effects, planned (round_plan w.device.sizes w.device.lenders word) w, refl)
 next_went w page e = computed (happens w.device page e) w.drive w.harbor
 
 next_goes_on : (w : World) (i : Input) → GoesOn (history w) (history (next w i).world)
 next_goes_on w i =
     adds_go_on w.device i (next w i).seen (history (next w i).world)
-    (event_adds DiskAsks FabricAsks w.device (next w i).world.device w.drive (next w i).world.drive w.harbor (next w i).world.harbor i (next w i).seen (next_went w i.page i.event))
+    (event_adds DiskAsks FabricAsks w.device (next w i).world.device w.drive (next w i).world.drive w.harbor (next w i).world.harbor i (next w i).seen
+    (next_went w i.page i.event))
 
 goes_on : (w : World) (is : List Input) → GoesOn (history w) (history (reach w is))
 goes_on w [] = ([], refl)

@@ -30,7 +30,8 @@ loop-taken-preserved c =
       count = size-with now.chosen c.with_slot-chosen.result slot least.range fresh with_it ∙ ap (λ n. n + 1) before.count;
       rest = omega (arith, size-without now.left c.without_slot-left.result slot least.range least.member without_it, before.rest);
       small = c.with_slot-chosen.type_inv;
-      below = below_more c.args.rates.now now.chosen now.left c.with_slot-chosen.result c.without_slot-left.result slot before.below least.least with_it without_it;
+      below =
+          below_more c.args.rates.now now.chosen now.left c.with_slot-chosen.result c.without_slot-left.result slot before.below least.least with_it without_it;
     }
 
 all_least : (c : After-loop-taken) → IsLeast c.args.rates.now c.args.among c.args.count c.loop-taken.chosen
@@ -39,7 +40,9 @@ all_least c =
     record {
       subset = λ slot within is. is_part c.args.among c.loop-taken.chosen c.loop-taken.left slot end.split within is;
       size = omega (arith, end.count);
-      below = λ inside outside iw ow is there out. end.below inside outside iw ow is (is_left c.args.among c.loop-taken.chosen c.loop-taken.left outside end.split ow there out);
+      below =
+          λ inside outside iw ow is there out.
+          end.below inside outside iw ow is (is_left c.args.among c.loop-taken.chosen c.loop-taken.left outside end.split ow there out);
     }
 
 pub returns-clause-least : goal.returns-clause-least

@@ -10,11 +10,15 @@ loop-taken-init c = record {
   split = start_split c.args.held;
   count = size-zero;
   rest = omega arith;
-  picks = let all : c.args.count - 0 ≡ c.args.count = omega arith in ap (λ k. fold (λ set slot. bit_or set (2 ^ slot)) 0 (take k (picks c.args.word (slots c.args.held)))) all;
+  picks =
+      let all : c.args.count - 0 ≡ c.args.count = omega arith in
+      ap (λ k. fold (λ set slot. bit_or set (2 ^ slot)) 0 (take k (picks c.args.word (slots c.args.held)))) all;
 }
 
 pub unwrap-slot-requires : goal.unwrap-slot-requires
-unwrap-slot-requires c = rw c.slot_at.ensures (some_within (slots c.loop-taken.left) c.first_pick-place.result.0 (omega (arith, c.first_pick-place.ensures.within, c.slot_count.ensures)))
+unwrap-slot-requires c =
+    rw c.slot_at.ensures
+    (some_within (slots c.loop-taken.left) c.first_pick-place.result.0 (omega (arith, c.first_pick-place.ensures.within, c.slot_count.ensures)))
 
 pub with_slot-chosen-requires : goal.with_slot-chosen-requires
 with_slot-chosen-requires c =
@@ -39,5 +43,12 @@ loop-taken-preserved c =
       split = moved c.args.held now.chosen now.left c.with_slot-chosen.result c.without_slot-left.result slot before.split there.test with_it without_it;
       count = size-with now.chosen c.with_slot-chosen.result slot there.high fresh with_it ∙ ap (λ n. n + 1) before.count;
       rest = omega (arith, size-without now.left c.without_slot-left.result slot there.high there.test without_it, before.rest);
-      picks = picks_step (λ set s. bit_or set (2 ^ s)) now.chosen c.with_slot-chosen.result now.rest c.first_pick-place.result.1 now.left c.without_slot-left.result place slot c.args.count now._taken _ (omega arith) (omega (arith, c.first_pick-place.ensures.within, c.slot_count.ensures)) (c.first_pick-place.ensures.place ∙ ap (λ n. now.rest % n) c.slot_count.ensures) (c.first_pick-place.ensures.rest ∙ ap (λ n. now.rest / n) c.slot_count.ensures) got c.with_slot-chosen.ensures.value (slots-without now.left c.without_slot-left.result place slot got without_it) before.picks;
+      picks =
+          picks_step
+          (λ set s. bit_or set (2 ^ s)) now.chosen c.with_slot-chosen.result now.rest c.first_pick-place.result.1 now.left c.without_slot-left.result place slot
+          c.args.count now._taken _
+          (omega arith) (omega (arith, c.first_pick-place.ensures.within, c.slot_count.ensures))
+          (c.first_pick-place.ensures.place ∙ ap (λ n. now.rest % n) c.slot_count.ensures)
+          (c.first_pick-place.ensures.rest ∙ ap (λ n. now.rest / n) c.slot_count.ensures) got c.with_slot-chosen.ensures.value
+          (slots-without now.left c.without_slot-left.result place slot got without_it) before.picks;
     }

@@ -10,5 +10,6 @@ invariant-loop-taken l = record {
   split : Split l.held l.chosen l.left;
   count : size l.chosen ≡ l._taken;
   rest : size l.left + l._taken ≡ size l.held;
-  picks : fold (λ set slot. bit_or set (2 ^ slot)) l.chosen (take (l.count - l._taken) (picks l.rest (slots l.left))) ≡ set_of (take l.count (picks l.word (slots l.held)));
+  picks : fold (λ set slot. bit_or set (2 ^ slot)) l.chosen (take (l.count - l._taken) (picks l.rest (slots l.left)))
+      ≡ set_of (take l.count (picks l.word (slots l.held)));
 }

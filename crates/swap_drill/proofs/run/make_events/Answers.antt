@@ -12,7 +12,10 @@ pub steps-init : goal.steps-init
 steps-init c =
     let spent = c.connect_all.ensures.spends in
     record {
-      under_way = first_step c.args.number c.args.calls (draws (c.args.calls - 0) c.make-draws.result) (world_in c.connect_all.new.world) (ap (λ n. draws n c.make-draws.result) (omega arith) ∙ ap (λ g. draws c.args.calls g) c.make-draws.ensures) (c.connect_all.ensures.reach ∙ ap (λ w. after w connects) c.requires.start);
+      under_way =
+          first_step c.args.number c.args.calls (draws (c.args.calls - 0) c.make-draws.result) (world_in c.connect_all.new.world)
+          (ap (λ n. draws n c.make-draws.result) (omega arith) ∙ ap (λ g. draws c.args.calls g) c.make-draws.ensures)
+          (c.connect_all.ensures.reach ∙ ap (λ w. after w connects) c.requires.start);
       ready = record {
         sizes = spent.sizes ∙ c.requires.ready.sizes;
         lenders = spent.lenders ∙ c.requires.ready.lenders;
@@ -37,8 +40,10 @@ steps-preserved c =
     let round = byte_is c.is_round_step.result in
     record {
       under_way =
-          next_step c.args.number c.args.calls c.steps.i c.next.result (draws (c.args.calls - (c.steps.i + 1)) c.next.new.self) w (world_in c.make_step-seen.new.world) c.steps.busy c.steps.rounds _ _
-          (subst (λ l. IsUnderWay c.args.number c.args.calls c.steps.i l w c.steps.busy c.steps.rounds) left c.steps.invariant.under_way) c.make_step-seen.ensures.reach
+          next_step c.args.number c.args.calls c.steps.i c.next.result (draws (c.args.calls - (c.steps.i + 1)) c.next.new.self) w
+          (world_in c.make_step-seen.new.world) c.steps.busy c.steps.rounds _ _
+          (subst (λ l. IsUnderWay c.args.number c.args.calls c.steps.i l w c.steps.busy c.steps.rounds) left c.steps.invariant.under_way)
+          c.make_step-seen.ensures.reach
           (ap (λ n. c.steps.busy + n) (c.from-busy.ensures ∙ busy.0 ∙ ap one_if (c.is_busy.ensures ∙ ap is_busy c.make_step-seen.ensures.seen)))
           (ap (λ n. c.steps.rounds + n) (c.from-rounds.ensures ∙ round.0 ∙ ap one_if c.is_round_step.ensures));
       ready = record {
@@ -53,10 +58,16 @@ steps-preserved c =
     }
 
 pub returns-clause-world : goal.returns-clause-world
-returns-clause-world c = last_world c.args.number c.args.calls c.steps.i _ (world_in c.steps.world) c.steps.busy c.steps.rounds (draws-none (c.args.calls - c.steps.i) c.steps.draws (omega (arith, c.steps-test.false))) c.steps.invariant.under_way
+returns-clause-world c =
+    last_world c.args.number c.args.calls c.steps.i _ (world_in c.steps.world) c.steps.busy c.steps.rounds
+    (draws-none (c.args.calls - c.steps.i) c.steps.draws (omega (arith, c.steps-test.false))) c.steps.invariant.under_way
 
 pub returns-clause-busy : goal.returns-clause-busy
-returns-clause-busy c = last_busy c.args.number c.args.calls c.steps.i _ (world_in c.steps.world) c.steps.busy c.steps.rounds (draws-none (c.args.calls - c.steps.i) c.steps.draws (omega (arith, c.steps-test.false))) c.steps.invariant.under_way
+returns-clause-busy c =
+    last_busy c.args.number c.args.calls c.steps.i _ (world_in c.steps.world) c.steps.busy c.steps.rounds
+    (draws-none (c.args.calls - c.steps.i) c.steps.draws (omega (arith, c.steps-test.false))) c.steps.invariant.under_way
 
 pub returns-clause-rounds : goal.returns-clause-rounds
-returns-clause-rounds c = last_rounds c.args.number c.args.calls c.steps.i _ (world_in c.steps.world) c.steps.busy c.steps.rounds (draws-none (c.args.calls - c.steps.i) c.steps.draws (omega (arith, c.steps-test.false))) c.steps.invariant.under_way
+returns-clause-rounds c =
+    last_rounds c.args.number c.args.calls c.steps.i _ (world_in c.steps.world) c.steps.busy c.steps.rounds
+    (draws-none (c.args.calls - c.steps.i) c.steps.draws (omega (arith, c.steps-test.false))) c.steps.invariant.under_way

@@ -12,4 +12,5 @@ returns-clause-reach c =
     let w = world_in c.args.world.now in
     and_then w _ _ (turns 4 c.args.draw.caller w) (call c.args.draw ∷ plain event.Start ∷ []) c.take_turns.ensures.reach
     (and_then (world_in c.take_turns.new.world) _ _ (call c.args.draw ∷ []) (plain event.Start ∷ [])
-    (sym (ap (λ (n : Next). n.world) c.make_call-seen.ensures.next) ∙ sym (after-one (world_in c.take_turns.new.world) (call c.args.draw))) c.make.ensures.reach)
+    (sym (ap (λ (n : Next). n.world) c.make_call-seen.ensures.next) ∙ sym (after-one (world_in c.take_turns.new.world) (call c.args.draw)))
+    c.make.ensures.reach)

@@ -7,4 +7,6 @@ use Rattle.swap_drill.proofs.steps.hear_all.Goals as goal
 pub returns-clause-reach : goal.returns-clause-reach
 returns-clause-reach c =
     c.hear-3.ensures.reach ∙ ap (λ w. after w (heard 2)) (c.hear-2.ensures.reach ∙ ap (λ w. after w (heard 1)) c.hear.ensures.reach)
-    ∙ sym (after-append (world_in c.args.world.now) (heard 0 ++ heard 1) (heard 2) ∙ ap (λ w. after w (heard 2)) (after-append (world_in c.args.world.now) (heard 0) (heard 1)))
+    ∙ sym
+    (after-append (world_in c.args.world.now) (heard 0 ++ heard 1) (heard 2)
+    ∙ ap (λ w. after w (heard 2)) (after-append (world_in c.args.world.now) (heard 0) (heard 1)))

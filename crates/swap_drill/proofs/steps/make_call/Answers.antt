@@ -9,5 +9,9 @@ use Rattle.swap_drill.proofs.steps.make_call.Goals as goal
 pub returns-in-PageOut-clause-next : goal.returns-in-PageOut-clause-next
 returns-in-PageOut-clause-next c =
     let filled : c.fill.new.self ≡ replicate 64 c.args.draw.byte = c.fill.ensures.after (λ y e. e) ∙ ap (λ k. replicate k c.args.draw.byte) c.requires.page in
-    ap (λ (k : CallKind). next (world_in c.args.world.now) (record { event = call_event k c.args.draw.caller c.args.draw.page; page = call_page k c.args.draw.byte })) c.in-PageOut.is
-    ∙ ap (λ p. next (world_in c.args.world.now) (record { event = event.PageOut c.args.draw.caller c.args.draw.page; page = p })) (sym filled) ∙ c.happen.ensures.next
+    ap
+    (λ (k : CallKind).
+    next (world_in c.args.world.now) (record { event = call_event k c.args.draw.caller c.args.draw.page; page = call_page k c.args.draw.byte }))
+    c.in-PageOut.is
+    ∙ ap (λ p. next (world_in c.args.world.now) (record { event = event.PageOut c.args.draw.caller c.args.draw.page; page = p })) (sym filled)
+    ∙ c.happen.ensures.next

@@ -3,7 +3,10 @@ use Rattle.std.specs.Prelude.{codes}
 use Rattle.swap_drill.specs.Text.{line_of}
 use Rattle.swap_drill.proofs.text.put_from.Goals as goal
 
-joined : (old a b c d : List ℕ) → ((((((((old ++ codes "from zero ") ++ a) ++ codes " queue ") ++ b) ++ codes " disk ") ++ c) ++ codes " lender ") ++ d) ++ (10 ∷ []) ≡ old ++ line_of (codes "from" ∷ codes "zero" ∷ a ∷ codes "queue" ∷ b ∷ codes "disk" ∷ c ∷ codes "lender" ∷ d ∷ [])
+joined :
+    (old a b c d : List ℕ)
+    → ((((((((old ++ codes "from zero ") ++ a) ++ codes " queue ") ++ b) ++ codes " disk ") ++ c) ++ codes " lender ") ++ d) ++ (10 ∷ []) ≡ old
+    ++ line_of (codes "from" ∷ codes "zero" ∷ a ∷ codes "queue" ∷ b ∷ codes "disk" ∷ c ∷ codes "lender" ∷ d ∷ [])
 joined old a b c d = simp append_assoc
 
 -- one more text with its number

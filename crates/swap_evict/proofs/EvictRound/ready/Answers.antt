@@ -15,7 +15,9 @@ returns-clause-evicted c =
     let bounds = c.self.invariant in
     let s = c.self.inside in
     let round : Round = record { asked = s.asked; count = s.count; answered = s.answered; gone = s.gone; values = s.values } in
-    subst (λ r. IsEvicted r c.least.result) c.self.view_is (evicted_from round c.least.result c.min-count.result bounds.1 bounds.2 c.if-self-ne0.false (c.min-count.ensures ∙ ap (λ n. min c.self.inside.count n) c.slot_count.ensures) c.least.ensures.least)
+    subst (λ r. IsEvicted r c.least.result) c.self.view_is
+    (evicted_from round c.least.result c.min-count.result bounds.1 bounds.2 c.if-self-ne0.false
+    (c.min-count.ensures ∙ ap (λ n. min c.self.inside.count n) c.slot_count.ensures) c.least.ensures.least)
 
 pub returns-then-self-ne0-clause-value : goal.returns-then-self-ne0-clause-value
 returns-then-self-ne0-clause-value c =
@@ -27,4 +29,6 @@ pub returns-clause-value : goal.returns-clause-value
 returns-clause-value c =
     let s = c.self.inside in
     let round : Round = record { asked = s.asked; count = s.count; answered = s.answered; gone = s.gone; values = s.values } in
-    some_ready round c.least.result c.min-count.result c.if-self-ne0.false (c.min-count.ensures ∙ ap (λ n. min s.count n) c.slot_count.ensures) c.least.ensures.value ∙ ap ready c.self.view_is
+    some_ready round c.least.result c.min-count.result c.if-self-ne0.false
+    (c.min-count.ensures ∙ ap (λ n. min s.count n) c.slot_count.ensures) c.least.ensures.value
+    ∙ ap ready c.self.view_is

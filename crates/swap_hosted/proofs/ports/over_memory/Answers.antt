@@ -6,4 +6,5 @@ use Rattle.swap_hosted.proofs.ports.over_memory.Goals as goal
 
 pub returns-clause-ends : goal.returns-clause-ends
 returns-clause-ends g c =
-    over_drive g.H.Net.Fabric c.args.trace.now c.args.number _ _ _ c.in-Ok.disk _ _ c.over_links-ending.result.1 (c.in-Ok.ensures ∙ ap new_drive (c.geometry.ensures ∙ ap (λ (s : Script). s.sizes) c.script.ensures)) c.over_links-ending.ensures.ends
+    over_drive g.H.Net.Fabric c.args.trace.now c.args.number _ _ _ c.in-Ok.disk _ _ c.over_links-ending.result.1
+    (c.in-Ok.ensures ∙ ap new_drive (c.geometry.ensures ∙ ap (λ (s : Script). s.sizes) c.script.ensures)) c.over_links-ending.ensures.ends

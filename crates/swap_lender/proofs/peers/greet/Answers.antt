@@ -9,5 +9,6 @@ pub loop-peer-preserved : goal.loop-peer-preserved
 loop-peer-preserved c =
     let fallback : Peer = record { link = record { 0 = 0 }; greeted = false } in
     rw c.greeted.ensures
-    (map_over_more (λ peer. greet_peer c.args.link peer) c.args.peers.now c.loop-peer.peers c.loop-peer.peer-index (get_or c.loop-peer.peers c.loop-peer.peer-index fallback)
+    (map_over_more (λ peer. greet_peer c.args.link peer) c.args.peers.now c.loop-peer.peers c.loop-peer.peer-index
+    (get_or c.loop-peer.peers c.loop-peer.peer-index fallback)
     (omega arith) c.loop-peer.invariant (get_or_default c.loop-peer.peers c.loop-peer.peer-index fallback _ (omega arith)))

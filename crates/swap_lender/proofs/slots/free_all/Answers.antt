@@ -8,5 +8,6 @@ use Rattle.swap_lender.proofs.slots.free_all.Goals as goal
 pub loop-state-preserved : goal.loop-state-preserved
 loop-state-preserved c =
     rw c.freed.ensures
-    (map_over_more (λ state. freed c.args.link state) c.args.slots.now c.loop-state.slots c.loop-state.state-index (get_or c.loop-state.slots c.loop-state.state-index Free)
+    (map_over_more (λ state. freed c.args.link state) c.args.slots.now c.loop-state.slots c.loop-state.state-index
+    (get_or c.loop-state.slots c.loop-state.state-index Free)
     (omega arith) c.loop-state.invariant (get_or_default c.loop-state.slots c.loop-state.state-index Free _ (omega arith)))

@@ -8,7 +8,9 @@ decreases-putting g l = length l.out.parcels
 
 abbrev pub invariant-putting : goal.invariant-putting
 invariant-putting g l = record {
-  puts : (b : Board g.row.K.Denot) → PutsAll g.K.Sink.taken g.K.Sink.faults l.lines l.out.parcels b → PutsAll g.K.Sink.taken g.K.Sink.faults l.initial.lines l.initial.out.parcels b;
+  puts :
+      (b : Board g.row.K.Denot) → PutsAll g.K.Sink.taken g.K.Sink.faults l.lines l.out.parcels b
+      → PutsAll g.K.Sink.taken g.K.Sink.faults l.initial.lines l.initial.out.parcels b;
   out : l.out ≡ leaving l.initial.out l.out.parcels l.initial.out.evicted;
   unsettled : unsettled l.lines ≡ unsettled l.initial.lines;
   page_bytes : l.lines.page_bytes ≡ l.initial.lines.page_bytes;

@@ -10,7 +10,9 @@ decreases-telling g l = unsettled l.lines
 
 abbrev pub invariant-telling : goal.invariant-telling
 invariant-telling g l = record {
-  told : (m : Lender) (b : Board g.row.K.Denot) → Told g.K.Sink.taken g.K.Sink.faults l.core l.lines m b → Told g.K.Sink.taken g.K.Sink.faults l.initial.core l.initial.lines m b;
+  told :
+      (m : Lender) (b : Board g.row.K.Denot) → Told g.K.Sink.taken g.K.Sink.faults l.core l.lines m b
+      → Told g.K.Sink.taken g.K.Sink.faults l.initial.core l.initial.lines m b;
   lending : l.core.lending ≡ l.initial.core.lending;
   out : IsReady l.out l.initial.core.lending;
   page_bytes : l.lines.page_bytes ≡ l.initial.lines.page_bytes;

@@ -24,6 +24,7 @@ loop-place-preserved c = record {
       (times_push_here c.loop-place.free.items c.loop-place.place
       ∙ ap (λ n. n + 1) (c.loop-place.invariant.once c.loop-place.place ∙ ap one_if (le-ltb c.loop-place.place c.loop-place.place (omega arith)))
       ∙ sym (ap one_if (lt-ltb c.loop-place.place (c.loop-place.place + 1) (omega arith)))))
-      (λ (ne : i ≢ c.loop-place.place). times_push_other c.loop-place.free.items c.loop-place.place i ne ∙ c.loop-place.invariant.once i ∙ sym (one_more c.loop-place.place i ne))
+      (λ (ne : i ≢ c.loop-place.place). times_push_other c.loop-place.free.items c.loop-place.place i ne ∙ c.loop-place.invariant.once i
+      ∙ sym (one_more c.loop-place.place i ne))
       (cases_eq i c.loop-place.place);
 }

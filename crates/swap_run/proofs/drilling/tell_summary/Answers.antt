@@ -12,7 +12,9 @@ pub returns-then-summary-gt0-clause-ends : goal.returns-then-summary-gt0-clause-
 returns-then-summary-gt0-clause-ends g c =
     let fine = sym c.is_err.ensures.value ∙ c.if-is_err.false in
     record {
-      wrote = taken_as _ _ _ _ (c.bytes.ensures.bytes ∙ c.put_summary.ensures ∙ ap (λ (s : DrillSummary). summary_text c.args.number c.args.calls s) c.requires) (ok_of _ _ fine c.write_line.ensures.ok);
+      wrote =
+          taken_as _ _ _ _ (c.bytes.ensures.bytes ∙ c.put_summary.ensures ∙ ap (λ (s : DrillSummary). summary_text c.args.number c.args.calls s) c.requires)
+          (ok_of _ _ fine c.write_line.ensures.ok);
       fault = some_counted (history (drill_world c.args.number c.args.calls)) (subst (λ (s : DrillSummary). 0 < s.faults) c.requires c.if-summary-gt0.true);
       headline = c.drills_keep_the_headline.ensures c.args.number c.args.calls;
     }
@@ -21,7 +23,11 @@ pub returns-else-summary-gt0-clause-ends : goal.returns-else-summary-gt0-clause-
 returns-else-summary-gt0-clause-ends g c =
     let fine = sym c.is_err.ensures.value ∙ c.if-is_err.false in
     record {
-      wrote = taken_as _ _ _ _ (c.bytes.ensures.bytes ∙ c.put_summary.ensures ∙ ap (λ (s : DrillSummary). summary_text c.args.number c.args.calls s) c.requires) (ok_of _ _ fine c.write_line.ensures.ok);
-      fault = none_counted (history (drill_world c.args.number c.args.calls)) (ap (λ (s : DrillSummary). s.faults) (sym c.requires) ∙ omega (arith, c.if-summary-gt0.false));
+      wrote =
+          taken_as _ _ _ _ (c.bytes.ensures.bytes ∙ c.put_summary.ensures ∙ ap (λ (s : DrillSummary). summary_text c.args.number c.args.calls s) c.requires)
+          (ok_of _ _ fine c.write_line.ensures.ok);
+      fault =
+          none_counted (history (drill_world c.args.number c.args.calls))
+          (ap (λ (s : DrillSummary). s.faults) (sym c.requires) ∙ omega (arith, c.if-summary-gt0.false));
       headline = c.drills_keep_the_headline.ensures c.args.number c.args.calls;
     }

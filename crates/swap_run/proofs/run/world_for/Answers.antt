@@ -11,10 +11,13 @@ returns-clause-world c =
     let W : Device → Drive → Harbor → World = λ d k h. record { device = d; drive = k; harbor = h } in
     let core = c.in_ok-world.ensures.core in
     let device : c.reserve.new.self.core.device ≡ new c.args.script.now.sizes (length c.args.script.now.lenders) =
-    c.reserve.ensures.device ∙ ap (λ (k : Core Drive Harbor). k.device) core ∙ ap (λ s. new s c.lenders.result) sizes ∙ ap (λ n. new c.args.script.now.sizes n) c.lenders.ensures.count in
-    let disk : c.reserve.new.self.core.disk ≡ new_drive c.args.script.now.sizes = c.reserve.ensures.disk ∙ ap (λ (k : Core Drive Harbor). k.disk) core ∙ c.in_ok-disk.ensures ∙ ap new_drive sizes in
+    c.reserve.ensures.device ∙ ap (λ (k : Core Drive Harbor). k.device) core ∙ ap (λ s. new s c.lenders.result) sizes
+    ∙ ap (λ n. new c.args.script.now.sizes n) c.lenders.ensures.count in
+    let disk : c.reserve.new.self.core.disk ≡ new_drive c.args.script.now.sizes =
+    c.reserve.ensures.disk ∙ ap (λ (k : Core Drive Harbor). k.disk) core ∙ c.in_ok-disk.ensures ∙ ap new_drive sizes in
     let harbor : c.reserve.new.self.core.fabric ≡ new_harbor c.args.script.now.sizes c.args.script.now.lenders =
-    c.reserve.ensures.fabric ∙ ap (λ (k : Core Drive Harbor). k.fabric) core ∙ c.in_ok-harbor.ensures.harbor ∙ ap (λ g. new_harbor g c.args.lenders.now) sizes ∙ ap (λ l. new_harbor c.args.script.now.sizes l) c.requires.lenders in
+    c.reserve.ensures.fabric ∙ ap (λ (k : Core Drive Harbor). k.fabric) core ∙ c.in_ok-harbor.ensures.harbor ∙ ap (λ g. new_harbor g c.args.lenders.now) sizes
+    ∙ ap (λ l. new_harbor c.args.script.now.sizes l) c.requires.lenders in
     ap (λ d. W d c.reserve.new.self.core.disk c.reserve.new.self.core.fabric) device
     ∙ ap (λ k. W (new c.args.script.now.sizes (length c.args.script.now.lenders)) k c.reserve.new.self.core.fabric) disk
     ∙ ap (λ h. W (new c.args.script.now.sizes (length c.args.script.now.lenders)) (new_drive c.args.script.now.sizes) h) harbor

@@ -11,16 +11,23 @@ messages-preserved g c =
     let has : has_effect (event.Take c.args.lender) c.take_event-seen.result ≡ true = search rules in
     let less : c.messages.effects < c.args.times = search rules in
     record {
-      goes = loop_goes g.D.DiskPort.moves g.F.Fabric.moves (event.Take c.args.lender) c.args.times c.args.device.now before after c.messages.effects c.take_event-seen.result c.messages.invariant.goes c.take_event-seen.ensures.step has;
+      goes =
+          loop_goes g.D.DiskPort.moves g.F.Fabric.moves
+          (event.Take c.args.lender) c.args.times c.args.device.now before after c.messages.effects c.take_event-seen.result c.messages.invariant.goes
+          c.take_event-seen.ensures.step has;
       room = c.take_event-seen.ensures.room ∙ c.messages.invariant.room;
-      of = step_of g.D.DiskPort.moves g.F.Fabric.moves before.device after.device before.disk after.disk before.fabric after.fabric (event.Take c.args.lender) c.take_event-seen.result refl c.take_event-seen.ensures.step ∙ c.messages.invariant.of;
+      of =
+          step_of g.D.DiskPort.moves g.F.Fabric.moves before.device after.device before.disk after.disk before.fabric after.fabric
+          (event.Take c.args.lender) c.take_event-seen.result refl c.take_event-seen.ensures.step
+          ∙ c.messages.invariant.of;
       most = omega (arith, less);
     }
 
 pub returns-after-messages-clause-goes : goal.returns-after-messages-clause-goes
 returns-after-messages-clause-goes g c =
     let least : c.args.times ≤ c.messages.effects = search rules in
-    loop_ends g.D.DiskPort.moves g.F.Fabric.moves (event.Take c.args.lender) c.args.times c.args.device.now c.messages.device c.messages.effects c.messages.invariant.goes c.messages.invariant.most least
+    loop_ends g.D.DiskPort.moves g.F.Fabric.moves
+    (event.Take c.args.lender) c.args.times c.args.device.now c.messages.device c.messages.effects c.messages.invariant.goes c.messages.invariant.most least
 
 pub returns-then-not-has_effect-clause-goes : goal.returns-then-not-has_effect-clause-goes
 returns-then-not-has_effect-clause-goes g c =
@@ -28,10 +35,14 @@ returns-then-not-has_effect-clause-goes g c =
     let after = c.take_event-seen.new.device in
     let none : has_effect (event.Take c.args.lender) c.take_event-seen.result ≡ false = search rules in
     let less : c.messages.effects < c.args.times = search rules in
-    loop_breaks g.D.DiskPort.moves g.F.Fabric.moves (event.Take c.args.lender) c.args.times c.args.device.now before after c.messages.effects c.take_event-seen.result c.messages.invariant.goes less c.take_event-seen.ensures.step none
+    loop_breaks g.D.DiskPort.moves g.F.Fabric.moves
+    (event.Take c.args.lender) c.args.times c.args.device.now before after c.messages.effects c.take_event-seen.result c.messages.invariant.goes less
+    c.take_event-seen.ensures.step none
 
 pub returns-then-not-has_effect-clause-of : goal.returns-then-not-has_effect-clause-of
 returns-then-not-has_effect-clause-of g c =
     let before = c.messages.device in
     let after = c.take_event-seen.new.device in
-    step_of g.D.DiskPort.moves g.F.Fabric.moves before.device after.device before.disk after.disk before.fabric after.fabric (event.Take c.args.lender) c.take_event-seen.result refl c.take_event-seen.ensures.step ∙ c.messages.invariant.of
+    step_of g.D.DiskPort.moves g.F.Fabric.moves before.device after.device before.disk after.disk before.fabric after.fabric
+    (event.Take c.args.lender) c.take_event-seen.result refl c.take_event-seen.ensures.step
+    ∙ c.messages.invariant.of

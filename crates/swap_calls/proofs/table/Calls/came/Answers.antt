@@ -8,6 +8,7 @@ pub returns : goal.returns
 returns c =
     let table : Calls → CallTable = λ cs. record { calls = cs; page_bytes = c.self.inside.page_bytes } in
     let waits : is_waiting (state_of (calls_in c.self.inside.calls.items) c.args.caller) ≡ true = rw (← c.self.view_is) at c.requires.waiting in
-    let here : c.args.caller.0 < length c.self.inside.calls.items = in_range c.self.inside.calls.items c.args.caller.0 (rw (← c.self.view_is) at c.requires.caller) in
+    let here : c.args.caller.0 < length c.self.inside.calls.items =
+    in_range c.self.inside.calls.items c.args.caller.0 (rw (← c.self.view_is) at c.requires.caller) in
     rw (← c.self.view_is, c.keep.ensures, c.arrived_as-state.ensures, c.state.ensures, c.index_mut-call.ensures.value)
     (ap table (came_in c.self.inside.calls.items c.args.caller c.index_mut-call.result.now c.args.bytes.now here waits))

@@ -7,4 +7,7 @@ pub crash-requires : goal.crash-requires
 crash-requires g c = subst (λ (o : FabricOf). c.args.lender.0 < o.lenders) (sym c.self.invariant.agree.1) (rw (← c.self.view_is) at c.requires)
 
 pub invariant_of-self : goal.invariant_of-self
-invariant_of-self g c = rw c.crash.ensures.rest (held_from g.D.DiskPort g.F.Fabric _ _ _ _ _ c.self.invariant (c.calls_keep.ensures.each.crash _ _ _ _ c.args.lender c.self.invariant.agree c.crash.result c.crash.new.self.fabric c.crash.ensures.moved) refl)
+invariant_of-self g c =
+    rw c.crash.ensures.rest
+    (held_from g.D.DiskPort g.F.Fabric _ _ _ _ _ c.self.invariant
+    (c.calls_keep.ensures.each.crash _ _ _ _ c.args.lender c.self.invariant.agree c.crash.result c.crash.new.self.fabric c.crash.ensures.moved) refl)

@@ -7,4 +7,7 @@ pub give-requires : goal.give-requires
 give-requires g c = subst (λ (o : FabricOf). c.args.lender.0 < o.lenders) (sym c.self.invariant.agree.1) (rw (← c.self.view_is) at c.requires)
 
 pub invariant_of-self : goal.invariant_of-self
-invariant_of-self g c = rw c.give.ensures.rest (held_from g.D.DiskPort g.F.Fabric _ _ _ _ _ c.self.invariant (c.calls_keep.ensures.each.give _ _ _ _ c.args.lender c.self.invariant.agree c.give.result c.give.new.self.fabric c.give.ensures.moved) refl)
+invariant_of-self g c =
+    rw c.give.ensures.rest
+    (held_from g.D.DiskPort g.F.Fabric _ _ _ _ _ c.self.invariant
+    (c.calls_keep.ensures.each.give _ _ _ _ c.args.lender c.self.invariant.agree c.give.result c.give.new.self.fabric c.give.ensures.moved) refl)

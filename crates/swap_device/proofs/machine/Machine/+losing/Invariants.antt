@@ -14,7 +14,8 @@ decreases-choose g l = 3 * l.more + 1
 
 abbrev pub invariant-fall-loop-number : goal.invariant-fall-loop-number
 invariant-fall-loop-number g l = record {
-  comes : ComesOf g.D.DiskPort.moves g.F.Fabric.moves (fallen (l.more - 1)) l.slabs l.number l.lender l.self.device l.self.disk l.self.fabric l.initial.self.device l.initial.self.disk l.initial.self.fabric;
+  comes : ComesOf g.D.DiskPort.moves g.F.Fabric.moves
+      (fallen (l.more - 1)) l.slabs l.number l.lender l.self.device l.self.disk l.self.fabric l.initial.self.device l.initial.self.disk l.initial.self.fabric;
   slabs : l.self.device.sizes.slabs ≡ l.slabs;
   ready : IsReady g.F.Fabric l.self;
   rest : LeavesRest l.initial.self l.self;

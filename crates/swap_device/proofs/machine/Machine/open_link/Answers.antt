@@ -11,5 +11,9 @@ returns-clause-moved g c =
     let up = ap (λ (x : Standing). x.device) c.raised.ensures ∙ ap (λ (x : Core g.row.D.Denot g.row.F.Denot). raised x.device c.args.lender) core in
     let sizes = c.geometry-geometry.ensures ∙ ap (λ (x : Core g.row.D.Denot g.row.F.Denot). x.device.sizes) c.self.view_is in
     let links = c.links_made.ensures ∙ ap (λ (x : Core g.row.D.Denot g.row.F.Denot). x.device.links_made) c.self.view_is in
-    opens g.D.DiskPort.moves g.F.Fabric.moves c.args.self.now.device c.raised.new.self.device c.say.new.self.device c.args.lender c.links_made.result c.page_bytes.result c.pages_per_slab.result c.args.self.now.disk c.self-2.inside.disk c.say.new.self.disk c.args.self.now.fabric c.open.new.self.fabric c.self-2.inside.fabric c.say.new.self.fabric
-    up links (c.page_bytes.ensures ∙ ap (λ (s : Sizes). s.page_bytes) sizes) (c.pages_per_slab.ensures ∙ ap (λ (s : Sizes). s.pages_per_slab) sizes) (ap (λ (x : Core g.row.D.Denot g.row.F.Denot). x.disk) core) (ap (λ (x : Core g.row.D.Denot g.row.F.Denot). x.fabric) core) c.open.ensures.moved c.say.ensures.moved
+    opens g.D.DiskPort.moves g.F.Fabric.moves c.args.self.now.device c.raised.new.self.device c.say.new.self.device c.args.lender c.links_made.result
+    c.page_bytes.result c.pages_per_slab.result c.args.self.now.disk c.self-2.inside.disk c.say.new.self.disk c.args.self.now.fabric c.open.new.self.fabric
+    c.self-2.inside.fabric c.say.new.self.fabric
+    up links (c.page_bytes.ensures ∙ ap (λ (s : Sizes). s.page_bytes) sizes) (c.pages_per_slab.ensures ∙ ap (λ (s : Sizes). s.pages_per_slab) sizes)
+    (ap (λ (x : Core g.row.D.Denot g.row.F.Denot). x.disk) core)
+    (ap (λ (x : Core g.row.D.Denot g.row.F.Denot). x.fabric) core) c.open.ensures.moved c.say.ensures.moved

@@ -11,7 +11,9 @@ pub read_at-requires-clause-source : goal.read_at-requires-clause-source
 read_at-requires-clause-source g c =
     let agree = rw (← c.self.view_is) at c.requires.agree in
     let page = rw (← c.self.view_is) at c.requires.page in
-    rw (← c.self.view_is) (may_go _ _ _ _ _ _ _ _ _ agree.0.serves c.keeps_remote.ensures.limits page (λ a is. source_target c.self.inside.state.device c.args.page a (sym c.source-source.ensures ∙ is)))
+    rw (← c.self.view_is)
+    (may_go _ _ _ _ _ _ _ _ _ agree.0.serves c.keeps_remote.ensures.limits page
+    (λ a is. source_target c.self.inside.state.device c.args.page a (sym c.source-source.ensures ∙ is)))
 
 pub read_at-requires-clause-ready : goal.read_at-requires-clause-ready
 read_at-requires-clause-ready g c = agree_ready g.D.DiskPort g.F.Fabric _ c.requires.agree

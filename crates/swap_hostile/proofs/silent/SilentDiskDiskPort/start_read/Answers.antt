@@ -8,7 +8,8 @@ use Rattle.swap_hostile.proofs.silent.SilentDiskDiskPort.start_read.Goals as goa
 
 pub start_read-requires-clause-free : goal.start_read-requires-clause-free
 start_read-requires-clause-free c =
-    free_behind (which.Read c.args.caller) c.self.inside.disk.disk.flights (subst (λ (d : Silent). IsFree (port_of d).flights (which.Read c.args.caller)) (sym c.self.view_is) c.requires.free)
+    free_behind (which.Read c.args.caller) c.self.inside.disk.disk.flights
+    (subst (λ (d : Silent). IsFree (port_of d).flights (which.Read c.args.caller)) (sym c.self.view_is) c.requires.free)
 
 pub invariant_of-self : goal.invariant_of-self
 invariant_of-self c = drive_keeps c.self.inside.disk c.start_read.new.self (StartRead c.args.caller c.args.page) tt c.start_read.ensures

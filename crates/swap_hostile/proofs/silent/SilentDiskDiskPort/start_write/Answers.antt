@@ -8,7 +8,8 @@ use Rattle.swap_hostile.proofs.silent.SilentDiskDiskPort.start_write.Goals as go
 
 pub start_write-requires-clause-free : goal.start_write-requires-clause-free
 start_write-requires-clause-free c =
-    free_behind (which.Write c.args.page) c.self.inside.disk.disk.flights (subst (λ (d : Silent). IsFree (port_of d).flights (which.Write c.args.page)) (sym c.self.view_is) c.requires.free)
+    free_behind (which.Write c.args.page) c.self.inside.disk.disk.flights
+    (subst (λ (d : Silent). IsFree (port_of d).flights (which.Write c.args.page)) (sym c.self.view_is) c.requires.free)
 
 pub start_write-requires-clause-room : goal.start_write-requires-clause-room
 start_write-requires-clause-room c =

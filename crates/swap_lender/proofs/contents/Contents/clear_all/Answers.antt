@@ -16,4 +16,7 @@ returns c =
     let zeros : c.fill.new.self ≡ replicate (slots * (pages * n)) 0 = c.fill.ensures.after (λ y e. e) ∙ ap (λ k. replicate k 0) size in
     let F : List (List (List ℕ)) → Store = λ s. record { slabs = s; page_bytes = n; pages_per_slab = pages } in
     let W : Store → Store = λ t. record t { slabs = replicate (length t.slabs) (replicate t.pages_per_slab (replicate t.page_bytes 0)) } in
-    ap F (ap (λ l. slabs_in slots pages n l) (same ∙ zeros) ∙ slabs-zeros slots pages n ∙ ap (λ k. replicate k (replicate pages (replicate n 0))) (sym (length-slabs slots pages n c.self.inside.bytes.items))) ∙ ap W c.self.view_is
+    ap F
+    (ap (λ l. slabs_in slots pages n l) (same ∙ zeros) ∙ slabs-zeros slots pages n
+    ∙ ap (λ k. replicate k (replicate pages (replicate n 0))) (sym (length-slabs slots pages n c.self.inside.bytes.items)))
+    ∙ ap W c.self.view_is

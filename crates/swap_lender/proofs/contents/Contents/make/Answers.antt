@@ -5,7 +5,8 @@ use Rattle.swap_lender.proofs.contents.Contents.make.Goals as goal
 
 pub overflow_mul-pages_per_slab : goal.overflow_mul-pages_per_slab
 overflow_mul-pages_per_slab c =
-    let least : 1 * (c.args.pages_per_slab * c.args.page_bytes) ≤ c.args.slots * (c.args.pages_per_slab * c.args.page_bytes) = mul-le-mul_right (c.args.pages_per_slab * c.args.page_bytes) c.requires.some in
+    let least : 1 * (c.args.pages_per_slab * c.args.page_bytes) ≤ c.args.slots * (c.args.pages_per_slab * c.args.page_bytes) =
+    mul-le-mul_right (c.args.pages_per_slab * c.args.page_bytes) c.requires.some in
     omega (arith, least, c.requires.fits)
 
 pub returns : goal.returns

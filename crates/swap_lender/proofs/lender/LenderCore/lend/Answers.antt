@@ -8,7 +8,9 @@ use Rattle.swap_lender.proofs.lender.LenderCore.lend.Goals as goal
 
 pub unwrap-slot-requires : goal.unwrap-slot-requires
 unwrap-slot-requires c =
-    let size : length c.args.self.now.slots ≡ c.args.self.now.lending.spec.slots = subst (λ (l : Lender). length l.slots ≡ l.lending.spec.slots) c.self.view_is c.self.invariant.0.number in
+    let size : length c.args.self.now.slots ≡ c.args.self.now.lending.spec.slots =
+    subst (λ (l : Lender). length l.slots ≡ l.lending.spec.slots) c.self.view_is c.self.invariant.0.number in
     let some : c.lowest_free.result ≡ Some (position_or_len is_free c.args.self.now.slots) =
-    c.lowest_free.ensures ∙ ap (λ (l : List SlotState). position is_free l) (c.deref.ensures.value ∙ ap (λ (l : Lender). l.slots) c.self.view_is) ∙ room_there c.args.self.now c.requires size in
+    c.lowest_free.ensures ∙ ap (λ (l : List SlotState). position is_free l) (c.deref.ensures.value ∙ ap (λ (l : Lender). l.slots) c.self.view_is)
+    ∙ room_there c.args.self.now c.requires size in
     rw some (search rules)

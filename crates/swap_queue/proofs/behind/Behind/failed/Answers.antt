@@ -10,15 +10,19 @@ use Rattle.swap_queue.proofs.behind.Behind.failed.Goals as goal
 
 pub find-requires : goal.find-requires
 find-requires c =
-    let some : IsSome (flying (queue_in c.self.inside.geometry c.self.inside.store.cells c.self.inside.line.items) c.args.page) = subst (λ (b : Backlog). IsSome (flying b.queue c.args.page)) (sym c.self.view_is) c.requires in
-    let lt : c.args.page.0 < pages_of c.self.inside.geometry = flying_range c.self.inside.geometry c.self.inside.store.cells c.self.inside.line.items c.self.invariant.0 c.args.page some in
+    let some : IsSome (flying (queue_in c.self.inside.geometry c.self.inside.store.cells c.self.inside.line.items) c.args.page) =
+    subst (λ (b : Backlog). IsSome (flying b.queue c.args.page)) (sym c.self.view_is) c.requires in
+    let lt : c.args.page.0 < pages_of c.self.inside.geometry =
+    flying_range c.self.inside.geometry c.self.inside.store.cells c.self.inside.line.items c.self.invariant.0 c.args.page some in
     let in_table : c.args.page.0 < c.self.inside.store.pages = subst (λ n. c.args.page.0 < n) (sym c.self.invariant.2) lt in
     in_table
 
 pub unwrap-place-requires : goal.unwrap-place-requires
 unwrap-place-requires c =
-    let some : IsSome (flying (queue_in c.self.inside.geometry c.self.inside.store.cells c.self.inside.line.items) c.args.page) = subst (λ (b : Backlog). IsSome (flying b.queue c.args.page)) (sym c.self.view_is) c.requires in
-    ap (λ (o : Option ℕ). is_some o) c.find-2.ensures ∙ flying_found c.self.inside.geometry c.self.inside.store.cells c.self.inside.line.items c.self.invariant.0 c.args.page some
+    let some : IsSome (flying (queue_in c.self.inside.geometry c.self.inside.store.cells c.self.inside.line.items) c.args.page) =
+    subst (λ (b : Backlog). IsSome (flying b.queue c.args.page)) (sym c.self.view_is) c.requires in
+    ap (λ (o : Option ℕ). is_some o) c.find-2.ensures
+    ∙ flying_found c.self.inside.geometry c.self.inside.store.cells c.self.inside.line.items c.self.invariant.0 c.args.page some
 
 pub land-entry-requires-clause-flies : goal.land-entry-requires-clause-flies
 land-entry-requires-clause-flies c =
@@ -30,46 +34,77 @@ not_found None b e lone = refl
 not_found (Some n) b e lone = absurd (false≢true (sym (ap not e) ∙ lone))
 
 pub land-entry-requires-clause-alone : goal.land-entry-requires-clause-alone
-land-entry-requires-clause-alone c = λ lone. not_found (position (is_for false c.args.page.0) c.self.inside.store.cells) c.is_some-newer.result (c.is_some-newer.ensures ∙ ap (λ (o : Option ℕ). is_some o) c.find.ensures) lone
+land-entry-requires-clause-alone c =
+    λ lone.
+    not_found (position (is_for false c.args.page.0) c.self.inside.store.cells) c.is_some-newer.result
+    (c.is_some-newer.ensures ∙ ap (λ (o : Option ℕ). is_some o) c.find.ensures) lone
 
 pub join-requires : goal.join-requires
 join-requires c =
     λ joins.
-    let some : IsSome (flying (queue_in c.self.inside.geometry c.self.inside.store.cells c.self.inside.line.items) c.args.page) = subst (λ (b : Backlog). IsSome (flying b.queue c.args.page)) (sym c.self.view_is) c.requires in
-    let lt : c.args.page.0 < pages_of c.self.inside.geometry = flying_range c.self.inside.geometry c.self.inside.store.cells c.self.inside.line.items c.self.invariant.0 c.args.page some in
+    let some : IsSome (flying (queue_in c.self.inside.geometry c.self.inside.store.cells c.self.inside.line.items) c.args.page) =
+    subst (λ (b : Backlog). IsSome (flying b.queue c.args.page)) (sym c.self.view_is) c.requires in
+    let lt : c.args.page.0 < pages_of c.self.inside.geometry =
+    flying_range c.self.inside.geometry c.self.inside.store.cells c.self.inside.line.items c.self.invariant.0 c.args.page some in
     let found : position (is_for true c.args.page.0) c.self.inside.store.cells ≡ Some c.unwrap-place.result = sym c.find-2.ensures ∙ c.unwrap-place.ensures in
-    let newer : c.is_some-newer.result ≡ is_some (next (queue_in c.self.inside.geometry c.self.inside.store.cells c.self.inside.line.items) c.args.page) = c.is_some-newer.ensures ∙ ap (λ (o : Option ℕ). is_some o) c.find.ensures ∙ next_found c.self.inside.geometry c.self.inside.store.cells c.self.inside.line.items c.self.invariant.0 c.args.page lt in
-    let moved = failed_step c.self.inside.geometry c.self.inside.store.cells c.land-entry.new.self.cells c.self.inside.line.items (longer c.self.inside.line.items c.args.page true) c.args.page c.unwrap-place.result c.is_some-newer.result c.self.invariant.0 some found c.land-entry.ensures.cells newer refl in
-    let room_left : length c.self.inside.line.items < c.self.inside.geometry.queue = line_room c.self.inside.geometry c.land-entry.new.self.cells c.self.inside.line.items c.args.page true (failed (queue_in c.self.inside.geometry c.self.inside.store.cells c.self.inside.line.items) c.args.page) moved joins in
+    let newer : c.is_some-newer.result ≡ is_some (next (queue_in c.self.inside.geometry c.self.inside.store.cells c.self.inside.line.items) c.args.page) =
+    c.is_some-newer.ensures ∙ ap (λ (o : Option ℕ). is_some o) c.find.ensures
+    ∙ next_found c.self.inside.geometry c.self.inside.store.cells c.self.inside.line.items c.self.invariant.0 c.args.page lt in
+    let moved =
+    failed_step c.self.inside.geometry c.self.inside.store.cells c.land-entry.new.self.cells c.self.inside.line.items
+    (longer c.self.inside.line.items c.args.page true) c.args.page c.unwrap-place.result c.is_some-newer.result c.self.invariant.0 some found
+    c.land-entry.ensures.cells newer refl in
+    let room_left : length c.self.inside.line.items < c.self.inside.geometry.queue =
+    line_room c.self.inside.geometry c.land-entry.new.self.cells c.self.inside.line.items c.args.page true
+    (failed (queue_in c.self.inside.geometry c.self.inside.store.cells c.self.inside.line.items) c.args.page) moved joins in
     omega (arith, room_left, c.self.invariant.1, c.self.inside.line.ok)
 
 pub invariant_of-self : goal.invariant_of-self
 invariant_of-self c =
-    let some : IsSome (flying (queue_in c.self.inside.geometry c.self.inside.store.cells c.self.inside.line.items) c.args.page) = subst (λ (b : Backlog). IsSome (flying b.queue c.args.page)) (sym c.self.view_is) c.requires in
-    let lt : c.args.page.0 < pages_of c.self.inside.geometry = flying_range c.self.inside.geometry c.self.inside.store.cells c.self.inside.line.items c.self.invariant.0 c.args.page some in
+    let some : IsSome (flying (queue_in c.self.inside.geometry c.self.inside.store.cells c.self.inside.line.items) c.args.page) =
+    subst (λ (b : Backlog). IsSome (flying b.queue c.args.page)) (sym c.self.view_is) c.requires in
+    let lt : c.args.page.0 < pages_of c.self.inside.geometry =
+    flying_range c.self.inside.geometry c.self.inside.store.cells c.self.inside.line.items c.self.invariant.0 c.args.page some in
     let found : position (is_for true c.args.page.0) c.self.inside.store.cells ≡ Some c.unwrap-place.result = sym c.find-2.ensures ∙ c.unwrap-place.ensures in
-    let newer : c.is_some-newer.result ≡ is_some (next (queue_in c.self.inside.geometry c.self.inside.store.cells c.self.inside.line.items) c.args.page) = c.is_some-newer.ensures ∙ ap (λ (o : Option ℕ). is_some o) c.find.ensures ∙ next_found c.self.inside.geometry c.self.inside.store.cells c.self.inside.line.items c.self.invariant.0 c.args.page lt in
-    let moved = failed_step c.self.inside.geometry c.self.inside.store.cells c.land-entry.new.self.cells c.self.inside.line.items c.join.new.line.items c.args.page c.unwrap-place.result c.is_some-newer.result c.self.invariant.0 some found c.land-entry.ensures.cells newer c.join.ensures.items in
+    let newer : c.is_some-newer.result ≡ is_some (next (queue_in c.self.inside.geometry c.self.inside.store.cells c.self.inside.line.items) c.args.page) =
+    c.is_some-newer.ensures ∙ ap (λ (o : Option ℕ). is_some o) c.find.ensures
+    ∙ next_found c.self.inside.geometry c.self.inside.store.cells c.self.inside.line.items c.self.invariant.0 c.args.page lt in
+    let moved =
+    failed_step c.self.inside.geometry c.self.inside.store.cells c.land-entry.new.self.cells c.self.inside.line.items c.join.new.line.items c.args.page
+    c.unwrap-place.result c.is_some-newer.result c.self.invariant.0 some found c.land-entry.ensures.cells newer c.join.ensures.items in
     (moved.fits, omega (arith, c.self.invariant.1, c.join.ensures.capacity), c.land-entry.ensures.pages ∙ c.self.invariant.2)
 
 pub returns-clause-queue : goal.returns-clause-queue
 returns-clause-queue c =
-    let some : IsSome (flying (queue_in c.self.inside.geometry c.self.inside.store.cells c.self.inside.line.items) c.args.page) = subst (λ (b : Backlog). IsSome (flying b.queue c.args.page)) (sym c.self.view_is) c.requires in
-    let lt : c.args.page.0 < pages_of c.self.inside.geometry = flying_range c.self.inside.geometry c.self.inside.store.cells c.self.inside.line.items c.self.invariant.0 c.args.page some in
+    let some : IsSome (flying (queue_in c.self.inside.geometry c.self.inside.store.cells c.self.inside.line.items) c.args.page) =
+    subst (λ (b : Backlog). IsSome (flying b.queue c.args.page)) (sym c.self.view_is) c.requires in
+    let lt : c.args.page.0 < pages_of c.self.inside.geometry =
+    flying_range c.self.inside.geometry c.self.inside.store.cells c.self.inside.line.items c.self.invariant.0 c.args.page some in
     let found : position (is_for true c.args.page.0) c.self.inside.store.cells ≡ Some c.unwrap-place.result = sym c.find-2.ensures ∙ c.unwrap-place.ensures in
-    let newer : c.is_some-newer.result ≡ is_some (next (queue_in c.self.inside.geometry c.self.inside.store.cells c.self.inside.line.items) c.args.page) = c.is_some-newer.ensures ∙ ap (λ (o : Option ℕ). is_some o) c.find.ensures ∙ next_found c.self.inside.geometry c.self.inside.store.cells c.self.inside.line.items c.self.invariant.0 c.args.page lt in
-    let moved = failed_step c.self.inside.geometry c.self.inside.store.cells c.land-entry.new.self.cells c.self.inside.line.items c.join.new.line.items c.args.page c.unwrap-place.result c.is_some-newer.result c.self.invariant.0 some found c.land-entry.ensures.cells newer c.join.ensures.items in
+    let newer : c.is_some-newer.result ≡ is_some (next (queue_in c.self.inside.geometry c.self.inside.store.cells c.self.inside.line.items) c.args.page) =
+    c.is_some-newer.ensures ∙ ap (λ (o : Option ℕ). is_some o) c.find.ensures
+    ∙ next_found c.self.inside.geometry c.self.inside.store.cells c.self.inside.line.items c.self.invariant.0 c.args.page lt in
+    let moved =
+    failed_step c.self.inside.geometry c.self.inside.store.cells c.land-entry.new.self.cells c.self.inside.line.items c.join.new.line.items c.args.page
+    c.unwrap-place.result c.is_some-newer.result c.self.invariant.0 some found c.land-entry.ensures.cells newer c.join.ensures.items in
     moved.is ∙ ap (λ (b : Backlog). failed b.queue c.args.page) c.self.view_is
 
 pub returns-clause-answer : goal.returns-clause-answer
 returns-clause-answer c =
-    let some : IsSome (flying (queue_in c.self.inside.geometry c.self.inside.store.cells c.self.inside.line.items) c.args.page) = subst (λ (b : Backlog). IsSome (flying b.queue c.args.page)) (sym c.self.view_is) c.requires in
-    let lt : c.args.page.0 < pages_of c.self.inside.geometry = flying_range c.self.inside.geometry c.self.inside.store.cells c.self.inside.line.items c.self.invariant.0 c.args.page some in
+    let some : IsSome (flying (queue_in c.self.inside.geometry c.self.inside.store.cells c.self.inside.line.items) c.args.page) =
+    subst (λ (b : Backlog). IsSome (flying b.queue c.args.page)) (sym c.self.view_is) c.requires in
+    let lt : c.args.page.0 < pages_of c.self.inside.geometry =
+    flying_range c.self.inside.geometry c.self.inside.store.cells c.self.inside.line.items c.self.invariant.0 c.args.page some in
     let found : position (is_for true c.args.page.0) c.self.inside.store.cells ≡ Some c.unwrap-place.result = sym c.find-2.ensures ∙ c.unwrap-place.ensures in
-    let newer : c.is_some-newer.result ≡ is_some (next (queue_in c.self.inside.geometry c.self.inside.store.cells c.self.inside.line.items) c.args.page) = c.is_some-newer.ensures ∙ ap (λ (o : Option ℕ). is_some o) c.find.ensures ∙ next_found c.self.inside.geometry c.self.inside.store.cells c.self.inside.line.items c.self.invariant.0 c.args.page lt in
+    let newer : c.is_some-newer.result ≡ is_some (next (queue_in c.self.inside.geometry c.self.inside.store.cells c.self.inside.line.items) c.args.page) =
+    c.is_some-newer.ensures ∙ ap (λ (o : Option ℕ). is_some o) c.find.ensures
+    ∙ next_found c.self.inside.geometry c.self.inside.store.cells c.self.inside.line.items c.self.invariant.0 c.args.page lt in
     let entry : option_map (λ (copy : Copy). copy.entry) (flying c.args.self.now.queue c.args.page) ≡ Some c.land-entry.result =
-    ap (λ (b : Backlog). option_map (λ (copy : Copy). copy.entry) (flying b.queue c.args.page)) (sym c.self.view_is) ∙ flying_entry c.self.inside.geometry c.self.inside.store.cells c.self.inside.line.items c.self.invariant.0 c.args.page c.unwrap-place.result c.land-entry.result some found c.land-entry.ensures.entry in
-    failed_told (flying c.args.self.now.queue c.args.page) (next c.args.self.now.queue c.args.page) c.land-entry.result c.is_some-newer.result c.if-newer.result entry
+    ap (λ (b : Backlog). option_map (λ (copy : Copy). copy.entry) (flying b.queue c.args.page)) (sym c.self.view_is)
+    ∙ flying_entry c.self.inside.geometry c.self.inside.store.cells c.self.inside.line.items c.self.invariant.0 c.args.page c.unwrap-place.result
+    c.land-entry.result some found c.land-entry.ensures.entry in
+    failed_told (flying c.args.self.now.queue c.args.page)
+    (next c.args.self.now.queue c.args.page) c.land-entry.result c.is_some-newer.result c.if-newer.result entry
     (newer ∙ ap (λ (b : Backlog). is_some (next b.queue c.args.page)) c.self.view_is)
     (λ yes_. elim c.if-newer.branch [ then-newer w ↦ w.result-is | else-newer w ↦ absurd (false≢true (sym w.if-newer.false ∙ yes_)) ])
     (λ no_. elim c.if-newer.branch [ then-newer w ↦ absurd (false≢true (sym no_ ∙ w.if-newer.true)) | else-newer w ↦ w.result-is ])

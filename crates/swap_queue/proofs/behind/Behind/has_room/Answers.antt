@@ -15,12 +15,18 @@ find-requires c =
 pub returns-then-is_some : goal.returns-then-is_some
 returns-then-is_some c =
     let lt : c.args.page.0 < pages_of c.self.inside.geometry = subst (λ (b : Backlog). c.args.page.0 < pages_of b.sizes) (sym c.self.view_is) c.requires in
-    let found : is_some (position (is_for false c.args.page.0) c.self.inside.store.cells) ≡ c.is_some.result = sym (c.is_some.ensures ∙ ap (λ (o : Option ℕ). is_some o) c.find.ensures) in
-    c.if-is_some.true ∙ sym (has_room_next c.self.inside.geometry c.self.inside.store.cells c.self.inside.line.items c.self.invariant.0 c.args.page lt (found ∙ c.if-is_some.true)) ∙ ap (λ (b : Backlog). has_room b.queue c.args.page) c.self.view_is
+    let found : is_some (position (is_for false c.args.page.0) c.self.inside.store.cells) ≡ c.is_some.result =
+    sym (c.is_some.ensures ∙ ap (λ (o : Option ℕ). is_some o) c.find.ensures) in
+    c.if-is_some.true
+    ∙ sym
+    (has_room_next c.self.inside.geometry c.self.inside.store.cells c.self.inside.line.items c.self.invariant.0 c.args.page lt (found ∙ c.if-is_some.true))
+    ∙ ap (λ (b : Backlog). has_room b.queue c.args.page) c.self.view_is
 
 pub returns-else-is_some : goal.returns-else-is_some
 returns-else-is_some c =
     let lt : c.args.page.0 < pages_of c.self.inside.geometry = subst (λ (b : Backlog). c.args.page.0 < pages_of b.sizes) (sym c.self.view_is) c.requires in
-    let found : is_some (position (is_for false c.args.page.0) c.self.inside.store.cells) ≡ c.is_some.result = sym (c.is_some.ensures ∙ ap (λ (o : Option ℕ). is_some o) c.find.ensures) in
-    has_room_else c.self.inside.geometry c.self.inside.store.cells c.self.inside.line.items c.self.invariant.0 c.args.page lt c.count_used.result c.queue.result (found ∙ c.if-is_some.false) (c.count_used.ensures) c.queue.ensures
+    let found : is_some (position (is_for false c.args.page.0) c.self.inside.store.cells) ≡ c.is_some.result =
+    sym (c.is_some.ensures ∙ ap (λ (o : Option ℕ). is_some o) c.find.ensures) in
+    has_room_else c.self.inside.geometry c.self.inside.store.cells c.self.inside.line.items c.self.invariant.0 c.args.page lt c.count_used.result c.queue.result
+    (found ∙ c.if-is_some.false) (c.count_used.ensures) c.queue.ensures
     ∙ ap (λ (b : Backlog). has_room b.queue c.args.page) c.self.view_is

@@ -15,39 +15,66 @@ put-place-requires-clause-page c =
 pub put-place-requires-clause-room : goal.put-place-requires-clause-room
 put-place-requires-clause-room c =
     let lt : c.args.page.0 < pages_of c.self.inside.geometry = subst (λ (b : Backlog). c.args.page.0 < pages_of b.sizes) (sym c.self.view_is) c.requires.page in
-    let room : has_room (queue_in c.self.inside.geometry c.self.inside.store.cells c.self.inside.line.items) c.args.page ≡ true = subst (λ (b : Backlog). has_room b.queue c.args.page ≡ true) (sym c.self.view_is) c.requires.room in
+    let room : has_room (queue_in c.self.inside.geometry c.self.inside.store.cells c.self.inside.line.items) c.args.page ≡ true =
+    subst (λ (b : Backlog). has_room b.queue c.args.page ≡ true) (sym c.self.view_is) c.requires.room in
     room_place c.self.inside.geometry c.self.inside.store.cells c.self.inside.line.items c.self.invariant.0 c.args.page lt room
 
 pub put-place-requires-clause-sized : goal.put-place-requires-clause-sized
 put-place-requires-clause-sized c =
-    let fills : length c.args.bytes.now ≡ c.self.inside.geometry.page_bytes = c.requires.bytes ∙ ap (λ (b : Backlog). b.sizes.page_bytes) (sym c.self.view_is) in
+    let fills : length c.args.bytes.now ≡ c.self.inside.geometry.page_bytes =
+    c.requires.bytes ∙ ap (λ (b : Backlog). b.sizes.page_bytes) (sym c.self.view_is) in
     λ i lt. c.self.invariant.0.sized i lt ∙ sym fills
 
 pub join-requires : goal.join-requires
 join-requires c =
     λ joins.
     let lt : c.args.page.0 < pages_of c.self.inside.geometry = subst (λ (b : Backlog). c.args.page.0 < pages_of b.sizes) (sym c.self.view_is) c.requires.page in
-    let room : has_room (queue_in c.self.inside.geometry c.self.inside.store.cells c.self.inside.line.items) c.args.page ≡ true = subst (λ (b : Backlog). has_room b.queue c.args.page ≡ true) (sym c.self.view_is) c.requires.room in
-    let fills : length c.args.bytes.now ≡ c.self.inside.geometry.page_bytes = c.requires.bytes ∙ ap (λ (b : Backlog). b.sizes.page_bytes) (sym c.self.view_is) in
-    let waits : not c.holds-waits.result ≡ is_none (newest (queue_in c.self.inside.geometry c.self.inside.store.cells c.self.inside.line.items) c.args.page) = ap not (c.holds-waits.ensures ∙ ap (λ (b : Backlog). is_some (newest b.queue c.args.page)) (sym c.self.view_is)) ∙ not_some (newest (queue_in c.self.inside.geometry c.self.inside.store.cells c.self.inside.line.items) c.args.page) in
-    let moved = put_step c.self.inside.geometry c.self.inside.store.cells c.put-place.new.self.cells c.self.inside.line.items (longer c.self.inside.line.items c.args.page (not c.holds-waits.result)) c.args.page c.args.entry c.args.bytes.now c.put-place.result (not c.holds-waits.result) c.self.invariant.0 lt fills room c.put-place.ensures.place c.put-place.ensures.cells waits refl in
-    let room_left : length c.self.inside.line.items < c.self.inside.geometry.queue = line_room c.self.inside.geometry c.put-place.new.self.cells c.self.inside.line.items c.args.page (not c.holds-waits.result) (put (queue_in c.self.inside.geometry c.self.inside.store.cells c.self.inside.line.items) c.args.page (record { entry = c.args.entry; bytes = c.args.bytes.now })) moved joins in
+    let room : has_room (queue_in c.self.inside.geometry c.self.inside.store.cells c.self.inside.line.items) c.args.page ≡ true =
+    subst (λ (b : Backlog). has_room b.queue c.args.page ≡ true) (sym c.self.view_is) c.requires.room in
+    let fills : length c.args.bytes.now ≡ c.self.inside.geometry.page_bytes =
+    c.requires.bytes ∙ ap (λ (b : Backlog). b.sizes.page_bytes) (sym c.self.view_is) in
+    let waits : not c.holds-waits.result ≡ is_none (newest (queue_in c.self.inside.geometry c.self.inside.store.cells c.self.inside.line.items) c.args.page) =
+    ap not (c.holds-waits.ensures ∙ ap (λ (b : Backlog). is_some (newest b.queue c.args.page)) (sym c.self.view_is))
+    ∙ not_some (newest (queue_in c.self.inside.geometry c.self.inside.store.cells c.self.inside.line.items) c.args.page) in
+    let moved =
+    put_step c.self.inside.geometry c.self.inside.store.cells c.put-place.new.self.cells c.self.inside.line.items
+    (longer c.self.inside.line.items c.args.page (not c.holds-waits.result)) c.args.page c.args.entry c.args.bytes.now c.put-place.result
+    (not c.holds-waits.result) c.self.invariant.0 lt fills room c.put-place.ensures.place c.put-place.ensures.cells waits refl in
+    let room_left : length c.self.inside.line.items < c.self.inside.geometry.queue =
+    line_room c.self.inside.geometry c.put-place.new.self.cells c.self.inside.line.items c.args.page (not c.holds-waits.result)
+    (put (queue_in c.self.inside.geometry c.self.inside.store.cells c.self.inside.line.items) c.args.page
+    (record { entry = c.args.entry; bytes = c.args.bytes.now }))
+    moved joins in
     omega (arith, room_left, c.self.invariant.1, c.self.inside.line.ok)
 
 pub invariant_of-self : goal.invariant_of-self
 invariant_of-self c =
     let lt : c.args.page.0 < pages_of c.self.inside.geometry = subst (λ (b : Backlog). c.args.page.0 < pages_of b.sizes) (sym c.self.view_is) c.requires.page in
-    let room : has_room (queue_in c.self.inside.geometry c.self.inside.store.cells c.self.inside.line.items) c.args.page ≡ true = subst (λ (b : Backlog). has_room b.queue c.args.page ≡ true) (sym c.self.view_is) c.requires.room in
-    let fills : length c.args.bytes.now ≡ c.self.inside.geometry.page_bytes = c.requires.bytes ∙ ap (λ (b : Backlog). b.sizes.page_bytes) (sym c.self.view_is) in
-    let waits : not c.holds-waits.result ≡ is_none (newest (queue_in c.self.inside.geometry c.self.inside.store.cells c.self.inside.line.items) c.args.page) = ap not (c.holds-waits.ensures ∙ ap (λ (b : Backlog). is_some (newest b.queue c.args.page)) (sym c.self.view_is)) ∙ not_some (newest (queue_in c.self.inside.geometry c.self.inside.store.cells c.self.inside.line.items) c.args.page) in
-    let moved = put_step c.self.inside.geometry c.self.inside.store.cells c.put-place.new.self.cells c.self.inside.line.items c.join.new.line.items c.args.page c.args.entry c.args.bytes.now c.put-place.result (not c.holds-waits.result) c.self.invariant.0 lt fills room c.put-place.ensures.place c.put-place.ensures.cells waits c.join.ensures.items in
+    let room : has_room (queue_in c.self.inside.geometry c.self.inside.store.cells c.self.inside.line.items) c.args.page ≡ true =
+    subst (λ (b : Backlog). has_room b.queue c.args.page ≡ true) (sym c.self.view_is) c.requires.room in
+    let fills : length c.args.bytes.now ≡ c.self.inside.geometry.page_bytes =
+    c.requires.bytes ∙ ap (λ (b : Backlog). b.sizes.page_bytes) (sym c.self.view_is) in
+    let waits : not c.holds-waits.result ≡ is_none (newest (queue_in c.self.inside.geometry c.self.inside.store.cells c.self.inside.line.items) c.args.page) =
+    ap not (c.holds-waits.ensures ∙ ap (λ (b : Backlog). is_some (newest b.queue c.args.page)) (sym c.self.view_is))
+    ∙ not_some (newest (queue_in c.self.inside.geometry c.self.inside.store.cells c.self.inside.line.items) c.args.page) in
+    let moved =
+    put_step c.self.inside.geometry c.self.inside.store.cells c.put-place.new.self.cells c.self.inside.line.items c.join.new.line.items c.args.page
+    c.args.entry c.args.bytes.now c.put-place.result
+    (not c.holds-waits.result) c.self.invariant.0 lt fills room c.put-place.ensures.place c.put-place.ensures.cells waits c.join.ensures.items in
     (moved.fits, omega (arith, c.self.invariant.1, c.join.ensures.capacity), c.put-place.ensures.pages ∙ c.self.invariant.2)
 
 pub returns-clause-queue : goal.returns-clause-queue
 returns-clause-queue c =
     let lt : c.args.page.0 < pages_of c.self.inside.geometry = subst (λ (b : Backlog). c.args.page.0 < pages_of b.sizes) (sym c.self.view_is) c.requires.page in
-    let room : has_room (queue_in c.self.inside.geometry c.self.inside.store.cells c.self.inside.line.items) c.args.page ≡ true = subst (λ (b : Backlog). has_room b.queue c.args.page ≡ true) (sym c.self.view_is) c.requires.room in
-    let fills : length c.args.bytes.now ≡ c.self.inside.geometry.page_bytes = c.requires.bytes ∙ ap (λ (b : Backlog). b.sizes.page_bytes) (sym c.self.view_is) in
-    let waits : not c.holds-waits.result ≡ is_none (newest (queue_in c.self.inside.geometry c.self.inside.store.cells c.self.inside.line.items) c.args.page) = ap not (c.holds-waits.ensures ∙ ap (λ (b : Backlog). is_some (newest b.queue c.args.page)) (sym c.self.view_is)) ∙ not_some (newest (queue_in c.self.inside.geometry c.self.inside.store.cells c.self.inside.line.items) c.args.page) in
-    let moved = put_step c.self.inside.geometry c.self.inside.store.cells c.put-place.new.self.cells c.self.inside.line.items c.join.new.line.items c.args.page c.args.entry c.args.bytes.now c.put-place.result (not c.holds-waits.result) c.self.invariant.0 lt fills room c.put-place.ensures.place c.put-place.ensures.cells waits c.join.ensures.items in
+    let room : has_room (queue_in c.self.inside.geometry c.self.inside.store.cells c.self.inside.line.items) c.args.page ≡ true =
+    subst (λ (b : Backlog). has_room b.queue c.args.page ≡ true) (sym c.self.view_is) c.requires.room in
+    let fills : length c.args.bytes.now ≡ c.self.inside.geometry.page_bytes =
+    c.requires.bytes ∙ ap (λ (b : Backlog). b.sizes.page_bytes) (sym c.self.view_is) in
+    let waits : not c.holds-waits.result ≡ is_none (newest (queue_in c.self.inside.geometry c.self.inside.store.cells c.self.inside.line.items) c.args.page) =
+    ap not (c.holds-waits.ensures ∙ ap (λ (b : Backlog). is_some (newest b.queue c.args.page)) (sym c.self.view_is))
+    ∙ not_some (newest (queue_in c.self.inside.geometry c.self.inside.store.cells c.self.inside.line.items) c.args.page) in
+    let moved =
+    put_step c.self.inside.geometry c.self.inside.store.cells c.put-place.new.self.cells c.self.inside.line.items c.join.new.line.items c.args.page
+    c.args.entry c.args.bytes.now c.put-place.result
+    (not c.holds-waits.result) c.self.invariant.0 lt fills room c.put-place.ensures.place c.put-place.ensures.cells waits c.join.ensures.items in
     moved.is ∙ ap (λ (b : Backlog). put b.queue c.args.page (record { entry = c.args.entry; bytes = c.args.bytes.now })) c.self.view_is

@@ -12,4 +12,5 @@ invariant_of-result c =
     let S : List Kept → Type 0 = λ cells. IsStored cells c.in-Ok.spots.items c.in_ok-free.free.items (vec_capacity c.in_ok-free.free) in
     let T : List Spot → Type 0 = λ spots. IsStored (free_cells c.args.count c.args.page_bytes) spots c.in_ok-free.free.items (vec_capacity c.in_ok-free.free) in
     subst S (sym c.in_ok-cells.ensures) (subst T (sym spots)
-    (new_stored c.args.count c.args.page_bytes c.args.pages (vec_capacity c.in_ok-free.free) c.in_ok-free.free.items (omega (arith, c.in_ok-free.ensures.len, c.in_ok-free.free.ok)) c.in_ok-free.ensures.room c.in_ok-free.ensures.once))
+    (new_stored c.args.count c.args.page_bytes c.args.pages (vec_capacity c.in_ok-free.free) c.in_ok-free.free.items
+    (omega (arith, c.in_ok-free.ensures.len, c.in_ok-free.free.ok)) c.in_ok-free.ensures.room c.in_ok-free.ensures.once))
