@@ -53,7 +53,7 @@ fn told(lies: bool, says: Msg, msg: Msg, page: &mut [u8]) -> Msg
 
 impl Fabric for LyingFabric {
     ghost use Rattle.swap_hostile.specs.Lying.{of_lying, Moves, IsFresh};
-    ghost use Rattle.swap_hostile.specs.LyingLaws;
+    ghost use Rattle.swap_hostile.specs.lemmas.LyingLaws;
 
     ghost of = { of_lying };
 

@@ -53,7 +53,7 @@ impl SilentDisk {
 
 impl DiskPort for SilentDisk {
     ghost use Rattle.swap_hostile.specs.Silent.{port_of, Moves};
-    ghost use Rattle.swap_hostile.specs.SilentLaws.{follows as silent_follows};
+    ghost use Rattle.swap_hostile.specs.lemmas.SilentLaws.{follows as silent_follows};
 
     ghost means = { port_of };
 

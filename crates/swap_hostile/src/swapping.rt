@@ -44,7 +44,8 @@ impl SwappingDisk {
 
 impl DiskPort for SwappingDisk {
     ghost use Rattle.swap_hostile.specs.Silent.{port_of};
-    ghost use Rattle.swap_hostile.specs.Swapping.{Moves, follows as swapping_follows};
+    ghost use Rattle.swap_hostile.specs.Swapping.{Moves};
+    ghost use Rattle.swap_hostile.specs.lemmas.SwappingLaws.{follows as swapping_follows};
 
     ghost means = { port_of };
 

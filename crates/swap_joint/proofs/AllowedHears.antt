@@ -40,7 +40,7 @@ use Rattle.swap_link.specs.Channel.{Channel}
 use Rattle.swap_link.specs.Harbor as harbor
 use Rattle.swap_link.specs.Harbor.{Harbor, channel_of}
 use Rattle.swap_link.specs.Keeping.{Unless}
-use Rattle.swap_link.specs.KeepLaws.{unless-map}
+use Rattle.swap_link.specs.lemmas.KeepLaws.{unless-map}
 use Rattle.swap_joint.specs.Order.{served_of}
 use Rattle.swap_joint.specs.Seats.{HasSeat}
 use Rattle.swap_joint.specs.Turn.{Lodges}

@@ -31,9 +31,9 @@ use Rattle.swap_link.specs.Lane.{Lane, appended}
 use Rattle.swap_link.specs.Channel.{Channel, severed, crashed, on_channel}
 use Rattle.swap_link.specs.Harbor as harbor
 use Rattle.swap_link.specs.Harbor.{Harbor, channel_of, lender_of}
-use Rattle.swap_link.specs.HarborLaws.{called, other_channel}
+use Rattle.swap_link.specs.lemmas.HarborLaws.{called, other_channel}
 use Rattle.swap_link.specs.Keeping.{Unless}
-use Rattle.swap_link.specs.KeepLaws.{unless, unless-map}
+use Rattle.swap_link.specs.lemmas.KeepLaws.{unless, unless-map}
 use Rattle.swap_joint.specs.Seats.{AreSlots, is_done}
 use Rattle.swap_joint.specs.Turn.{AsksUntold, Lodges}
 use Rattle.swap_joint.specs.Stored.{Joined}
@@ -100,8 +100,7 @@ sees_parts l d states bits links cs holds link =
 
 pub allowed_on : (l : Lender) (d d' : Device) (c : Channel) (said : List Parcel) → Sees l d d' → Allowed d l c said → Allowed d' l c said
 allowed_on l d d' c said sees h =
-    let P : Sizes
-    → Type 0 =
+    let P : Sizes → Type 0 =
     λ s.
     Unless c.lender_gone
     (Allows s d'.remote.slabs (ring_of d'.remote.links l) l c.lender c.number c.to_device.parcels c.to_lender.ended (c.to_lender.parcels ++ said)) in

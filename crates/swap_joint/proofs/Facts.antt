@@ -20,7 +20,7 @@ use Rattle.swap_remote.specs.Remote.{slab_for, state_for}
 use Rattle.swap_table.specs.Device.{write_reply, read_reply}
 use Rattle.swap_link.specs.Lane.{Lane}
 use Rattle.swap_link.specs.Channel.{Channel}
-use Rattle.swap_link.specs.KeepLaws.{unless-map}
+use Rattle.swap_link.specs.lemmas.KeepLaws.{unless-map}
 use Rattle.swap_joint.specs.Order.{Names, Answers, Carries}
 use Rattle.swap_joint.specs.Brought.{kept_entry, Brings, HoldsFor, Replied, Asked}
 use Rattle.swap_joint.specs.Sight.{FewerLeases, KeepsLease, StaysLeased, KeepsEntries, StillReads}

@@ -22,7 +22,7 @@ use Rattle.swap_lender.specs.Calls.{tenant}
 use Rattle.swap_lender.specs.Table.{may_send, may_hello, may_reach}
 use Rattle.swap_link.specs.Fits.{IsSound}
 use Rattle.swap_link.specs.Channel.{Channel}
-use Rattle.swap_link.specs.KeepLaws.{unless-at}
+use Rattle.swap_link.specs.lemmas.KeepLaws.{unless-at}
 use Rattle.swap_table.specs.Device.{Device, hello}
 use Rattle.swap_table.specs.Serves.{bytes_of, IsAwaited}
 use Rattle.swap_table.proofs.Sends.{pages_some}

@@ -34,7 +34,7 @@ use Rattle.swap_link.specs.Fits.{IsSound}
 use Rattle.swap_link.specs.Lane.{Lane, appended}
 use Rattle.swap_link.specs.Channel.{Channel, posted, forwarded, delivered, given, given_from}
 use Rattle.swap_link.specs.Keeping.{Unless}
-use Rattle.swap_link.specs.KeepLaws.{took-served, unless}
+use Rattle.swap_link.specs.lemmas.KeepLaws.{took-served, unless}
 use Rattle.swap_joint.specs.Seats.{is_done}
 use Rattle.swap_joint.specs.Stored.{gives_back, Joined}
 use Rattle.swap_joint.specs.Order.{is_request, is_reply, asks_by, replies_by, IsRoomFor, IsReplyFor, Names, Answers, Carries}
@@ -307,8 +307,8 @@ allowed_given d l c sound untold lodges greeted joined ordered h =
         c.lender_gone ≡ false → (q : Parcel) (ps : List Parcel) → c.to_lender.parcels ≡ q ∷ ps
         → Allowed d l (delivered (record c { to_lender = record c.to_lender { parcels = ps } }) (serve c.lender c.number q.msg q.page)) []
     fine stands q ps front =
-        let A : List Parcel
-        → Type 0 = λ out. Allows d.sizes d.remote.slabs (ring_of d.remote.links l) l c.lender c.number c.to_device.parcels c.to_lender.ended out in
+        let A : List Parcel → Type 0 =
+        λ out. Allows d.sizes d.remote.slabs (ring_of d.remote.links l) l c.lender c.number c.to_device.parcels c.to_lender.ended out in
         let now : Allows d.sizes d.remote.slabs (ring_of d.remote.links l) l c.lender c.number c.to_device.parcels c.to_lender.ended (q ∷ ps) =
         subst A (append-nil c.to_lender.parcels ∙ front) (opened_by c.lender_gone (A (c.to_lender.parcels ++ [])) stands h) in
         let stored = opened_by c.lender_gone _ stands joined.stored in

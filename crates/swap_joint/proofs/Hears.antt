@@ -31,7 +31,7 @@ use Rattle.swap_table.proofs.Links.{by_slab, state-same, state-other}
 use Rattle.swap_link.specs.Lane.{Lane, appended}
 use Rattle.swap_link.specs.Channel.{Channel}
 use Rattle.swap_link.specs.Keeping.{Unless}
-use Rattle.swap_link.specs.KeepLaws.{unless-map, unless-at}
+use Rattle.swap_link.specs.lemmas.KeepLaws.{unless-map, unless-at}
 use Rattle.swap_joint.specs.Order.{is_request, is_reply, replies_by, Carries, served_of}
 use Rattle.swap_joint.specs.Brought.{found, HoldsFor, Replied, Asked}
 use Rattle.swap_joint.specs.Sight.{FewerLeases, StaysLeased, KeepsEntries, StillReads, SeesSame}

@@ -36,9 +36,9 @@ use Rattle.swap_table.proofs.Waits.{Target}
 use Rattle.swap_link.specs.Channel.{Channel, sent, on_channel}
 use Rattle.swap_link.specs.Harbor as harbor
 use Rattle.swap_link.specs.Harbor.{Harbor, channel_of, lender_of, KeepsAt, OwesAt}
-use Rattle.swap_link.specs.HarborLaws.{called, other_channel}
+use Rattle.swap_link.specs.lemmas.HarborLaws.{called, other_channel}
 use Rattle.swap_link.specs.Keeping.{Unless}
-use Rattle.swap_link.specs.KeepLaws.{unless-map}
+use Rattle.swap_link.specs.lemmas.KeepLaws.{unless-map}
 use Rattle.swap_joint.specs.Order.{is_request, Carries, served_of}
 use Rattle.swap_joint.specs.Brought.{kept_entry, found, HoldsFor}
 use Rattle.swap_joint.specs.Sight.{SameLeases, StillReads, SeesSame}

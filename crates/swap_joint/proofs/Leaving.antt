@@ -23,7 +23,7 @@ use Rattle.swap_table.proofs.Replies.{answered-same, answered-other}
 use Rattle.swap_link.specs.Channel.{Channel, taken, taken_from, on_channel}
 use Rattle.swap_link.specs.Harbor as harbor
 use Rattle.swap_link.specs.Harbor.{Harbor, channel_of, lender_of, of_harbor}
-use Rattle.swap_link.specs.HarborLaws.{called, other_channel}
+use Rattle.swap_link.specs.lemmas.HarborLaws.{called, other_channel}
 use Rattle.swap_joint.specs.Lenders.{AreSound}
 use Rattle.swap_joint.specs.Stored.{AllJoined}
 use Rattle.swap_joint.specs.Allowed.{AllAllowed, AllowedOwing, IsKnown}
@@ -215,8 +215,7 @@ module _ {D : Type 0} (disk : DiskMeaning D) (follows : FollowsItsMoves disk) (l
       (ap (λ (x : Sent × Harbor). x.0) moved.1))
   each_left x asked y k k' f f' (hears {d = d} {h = heard} {l = l} {q = q} up one) (by_fabric moved) before all =
       let serves = serves_at d k f before.0.0 in
-      let seen : (m : Lender)
-      → is_up heard.device.remote.links m ≡ is_up d.remote.links m =
+      let seen : (m : Lender) → is_up heard.device.remote.links m ≡ is_up d.remote.links m =
       heard_links d l q heard (there_is o.lenders d f l serves ((serves.link l).lender up)) one in
       by_words heard.word (λ m inside off. through o.sizes f f' (Take l) (Brought q) moved m
       (λ same. absurd (both_ways (is_up d.remote.links l) (subst (λ (i : ℕ). is_up d.remote.links (record { 0 = i }) ≡ false) same (sym (seen m) ∙ off)) up))

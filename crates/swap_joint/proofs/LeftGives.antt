@@ -21,7 +21,7 @@ use Rattle.swap_lender.specs.Table.{Turn, serve, settle_with, due, marked, mark_
 use Rattle.swap_link.specs.Fits.{IsSound}
 use Rattle.swap_link.specs.Lane.{Lane, empty_lane}
 use Rattle.swap_link.specs.Channel.{Channel, delivered, given, given_from, severed, crashed}
-use Rattle.swap_link.specs.KeepLaws.{unless, unless-map, took-served}
+use Rattle.swap_link.specs.lemmas.KeepLaws.{unless, unless-map, took-served}
 use Rattle.swap_table.specs.Device.{hello as greeting}
 use Rattle.swap_joint.specs.Seats.{is_done}
 use Rattle.swap_joint.specs.Stored.{gives_back}

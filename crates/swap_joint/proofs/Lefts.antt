@@ -21,8 +21,8 @@ use Rattle.swap_lender.specs.declared.SlotState.TheVariants.{Free, Held}
 use Rattle.swap_lender.specs.Lender as lender
 use Rattle.swap_lender.specs.Lender.{Lender, slot_in, slot_of}
 use Rattle.swap_link.specs.Channel.{Channel}
-use Rattle.swap_link.specs.KeepLaws.{unless}
-use Rattle.swap_link.specs.Slots.{found}
+use Rattle.swap_link.specs.lemmas.KeepLaws.{unless}
+use Rattle.swap_link.specs.lemmas.Slots.{found}
 use Rattle.swap_table.specs.Device.{Device}
 use Rattle.swap_table.specs.Serves.{AreInOrder, MayPrecede, IsAwaited}
 use Rattle.swap_joint.specs.Order.{is_request, asks_by, Carries}

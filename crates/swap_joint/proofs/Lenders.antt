@@ -30,11 +30,11 @@ use Rattle.swap_lender.proofs.Runs.{always_owned}
 use Rattle.swap_lender.proofs.Live.{live_rounds}
 use Rattle.swap_lender.proofs.Steps.{took_lending, host_lending, gone_lending}
 use Rattle.swap_link.specs.Fits.{IsAlone}
-use Rattle.swap_link.specs.Sound.{length-marked, alone-serve, peers-gone, peers-host, arrived}
+use Rattle.swap_link.specs.lemmas.Sound.{length-marked, alone-serve, peers-gone, peers-host, arrived}
 use Rattle.swap_link.specs.Lane.{appended, ended, cut}
 use Rattle.swap_link.specs.Channel.{Channel, let_go, taken, taken_from, given, given_from, delivered, abandoned, severed, crashed, connected, on_channel}
 use Rattle.swap_link.specs.Harbor.{Harbor, Moves, channel_of, lender_of, new_channel, no_channel, lending_for, IsFresh}
-use Rattle.swap_link.specs.HarborLaws.{through, moves_keep_of}
+use Rattle.swap_link.specs.lemmas.HarborLaws.{through, moves_keep_of}
 use Rattle.swap_joint.specs.Seats.{AreSlots}
 use Rattle.swap_joint.specs.Turn.{AsksUntold, Lodges}
 use Rattle.swap_joint.specs.Allowed.{IsKnown, AllKnown}

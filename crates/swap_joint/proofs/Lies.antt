@@ -216,8 +216,7 @@ module _ {D : Type 0} (disk_moves : D → (c : DiskCall) → DiskAnswer c → D 
       ap (λ (x : Device × Seen). is_unfair x.1) twice.1
   took_honest d d' k k' h mid h' l (Brought q) s each along =
       let x = each q refl in
-      let P : Option Heard
-      → Type 0 =
+      let P : Option Heard → Type 0 =
       λ o.
       Along disk_moves harbor.Moves {A = Device × Seen}
       (answering (λ (r : Device × LinkStep). (r.0, see_take r.1)) (device.understood d l q.msg o)) k mid k' h' (d', s) in

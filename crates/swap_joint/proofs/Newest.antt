@@ -26,7 +26,7 @@ use Rattle.swap_table.proofs.Lists.{not_eqb}
 use Rattle.swap_table.proofs.Requests.{has_own}
 use Rattle.swap_table.proofs.Sends.{slab_within}
 use Rattle.swap_link.specs.Keeping.{Unless}
-use Rattle.swap_link.specs.KeepLaws.{unless-map}
+use Rattle.swap_link.specs.lemmas.KeepLaws.{unless-map}
 use Rattle.swap_link.specs.Harbor.{Harbor, channel_of, KeepsAt}
 use Rattle.swap_joint.specs.Pairs.{Pairwise}
 use Rattle.swap_joint.specs.Order.{is_request, asks_by, Carries, served_of}

@@ -18,7 +18,7 @@ use Rattle.swap_lender.specs.Lender.{Lender, is_free, has_lease, first_where, le
 use Rattle.swap_lender.specs.Table.{Turn, marked, mark_slot, settle_with, due, lend, may_send, serve, done, host, measured, opens}
 use Rattle.swap_lender.proofs.FreeSlots.{free_there, lends_room}
 use Rattle.swap_link.specs.Fits.{IsSound}
-use Rattle.swap_link.specs.Slots.{lease-has, lacks, found, found-lease, marked-first}
+use Rattle.swap_link.specs.lemmas.Slots.{lease-has, lacks, found, found-lease, marked-first}
 use Rattle.swap_joint.specs.Seats.{seat_in, HasSeat, AreSlots, is_done}
 
 -- a seat is in one of the slots

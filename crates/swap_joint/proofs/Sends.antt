@@ -36,7 +36,7 @@ use Rattle.swap_table.proofs.Keeps.{ins_wait}
 use Rattle.swap_link.specs.Channel.{connected}
 use Rattle.swap_link.specs.Harbor as harbor
 use Rattle.swap_link.specs.Harbor.{Harbor, channel_of}
-use Rattle.swap_link.specs.KeepLaws.{unless}
+use Rattle.swap_link.specs.lemmas.KeepLaws.{unless}
 use Rattle.swap_joint.specs.Order.{is_request}
 use Rattle.swap_joint.specs.Sight.{SameLeases}
 use Rattle.swap_joint.specs.Turn.{AllTurned}

@@ -35,8 +35,8 @@ use Rattle.swap_link.specs.Fits.{IsSound}
 use Rattle.swap_link.specs.Lane.{Lane, appended, ended, cut}
 use Rattle.swap_link.specs.Channel.{Channel, forwarded, delivered, given, given_from, abandoned, severed, crashed, connected}
 use Rattle.swap_link.specs.Keeping.{Unless, slot_page, left_by}
-use Rattle.swap_link.specs.Slots.{IsLater, later-serve, next-serve, slot_page-host, next-host}
-use Rattle.swap_link.specs.KeepLaws.{unless, unless-map, unless-at, took-served}
+use Rattle.swap_link.specs.lemmas.Slots.{IsLater, later-serve, next-serve, slot_page-host, next-host}
+use Rattle.swap_link.specs.lemmas.KeepLaws.{unless, unless-map, unless-at, took-served}
 use Rattle.swap_joint.specs.Order.{is_request, Carries, served_of, asks_by}
 use Rattle.swap_calls.specs.Calls.{Calls}
 use Rattle.swap_joint.specs.Brought.{found, HoldsFor, Replied, Asked}

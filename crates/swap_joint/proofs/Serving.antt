@@ -16,7 +16,7 @@ use Rattle.swap_lender.specs.declared.SlotState.TheVariants.{Free, Held}
 use Rattle.swap_lender.specs.Lender.{Lender, slot_in, slot_of, holds, has_lease, is_for, is_evicting}
 use Rattle.swap_lender.specs.Table.{marked, mark_slot, may_rates, may_done, awaits}
 use Rattle.swap_link.specs.Fits.{IsSound, lease_of, lease_at}
-use Rattle.swap_link.specs.Slots.{lease-has}
+use Rattle.swap_link.specs.lemmas.Slots.{lease-has}
 use Rattle.swap_joint.specs.Allowed.{HasSlot, Waits}
 
 -- a lender whose held slots are all of one link

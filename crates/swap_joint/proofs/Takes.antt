@@ -44,7 +44,7 @@ use Rattle.swap_table.proofs.Evictions.{MappedBy, mapped_by_is, settled_free, ev
 use Rattle.swap_link.specs.Channel.{Channel, taken, taken_from}
 use Rattle.swap_link.specs.Harbor as harbor
 use Rattle.swap_link.specs.Harbor.{Harbor, channel_of, KeepsAt}
-use Rattle.swap_link.specs.HarborLaws.{called}
+use Rattle.swap_link.specs.lemmas.HarborLaws.{called}
 use Rattle.swap_link.specs.Keeping.{Unless}
 use Rattle.swap_joint.specs.Order.{is_reply}
 use Rattle.swap_joint.specs.Sight.{SameLeases, StaysLeased, StillReads, SeesSame}

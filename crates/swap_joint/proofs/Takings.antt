@@ -169,8 +169,8 @@ pub allows_evicted :
     → Allows s states ring l table n come ended out
     → Allows s (slabs.evicted states t) ring l table n come ended (out ++ saying (done_word (slabs.evicted_lease (state_of states t))))
 allows_evicted s states ring l table n come ended out t k f is slot ungiven untold greeted h =
-    let P : SlabState
-    → Type 0 = λ x. Allows s (with_state states t (slabs.after_evict x)) ring l table n come ended (out ++ saying (done_word (slabs.evicted_lease x))) in
+    let P : SlabState → Type 0 =
+    λ x. Allows s (with_state states t (slabs.after_evict x)) ring l table n come ended (out ++ saying (done_word (slabs.evicted_lease x))) in
     subst P (sym is) (by (f == 0))
   where
     drain_is : (i : Lease) (g : ℕ) → Draining l k f ≡ Draining l i g → k ≡ i

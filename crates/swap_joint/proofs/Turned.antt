@@ -53,9 +53,9 @@ use Rattle.swap_link.specs.Fits.{IsSound}
 use Rattle.swap_link.specs.Channel.{Channel, sent, taken, given, given_from, severed, crashed, connected, delivered, on_channel}
 use Rattle.swap_link.specs.Harbor as harbor
 use Rattle.swap_link.specs.Harbor.{Harbor, channel_of, lender_of}
-use Rattle.swap_link.specs.HarborLaws.{called, other_channel}
+use Rattle.swap_link.specs.lemmas.HarborLaws.{called, other_channel}
 use Rattle.swap_link.specs.Keeping.{Unless}
-use Rattle.swap_link.specs.KeepLaws.{unless, unless-map, took-served}
+use Rattle.swap_link.specs.lemmas.KeepLaws.{unless, unless-map, took-served}
 use Rattle.swap_joint.specs.Lenders.{IsReached, AreSound}
 use Rattle.swap_joint.specs.Turn.{IsMappedAt, Then, After, InTurn, Stays, AsksUntold, Lodges, Turned, AllTurned, AllTurnedBut, TurnedOwing}
 use Rattle.swap_joint.proofs.Harbors.{harbor_meaning}
@@ -382,8 +382,7 @@ module _ (n : ℕ) (d : Device) (h g : Harbor) (l : Lender) (q : Parcel) (all : 
       let was = borrows t rest is in
       let within : t.0 < length d.remote.slabs = subst (λ m. t.0 < m) (sym serves.slabs_len) was.0 in
       let states : List SlabState = slabs.lent d.remote.slabs t j in
-      let apart : (m : Lender)
-      → KeepsMapped m d.remote.slabs states =
+      let apart : (m : Lender) → KeepsMapped m d.remote.slabs states =
       λ m.
       mapped_apart m d.remote.slabs t (slabs.after_lent (state_of d.remote.slabs t) j)
       (λ k f at. borrowing_mapped (state_of d.remote.slabs t) l m k f was.1 at) in
@@ -399,8 +398,7 @@ module _ (n : ℕ) (d : Device) (h g : Harbor) (l : Lender) (q : Parcel) (all : 
       ])
   heard_turned x (refused {t = t} {u = u} {rest = rest} is says same) =
       let was = borrows t rest is in
-      let apart : (m : Lender)
-      → KeepsMapped m d.remote.slabs (slabs.refused d.remote.slabs t) =
+      let apart : (m : Lender) → KeepsMapped m d.remote.slabs (slabs.refused d.remote.slabs t) =
       λ m. mapped_apart m d.remote.slabs t Local (λ k f at. borrowing_mapped (state_of d.remote.slabs t) l m k f was.1 at) in
       heard_via (record d { remote = remote.refused d.remote l t }) (λ m other. answered_up m (slabs.refused d.remote.slabs t) d.remote.bits other (apart m))
       (λ k at. apart l k (refused_then (λ j. IsMappedAt d.remote.slabs l j) q.msg u k says at))

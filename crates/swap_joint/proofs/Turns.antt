@@ -27,7 +27,7 @@ use Rattle.swap_lender.specs.Lender as lender
 use Rattle.swap_lender.specs.Table.{Turn, tell_slot, told, settle_with, due, serve, lend, may_reach, may_send, host, measured, opens}
 use Rattle.swap_link.specs.Lane.{Lane, appended}
 use Rattle.swap_link.specs.Channel.{Channel, posted, forwarded}
-use Rattle.swap_link.specs.Sound.{some-same}
+use Rattle.swap_link.specs.lemmas.Sound.{some-same}
 use Rattle.swap_joint.specs.Order.{is_request, is_reply, Answers, Carries}
 use Rattle.swap_calls.specs.Calls.{Calls}
 use Rattle.swap_joint.specs.Brought.{Brings, HoldsFor}

@@ -3,9 +3,5 @@ pub mod Channel
 pub mod Fits
 pub mod Keeping
 pub mod Harbor
-pub mod Sound
-pub mod Slots
-pub mod KeepLaws
-pub mod OweLaws
-pub mod HarborLaws
 pub mod Whole
+pub mod lemmas

@@ -72,7 +72,7 @@ impl Harbor {
 impl Fabric for Harbor {
     ghost use Rattle.std.specs.Prelude.{◌≡◌};
     ghost use Rattle.swap_link.specs.Harbor.{of_harbor, Moves, IsFresh, KeepsAt, OwesAt};
-    ghost use Rattle.swap_link.specs.HarborLaws;
+    ghost use Rattle.swap_link.specs.lemmas.HarborLaws;
 
     ghost of = { of_harbor };
 

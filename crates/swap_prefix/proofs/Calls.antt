@@ -13,7 +13,7 @@ use Rattle.swap_lender.specs.Table.{Turn, took, may_send}
 use Rattle.swap_link.specs.Lane.{Lane}
 use Rattle.swap_link.specs.Channel.{Channel, connected, reply_of, delivered, served, given, given_from, on_channel}
 use Rattle.swap_link.specs.Harbor.{Harbor, channel_of, lender_of, ask}
-use Rattle.swap_link.specs.HarborLaws.{called, same_channel, other_channel}
+use Rattle.swap_link.specs.lemmas.HarborLaws.{called, same_channel, other_channel}
 use Rattle.swap_prefix.specs.Calls.{Made, made, after, connects, first_page, told_by, served_by, answered_by, taken_by, told_sent, lender_took, lender_sent, device_took}
 use Rattle.swap_prefix.specs.Laws.{IsPrefix, NoneConnects, linked, LinksHandOnAPrefix, Carries, OnlyAnEndIsLost, IsServed, WhatIsTakenIsServed}
 use Rattle.swap_prefix.proofs.Lanes.{carries_none, as_was}

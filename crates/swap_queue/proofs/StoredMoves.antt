@@ -68,8 +68,7 @@ module _ (cells : List Kept) (i : ℕ) (c : Kept) (page : ℕ) (sp : Spot)
   other_spots : (p : ℕ) → p ≢ page → spot_in (set cells i c) p ≡ spot_in cells p
   other_spots p ne =
       let F : Option ℕ → Option ℕ → Spot = λ f n. record { flying = f; next = n } in
-      let keeps : (k : Bool)
-      → position (is_for k p) (set cells i c) ≡ position (is_for k p) cells =
+      let keeps : (k : Bool) → position (is_for k p) (set cells i c) ≡ position (is_for k p) cells =
       λ k. found_same (is_for k p) free_cell cells i c ((others k p ne).0 ∙ sym (others k p ne).1) in
       ap (λ f. F f (position (is_for false p) (set cells i c))) (keeps true) ∙ ap (λ n. F (position (is_for true p) cells) n) (keeps false)
 

@@ -248,8 +248,7 @@ new_stored count page_bytes pages room free len fits once =
     let cell : Kept = record { held = None; bytes = replicate page_bytes 0 } in
     let cells : List Kept = free_cells count page_bytes in
     let l : length (spots_in pages (free_cells count page_bytes)) ≡ pages = length-map-range_with_len (λ p. spot_in (free_cells count page_bytes) p) 0 pages in
-    let none : (k : Bool) (p : ℕ)
-    → position (is_for k p) (free_cells count page_bytes) ≡ None =
+    let none : (k : Bool) (p : ℕ) → position (is_for k p) (free_cells count page_bytes) ≡ None =
     λ k p. found_none (is_for k p) free_cell (free_cells count page_bytes) (found_new_cells k p count (replicate page_bytes 0)) in
     record {
       single = λ k p. omega (arith, found_new_cells k p count (replicate page_bytes 0));

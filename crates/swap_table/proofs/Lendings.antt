@@ -107,8 +107,7 @@ borrow_sent_serves keeps keeps' owes owes' s n H cs r t l k within local up kept
     let unmapped : (m : Lender) → IsLeasedFrom m (slabs.state_of r.slabs t) → ⊥ = λ m h. let P : SlabState → Type 0 = λ y. IsLeasedFrom m y in
     subst P local h in
     let unborrowed : (m : Lender) → slabs.state_of r.slabs t ≡ Borrowing m → ⊥ = λ m e. local_borrows m (sym local ∙ e) in
-    let each : (m : Lender) (y : Request) → IsAwaited s H cs r.slabs m y
-    → IsAwaited s H cs states' m y =
+    let each : (m : Lender) (y : Request) → IsAwaited s H cs r.slabs m y → IsAwaited s H cs states' m y =
     λ m y h.
     awaited_set s H cs r.slabs t (Borrowing l) m y (unmapped m)
     (borrows_not s H cs r.slabs t m y (local_asks m (slabs.state_of r.slabs t) local) (unborrowed m) h) h in

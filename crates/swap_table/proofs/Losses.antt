@@ -320,8 +320,7 @@ raised_serves keeps keeps' owes owes' s n H cs r l k within off kept owed none =
       page =
           λ q q_in.
           page_stays keeps keeps' s H r.links (rings.raised r.links l) q (has_page r q) (state_for s r.slabs q) (λ m j has.
-          let other : m.0 ≡ l.0
-          → ⊥ =
+          let other : m.0 ≡ l.0 → ⊥ =
           λ e.
           up_and_down r.links l m e off
           (up_of s r.links (slab_for s q) m j (state_for s r.slabs q) (k.slab (slab_for s q) (slab_within s q.0 q_in)) has) in

@@ -104,7 +104,6 @@ pub counted : (words : List ℕ) (first end n before last whole : ℕ) → ((k :
     → count_ones before + count_in (set_of words n) first end ≡ whole + count_ones last
 counted words first end n before last whole fits order within below is is' is'' =
     let long : length (set_of words n) ≡ n = length-set_of words n in
-    let all : count_ones (get_or words (first / 64) 0 % 2 ^ (first % 64)) + count_in (set_of words n) first end
-    ≡ sum_by count_ones (take (end / 64 - first / 64) (drop (first / 64) words)) + count_ones (get_or words (end / 64) 0 % 2 ^ (end % 64)) =
+    let all : count_ones (get_or words (first / 64) 0 % 2 ^ (first % 64)) + count_in (set_of words n) first end ≡ sum_by count_ones (take (end / 64 - first / 64) (drop (first / 64) words)) + count_ones (get_or words (end / 64) 0 % 2 ^ (end % 64)) =
     range_count (set_of words n) words first end (λ i lt. has_of words n i (omega arith)) fits order (omega arith) (omega arith) in
     ap (λ b. count_ones b + count_in (set_of words n) first end) is ∙ all ∙ ap (λ w. w + count_ones (get_or words (end / 64) 0 % 2 ^ (end % 64))) (sym is'') ∙ ap (λ l. whole + count_ones l) (sym is')

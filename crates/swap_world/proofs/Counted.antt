@@ -179,13 +179,12 @@ fault_answers :
     (d : Device) (page : List ℕ) (c : Caller) (p : Page) (k : CallKind) (since at : ℕ) (bytes : List ℕ) → Faults d c p k since at bytes
     → AnswersEvent d page (event.Finish c) (row_of d.history c p (op.Failed k since at) bytes)
 fault_answers d page c p k since at bytes (full state less) =
-    let P : CallState
-    → Type 0 =
+    let P : CallState → Type 0 =
     λ x. AnswersState x (call_of d.calls c).bytes (row_of d.history c p (op.Failed kind.PageOut since d.failed_writes) (call_of d.calls c).bytes) in
     (refl, subst P (sym state) (refl, tt, refl))
 fault_answers d page c p k since at bytes (unread {n = n} {v = v} state) =
-    let P : CallState
-    → Type 0 = λ x. AnswersState x (call_of d.calls c).bytes (row_of d.history c p (op.Failed kind.PageIn since d.failed_reads) (zeros d.sizes)) in
+    let P : CallState → Type 0 =
+    λ x. AnswersState x (call_of d.calls c).bytes (row_of d.history c p (op.Failed kind.PageIn since d.failed_reads) (zeros d.sizes)) in
     (refl, subst P (sym state) (refl, tt))
 
 pub comes_adds : (d d' : Device) (page : List ℕ) (e : Event) (s : Seen) → Comes d page e d' s → Adds d (record { event = e; page = page }) s d'.history

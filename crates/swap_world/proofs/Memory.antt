@@ -17,7 +17,8 @@ use Rattle.swap_wire.specs.Input.{Input, IsInRange}
 use Rattle.swap_wire.specs.declared.Event.{Event}
 use Rattle.swap_wire.specs.Fabric.{Parcel, FabricCall, FabricAnswer, FabricOf}
 use Rattle.swap_link.specs.Harbor.{Harbor, of_harbor, lender_of, KeepsAt, OwesAt, new_channel}
-use Rattle.swap_link.specs.Whole.{CallFits, IsHarbor, new_is_harbor}
+use Rattle.swap_link.specs.Whole.{CallFits, IsHarbor}
+use Rattle.swap_link.proofs.WholeLaws.{new_is_harbor}
 use Rattle.swap_calls.specs.Calls.{Call, Calls, call_of, state_of, idle}
 use Rattle.swap_calls.specs.declared.Arrived.{Arrived}
 use Rattle.swap_calls.specs.declared.CallState.{CallState}
@@ -44,7 +45,7 @@ use Rattle.swap_wire.specs.declared.Seen.{Seen}
 use Rattle.swap_slabs.specs.declared.TheConstants.{MOST_LENDERS}
 use Rattle.swap_table.specs.Fits.{IsBlank, Fits}
 use Rattle.swap_table.proofs.EachCall.{new_agrees}
-use Rattle.swap_link.specs.HarborLaws.{moves_keep_of}
+use Rattle.swap_link.specs.lemmas.HarborLaws.{moves_keep_of}
 use Rattle.swap_disk.specs.declared.port.DiskPort.{Ghosts as DiskMeaning}
 use Rattle.swap_wire.specs.declared.fabric.Fabric.{Ghosts as FabricMeaning}
 use Rattle.swap_table.specs.Promises.{Promises}
@@ -56,13 +57,13 @@ use Rattle.swap_disk.specs.Drive as drive
 use Rattle.swap_disk.specs.Follows as drives
 use Rattle.swap_wire.specs.declared.Event.TheVariants as event
 use Rattle.swap_link.specs.Harbor as harbor
-use Rattle.swap_link.specs.Whole as whole
+use Rattle.swap_link.proofs.WholeLaws as whole
 use Rattle.swap_calls.specs.Calls as calls
 use Rattle.swap_calls.specs.declared.Arrived.TheVariants as arrived
 use Rattle.swap_table.proofs.Keeps as keep
 use Rattle.swap_table.proofs.Accounting as accounting
-use Rattle.swap_link.specs.HarborLaws as harbors
-use Rattle.swap_link.specs.HarborLaws as harbors
+use Rattle.swap_link.specs.lemmas.HarborLaws as harbors
+use Rattle.swap_link.specs.lemmas.HarborLaws as harbors
 
 -- the disk and the lenders in memory, as ports
 abbrev pub drive_meaning : DiskMeaning Drive

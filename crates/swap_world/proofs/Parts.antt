@@ -400,8 +400,7 @@ module _ {D F : Type 0} (disk_moves : D → (c : DiskCall) → DiskAnswer c → 
       let over : Plan = each_lender times lenders 0 Stop in
       let later : AlongPlan disk_moves moves (each_lender times lenders 0 over) t.device t.disk t.fabric now.device now.disk now.fabric ((0 + second) + first) =
       ones over now.device now.disk now.fabric (0 + second) (twos Stop now.device now.disk now.fabric 0 (refl, refl, refl, refl)) in
-      let P : ℕ → ℕ
-      → Type 0 =
+      let P : ℕ → ℕ → Type 0 =
       λ x y.
       AlongPlan disk_moves moves (each_lender x y 0 (each_lender x y 0 Stop)) t.device t.disk t.fabric now.device now.disk now.fabric
       ((0 + second) + first) in

@@ -287,8 +287,7 @@ module _ {D F : Type 0} (disk : DiskMeaning D) (follows : FollowsItsMoves disk) 
           → IsReached disk fabric (record { device = d'; disk = k'; fabric = f'; spare = spare }) (logged_if (has_effect e s) log e s)
       go {e} {s} (by_program along) there = reached_by (record { event = e; page = i.page }) s d' k' f' spare (has_effect e s) refl there along
       go (by_plan {word = word} effects along is) there =
-          let P : Seen
-          → Type 0 =
+          let P : Seen → Type 0 =
           λ x.
           IsReached disk fabric (record { device = d'; disk = k'; fabric = f'; spare = spare })
           (logged_if (has_effect (event.Round word) x) log (event.Round word) x) in

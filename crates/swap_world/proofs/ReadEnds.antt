@@ -244,8 +244,7 @@ taken_reads T A c d p now t ends H k takes within h =
     let is_page : t.done.page ≡ page_of f = ap (λ (x : DiskDone). x.page) takes.is in
     let there : IsExpected T (pages_of d.sizes) d.sizes.callers d.queue d.calls f =
     found (IsExpected T (pages_of d.sizes) d.sizes.callers d.queue d.calls) t.done.which p.flights f takes.was k.agrees.expected in
-    let P : DiskWhich → Page
-    → Type 0 =
+    let P : DiskWhich → Page → Type 0 =
     λ w r.
     Reads c (with_read_end c (event.Disk w t.done.ok) (see_disk (took d w r t.done.ok t.bytes).1) ends) H
     (state_of (took d w r t.done.ok t.bytes).0.calls c) in

@@ -1,4 +1,4 @@
-use Rattle.swap_link.specs.Whole.{new_is_harbor, ask_keeps}
+use Rattle.swap_link.proofs.WholeLaws.{new_is_harbor, ask_keeps}
 use Rattle.swap_link.proofs.calls_keep.Goals as goal
 
 pub returns : goal.returns

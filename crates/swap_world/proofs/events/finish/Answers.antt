@@ -14,8 +14,8 @@ returns-clause-step g c =
     let before = c.args.device.now in
     let after = c.finish.new.self in
     let busy : is_idle (state_of before.device.calls c.args.caller) ≡ false = search rules in
-    let P : Prog (Device × Seen)
-    → Type 0 = λ p. Along g.D.DiskPort.moves g.F.Fabric.moves p before.disk before.fabric after.disk after.fabric (after.device, c.see_step.result) in
+    let P : Prog (Device × Seen) → Type 0 =
+    λ p. Along g.D.DiskPort.moves g.F.Fabric.moves p before.disk before.fabric after.disk after.fabric (after.device, c.see_step.result) in
     chosen P (is_idle (state_of before.device.calls c.args.caller)) _ _ (λ idles. cc)
     (λ _.
     rw c.see_step.ensures

@@ -14,8 +14,8 @@ returns-clause-step g c =
     let before = c.args.device.now in
     let after = c.read.new.self in
     let free : is_idle (state_of before.device.calls c.args.caller) ≡ true = search rules in
-    let P : Prog (Device × Seen)
-    → Type 0 = λ p. Along g.D.DiskPort.moves g.F.Fabric.moves p before.disk before.fabric after.disk after.fabric (after.device, c.see_in.result) in
+    let P : Prog (Device × Seen) → Type 0 =
+    λ p. Along g.D.DiskPort.moves g.F.Fabric.moves p before.disk before.fabric after.disk after.fabric (after.device, c.see_in.result) in
     chosen P (is_idle (state_of before.device.calls c.args.caller)) _ _
     (λ _.
     rw c.see_in.ensures

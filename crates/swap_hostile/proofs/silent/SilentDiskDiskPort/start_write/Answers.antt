@@ -3,7 +3,7 @@ use Rattle.swap_base.specs.declared.DiskWhich.TheVariants as which
 use Rattle.swap_disk.specs.Drive.{Drive, IsDrive}
 use Rattle.swap_disk.specs.Port.{IsFree, writes_in, StartWrite}
 use Rattle.swap_hostile.specs.Silent.{Silent, port_of, ask}
-use Rattle.swap_hostile.specs.SilentLaws.{free_behind, writes_hidden, drive_keeps}
+use Rattle.swap_hostile.specs.lemmas.SilentLaws.{free_behind, writes_hidden, drive_keeps}
 use Rattle.swap_hostile.proofs.silent.SilentDiskDiskPort.start_write.Goals as goal
 
 pub start_write-requires-clause-free : goal.start_write-requires-clause-free

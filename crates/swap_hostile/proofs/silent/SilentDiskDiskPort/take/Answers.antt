@@ -19,8 +19,7 @@ returns-in_err-which c =
 pub returns : goal.returns
 returns c =
     let V : Silent = record { drive = c.self.inside.disk; failing = c.self.inside.failing.items; ended = c.self.inside.ended } in
-    let T : Drive → ℕ
-    → Option Taken × Silent =
+    let T : Drive → ℕ → Option Taken × Silent =
     λ e n. ((drive.ask e TakeDone).0, record { drive = (drive.ask e TakeDone).1; failing = c.self.inside.failing.items; ended = n }) in
     let S : ℕ → Option Taken × Drive → Option Taken × Silent = λ n r. (r.0, record { drive = r.1; failing = c.self.inside.failing.items; ended = n }) in
     let oldest : oldest_in c.self.inside.disk.disk.flights ≡ Some c.in_ok-which.which = sym c.oldest.ensures ∙ c.in_ok-which.was in

@@ -3,7 +3,8 @@ use Rattle.swap_disk.specs.Disk.{Taken}
 use Rattle.swap_disk.specs.Port.{TakeDone, taken_by}
 use Rattle.swap_disk.specs.declared.DiskDone.{DiskDone}
 use Rattle.swap_hostile.specs.Silent.{Silent, Moves}
-use Rattle.swap_hostile.specs.Swapping.{swapped, swapped_by}
+use Rattle.swap_hostile.specs.Swapping.{swapped}
+use Rattle.swap_hostile.specs.lemmas.SwappingLaws.{swapped_by}
 use Rattle.swap_hostile.proofs.swapping.SwappingDiskDiskPort.take.Goals as goal
 
 pub returns : goal.returns

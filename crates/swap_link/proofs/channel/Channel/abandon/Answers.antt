@@ -1,7 +1,7 @@
 use Rattle.std.proofs.Common.{ap, ◌∙◌}
 use Rattle.swap_link.specs.Lane.{Lane}
 use Rattle.swap_link.specs.Channel.{Channel}
-use Rattle.swap_link.specs.Sound.{fits-gone, ready-again}
+use Rattle.swap_link.specs.lemmas.Sound.{fits-gone, ready-again}
 use Rattle.swap_link.proofs.channel.Channel.abandon.Goals as goal
 
 pub invariant_of-self : goal.invariant_of-self

@@ -2,7 +2,7 @@ use Rattle.std.proofs.Common.{◌≡◌, true, ap, ◌∙◌, subst}
 use Rattle.swap_link.specs.Lane.{Lane}
 use Rattle.swap_link.specs.Channel.{Channel}
 use Rattle.swap_link.specs.Fits.{ChannelFits}
-use Rattle.swap_link.specs.Sound.{fits-connect}
+use Rattle.swap_link.specs.lemmas.Sound.{fits-connect}
 use Rattle.swap_link.proofs.channel.Channel.connect.Goals as goal
 
 pub invariant_of-self : goal.invariant_of-self

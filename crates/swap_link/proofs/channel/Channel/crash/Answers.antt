@@ -1,6 +1,6 @@
 use Rattle.std.proofs.Common.{refl, ap}
 use Rattle.swap_link.specs.Lane.{Lane}
-use Rattle.swap_link.specs.Sound.{fits-crash}
+use Rattle.swap_link.specs.lemmas.Sound.{fits-crash}
 use Rattle.swap_link.proofs.channel.Channel.crash.Goals as goal
 
 pub invariant_of-self : goal.invariant_of-self

@@ -1,4 +1,4 @@
-use Rattle.swap_link.specs.Sound.{fits-host, ready-again}
+use Rattle.swap_link.specs.lemmas.Sound.{fits-host, ready-again}
 use Rattle.swap_link.proofs.channel.Channel.host.Goals as goal
 
 pub invariant_of-self : goal.invariant_of-self

@@ -1,5 +1,5 @@
 use Rattle.std.proofs.Common.{refl}
-use Rattle.swap_link.specs.Sound.{fits-gone, ready-again}
+use Rattle.swap_link.specs.lemmas.Sound.{fits-gone, ready-again}
 use Rattle.swap_link.proofs.channel.Channel.let_go.Goals as goal
 
 pub invariant_of-self : goal.invariant_of-self

@@ -3,7 +3,7 @@ use Rattle.swap_wire.specs.Fabric.{parcel_of}
 use Rattle.swap_lender.specs.Outbox.{Outgoing}
 use Rattle.swap_lender.specs.Table.{may_send}
 use Rattle.swap_link.specs.Channel.{Channel, channel_in, served, reply_of, forwarded}
-use Rattle.swap_link.specs.Sound.{fits-serve, ready-again, fine, not_fine, fits-refused, served-by_parts}
+use Rattle.swap_link.specs.lemmas.Sound.{fits-serve, ready-again, fine, not_fine, fits-refused, served-by_parts}
 use Rattle.swap_link.proofs.channel.Channel.serve.Goals as goal
 
 pub invariant_of-self : goal.invariant_of-self

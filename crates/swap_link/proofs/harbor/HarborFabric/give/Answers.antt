@@ -4,7 +4,7 @@ use Rattle.std.proofs.lemmas.List.Elements.{All-set, All-get_or}
 use Rattle.swap_wire.specs.declared.fabric.Gave.{Gave}
 use Rattle.swap_link.specs.Channel.{Channel}
 use Rattle.swap_link.specs.Harbor.{Harbor}
-use Rattle.swap_link.specs.Sound.{sizes-given}
+use Rattle.swap_link.specs.lemmas.Sound.{sizes-given}
 use Rattle.swap_link.proofs.harbor.HarborFabric.give.Goals as goal
 
 pub invariant_of-self : goal.invariant_of-self

@@ -3,7 +3,7 @@ use Rattle.std.proofs.lemmas.List.Elements.{All-set, All-get_or}
 use Rattle.swap_wire.specs.Fabric.{Handed}
 use Rattle.swap_link.specs.Channel.{Channel}
 use Rattle.swap_link.specs.Harbor.{Harbor}
-use Rattle.swap_link.specs.Sound.{sizes-taken}
+use Rattle.swap_link.specs.lemmas.Sound.{sizes-taken}
 use Rattle.swap_link.proofs.harbor.HarborFabric.take.Goals as goal
 
 pub invariant_of-self : goal.invariant_of-self

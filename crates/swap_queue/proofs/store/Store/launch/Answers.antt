@@ -18,8 +18,7 @@ invariant_of-self c =
     let read : c.index_mut-cell.result.now ≡ cell_at c.self.inside.cells.items c.args.place =
     cell_read c.self.inside.cells.items c.args.place c.index_mut-cell.result.now at.0 c.index_mut-cell.ensures.value in
     let F : Kept → Kept = λ x. record { held = with_flying true x.held; bytes = x.bytes } in
-    let P : Kept
-    → Type 0 =
+    let P : Kept → Type 0 =
     λ x.
     IsStored (set c.self.inside.cells.items c.args.place x)
     (set c.self.inside.spots.items c.args.page.0 (record { flying = Some c.args.place; next = None })) c.self.inside.free.items

@@ -59,8 +59,7 @@ invariant_of-self c =
     c.take_place-place.new.free.items next c.take_place-place.ensures.taken in
     let new : Kept = record { held = Some (record { page = c.args.page; entry = c.args.entry; flying = false }); bytes = c.args.bytes.now } in
     let G : Option ℕ → Spot = λ f. record { flying = f; next = Some c.take_place-place.result } in
-    let P : Kept → Spot → ℕ
-    → Type 0 =
+    let P : Kept → Spot → ℕ → Type 0 =
     λ x sp room.
     IsStored (set c.self.inside.cells.items c.take_place-place.result x)
     (set c.self.inside.spots.items c.args.page.0 sp) c.take_place-place.new.free.items room in

@@ -17,7 +17,7 @@ use Rattle.swap_link.specs.Channel.{Channel, sent, taken, taken_from, served, gi
 use Rattle.swap_link.specs.Fits.{IsSound, IsChannel}
 use Rattle.swap_link.specs.Keeping.{Unless, slot_page, left_by, left_after, Keeps, zero_page}
 use Rattle.swap_link.specs.Harbor.{lender_of}
-use Rattle.swap_link.specs.Slots.{IsLater, later-after, later-serve, slot_page-host}
+use Rattle.swap_link.specs.lemmas.Slots.{IsLater, later-after, later-serve, slot_page-host}
 
 pub unless : (b : Bool) (P : Type 0) → (b ≡ false → P) → Unless b P
 unless true P f = tt

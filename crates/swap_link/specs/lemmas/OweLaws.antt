@@ -24,9 +24,9 @@ use Rattle.swap_link.specs.Channel.{Channel, connected, sent, taken, taken_from,
 use Rattle.swap_link.specs.Fits.{IsSound, IsChannel}
 use Rattle.swap_link.specs.Keeping.{Unless, slot_page, left_by, left_after, Keeps, pages_in, Begins, GivenNone, IsGiven, FirstIs, AskedBy, ReadsOwed, zero_page, LaterOwed, Owes}
 use Rattle.swap_link.specs.Harbor.{lender_of}
-use Rattle.swap_link.specs.Sound.{lending-serve, lending-host}
-use Rattle.swap_link.specs.Slots.{IsLater, later-same, later-left, later-serve, next-serve, slot_page-host, next-host}
-use Rattle.swap_link.specs.KeepLaws.{unless, unless-map, unless-at, and-second, took-served}
+use Rattle.swap_link.specs.lemmas.Sound.{lending-serve, lending-host}
+use Rattle.swap_link.specs.lemmas.Slots.{IsLater, later-same, later-left, later-serve, next-serve, slot_page-host, next-host}
+use Rattle.swap_link.specs.lemmas.KeepLaws.{unless, unless-map, unless-at, and-second, took-served}
 
 -- lists that begin with pages
 

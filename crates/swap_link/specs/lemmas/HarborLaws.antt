@@ -12,8 +12,8 @@ use Rattle.swap_wire.specs.Fabric.{Parcel, write_parcel, read_parcel, Handed, Br
 use Rattle.swap_link.specs.Channel.{Channel, connected, sent, taken, taken_from, on_channel}
 use Rattle.swap_link.specs.Keeping.{Keeps, Owes}
 use Rattle.swap_link.specs.Harbor.{Harbor, of_harbor, no_channel, channel_of, with_channel, lender_of, ask, IsAsked, Moves, KeepsAt, OwesAt}
-use Rattle.swap_link.specs.KeepLaws.{keeps-call, keeps-write}
-use Rattle.swap_link.specs.OweLaws.{owes-call, owes-connected, owes-read, paged-taken}
+use Rattle.swap_link.specs.lemmas.KeepLaws.{keeps-call, keeps-write}
+use Rattle.swap_link.specs.lemmas.OweLaws.{owes-call, owes-connected, owes-read, paged-taken}
 use Rattle.swap_base.specs.Sizes.{Sizes}
 use Rattle.std.proofs.lemmas.List.Elements.{All-head}
 

@@ -20,7 +20,7 @@ use Rattle.swap_lender.specs.Lender.{Lender, blank, is_free, has_lease, first_wh
 use Rattle.swap_lender.specs.Table.{Turn, marked, mark_slot, settle_with, due, lend, write, may_reach, may_send, serve, done, host, measured, opens}
 use Rattle.swap_link.specs.Fits.{IsSound, lease_of, lease_at}
 use Rattle.swap_link.specs.Keeping.{slot_page, left_by, left_after}
-use Rattle.swap_link.specs.Sound.{length-marked, some-same, fewer-free, lease-set, reached}
+use Rattle.swap_link.specs.lemmas.Sound.{length-marked, some-same, fewer-free, lease-set, reached}
 
 -- what is known of a place stays so; where nothing is, there may be zeros, of a lease that was still to be given
 abbrev pub IsLater : ℕ → ℕ → List ℕ → Option (List ℕ) → Option (List ℕ) → Type 0

@@ -1,0 +1,3 @@
+pub mod SilentLaws
+pub mod SwappingLaws
+pub mod LyingLaws

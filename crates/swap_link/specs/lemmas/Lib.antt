@@ -1,0 +1,5 @@
+pub mod Sound
+pub mod Slots
+pub mod KeepLaws
+pub mod OweLaws
+pub mod HarborLaws
