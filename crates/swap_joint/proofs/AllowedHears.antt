@@ -166,8 +166,7 @@ module _ (n : ℕ) (d : Device) (h g : Harbor) (l : Lender) (q : Parcel) (all : 
       owing n d' g l word (others n d d' h g (Take l) (Brought q) moved sees (but l n d h all))
       (λ _ _. at_called (λ ch. Allowed d' l ch (saying word)) h g (Take l) (Brought q) moved
       (subst (λ ch. Allowed d' l ch (saying word)) (sym front.after)
-      (let P : Sizes
-      → Type 0 =
+      (let P : Sizes → Type 0 =
       λ z.
       Unless (channel_of h l).lender_gone
       (Allows z d'.remote.slabs (ring_of d'.remote.links l) l (channel_of h l).lender (channel_of h l).number front.rest

@@ -255,8 +255,7 @@ pub allowed_sent :
     → Allowed d l c [] → Allowed e l (with_message c q) []
 allowed_sent d e l c q sizes holds rings_ is frees awaited h =
     from_bare e l (with_message c q)
-    (let P : Sizes
-    → Type 0 =
+    (let P : Sizes → Type 0 =
     λ s.
     Unless c.lender_gone
     (Allows s e.remote.slabs (ring_of e.remote.links l) l c.lender c.number c.to_device.parcels (appended c.to_lender q).ended

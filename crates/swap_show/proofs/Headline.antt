@@ -95,7 +95,8 @@ module _ (laws : Laws) (t : Script) (few : length t.lenders ≤ MOST_LENDERS) wh
       let holds =
       laws.holds t.sizes (length t.lenders) (new_drive t.sizes) (new_harbor t.sizes t.lenders)
       (made_of runs.written) w.core.device w.core.disk w.core.fabric began runs.run in
-      let P : Device → Type 0 = λ d. IsRun drive.Moves harbor.Moves d first.core.disk first.core.fabric (made_of runs.written) w.core.device w.core.disk w.core.fabric in
+      let P : Device → Type 0 =
+      λ d. IsRun drive.Moves harbor.Moves d first.core.disk first.core.fabric (made_of runs.written) w.core.device w.core.disk w.core.fabric in
       let Q : Drive → Type 0 =
       λ k.
       IsRun drive.Moves harbor.Moves (new t.sizes (length t.lenders)) k first.core.fabric

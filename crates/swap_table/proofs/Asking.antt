@@ -169,7 +169,8 @@ query_serves keeps keeps' owes owes' s n H cs r t l state k within was home up q
     let slab_in : t.0 < length r.slabs = subst (λ m. t.0 < m) (sym k.slabs_len) within in
     let lender_in : l.0 < n = (k.link l).lender up in
     let link_in : l.0 < length r.links = subst (λ m. l.0 < m) (sym k.links_len) (omega (arith, lender_in, k.few)) in
-    let each : (m : Lender) (y : Request) → IsAwaited s H cs r.slabs m y → IsAwaited s H cs states' m y = λ m y h. awaited_home s H cs r.slabs t state m y slab_in was (more m) h in
+    let each : (m : Lender) (y : Request) → IsAwaited s H cs r.slabs m y → IsAwaited s H cs states' m y =
+    λ m y h. awaited_home s H cs r.slabs t state m y slab_in was (more m) h in
     record {
       slabs_len = length-set r.slabs t.0 state ∙ k.slabs_len;
       bits_len = k.bits_len;

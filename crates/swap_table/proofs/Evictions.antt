@@ -238,7 +238,8 @@ mapped_by_is states l k t found = by_place (position (λ state. slabs.has_lease 
         let there = position-Some (λ state. slabs.has_lease l k state) states i Local at in
         let u : Slab = record { 0 = i } in
         let same = slab_is u (slabs.is_mapped (slabs.state_of states u)) found in
-        let P : Slab → Type 0 = λ x. (slabs.has_lease l k (slabs.state_of states x) ≡ true) × (slabs.is_mapped (slabs.state_of states x) ≡ true) × (x.0 < length states) in
+        let P : Slab → Type 0 =
+        λ x. (slabs.has_lease l k (slabs.state_of states x) ≡ true) × (slabs.is_mapped (slabs.state_of states x) ≡ true) × (x.0 < length states) in
         let facts : P t = subst P same.1 (there.1, same.0, there.0) in
         of_state (slabs.state_of states t) refl facts.0 facts.1 facts.2
 

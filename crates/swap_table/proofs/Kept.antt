@@ -260,7 +260,8 @@ lets_finish_by T A d p now w ok answer (Some blocks) (Some f) flight k eb ef el 
 lets_finish_by T A d p now w ok answer (Some blocks) None None k eb ef el h = subst (λ x. FitsDisk T A d x) (sym h.1) k
 lets_finish_by T A d p now w ok answer (Some blocks) None (Some f) k eb ef el h =
     let before : Agrees T A (pages_of d.sizes) d.sizes.callers (zeros d.sizes) d.history d.queue (Some blocks) p.flights None d.calls =
-    let P : Option (List (List ℕ)) → Type 0 = λ b. Agrees T A (pages_of d.sizes) d.sizes.callers (zeros d.sizes) d.history d.queue b p.flights p.finished d.calls in
+    let P : Option (List (List ℕ)) → Type 0 =
+    λ b. Agrees T A (pages_of d.sizes) d.sizes.callers (zeros d.sizes) d.history d.queue b p.flights p.finished d.calls in
     let Q : Option Finished → Type 0 = λ g. Agrees T A (pages_of d.sizes) d.sizes.callers (zeros d.sizes) d.history d.queue (Some blocks) p.flights g d.calls in
     subst Q ef (subst P eb k.agrees) in
     subst (λ x. FitsDisk T A d x) (sym h.1.is)

@@ -384,7 +384,8 @@ written_maps keeps keeps' owes owes' s n H cs r l p e rest k up ring lease flyin
     let off : (j : Lender) → slabs.state_of r.slabs t ≡ Borrowing j → ⊥ = λ j e. mapped_borrows l j lease flying (sym is ∙ e) in
     let quiet : (j : Lender) → slabs.asks j (slabs.state_of r.slabs t) ≡ true → ⊥ = λ j h. mapped_asks l j lease flying (slabs.state_of r.slabs t) is h in
     let newest : Bool = is_newest (last H p) e && slabs.is_mapped (state_for s r.slabs p) in
-    let is_newest_too : newest ≡ true → last H p ≡ Some e = λ is. newest_is (last H p) e (and_first (is_newest (last H p) e) (slabs.is_mapped (state_for s r.slabs p)) is) in
+    let is_newest_too : newest ≡ true → last H p ≡ Some e =
+    λ is. newest_is (last H p) e (and_first (is_newest (last H p) e) (slabs.is_mapped (state_for s r.slabs p)) is) in
     let bits : List Bool = cond newest (with_number r.bits p.0) r.bits in
     let bits_len : length bits ≡ length r.bits = chosen_len newest r.bits p.0 in
     let bit_in : p.0 < length r.bits = subst (λ m. p.0 < m) (sym k.bits_len) page_in in

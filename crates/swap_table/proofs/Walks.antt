@@ -304,7 +304,8 @@ module _ (W : Within) (d : Device) (page : List ℕ) where
               (l : Lender) (x : Device) (t : Speaker) → t ≡ quiet x → Leaves W (lost d l) x
               → Goes (Move W) (λ (a : Device × InStep) s. (s ≡ quiet a.0) × Comes d page e a.0 (in_seen step a.1)) t (read_disk x c p m)
           read_after l x t same leaves =
-              let P : Speaker → Type 0 = λ y. Goes (Move W) (λ (a : Device × InStep) s. (s ≡ quiet a.0) × Comes d page e a.0 (in_seen step a.1)) y (read_disk x c p m) in
+              let P : Speaker → Type 0 =
+              λ y. Goes (Move W) (λ (a : Device × InStep) s. (s ≡ quiet a.0) × Comes d page e a.0 (in_seen step a.1)) y (read_disk x c p m) in
               subst P (sym same)
               (read_fares e c p m step may within is none x (leaves.ins c p (lost_ins W d l c p may)) within (ap (λ H. last H p) leaves.history ∙ is)
               (ap (λ k. queue.newest k p) leaves.queue ∙ none) (linked_trans d (lost d l) x (let_go as_was l) leaves.linked))

@@ -40,7 +40,8 @@ invariant_of-self c =
     spot_read c.self.inside.cells.items c.self.inside.spots.items _ _ c.args.page.0 c.index-spot.result.now c.self.invariant lt c.index-spot.ensures in
     let F : Kept → Kept = λ x. record { held = landed c.args.keeps x.held; bytes = x.bytes } in
     let G : Spot → Spot = λ x. record { flying = None; next = if c.args.keeps then Some c.args.place else x.next } in
-    let P : Kept → Spot → List ℕ → ℕ → Type 0 = λ x sp free room. IsStored (set c.self.inside.cells.items c.args.place x) (set c.self.inside.spots.items c.args.page.0 sp) free room in
+    let P : Kept → Spot → List ℕ → ℕ → Type 0 =
+    λ x sp free room. IsStored (set c.self.inside.cells.items c.args.place x) (set c.self.inside.spots.items c.args.page.0 sp) free room in
     subst (λ x. P x c.landed_spot.result c.give_back.new.free.items (vec_capacity c.give_back.new.free)) (sym (c.land-entry.ensures.cell ∙ ap F read))
     (subst (λ sp. P (F (cell_at c.self.inside.cells.items c.args.place)) sp c.give_back.new.free.items (vec_capacity c.give_back.new.free))
     (sym (c.landed_spot.ensures ∙ ap G spot))
