@@ -88,8 +88,8 @@ steps_to steps now after i is buf s step =
     ∙ steps now.core.device after.core.device now.core.disk after.core.disk now.core.fabric after.core.fabric
     (record { event = i.event; page = page_after (i ∷ is) buf }) s step
 
--- an entry that stands in a history stands in each that goes on from it
-has_entry : (H : History) (s : Seen) → StandsIn H s → HasEntry H s
+-- an entry that was seen is named by its line
+pub has_entry : (H : History) (s : Seen) → StandsIn H s → HasEntry H s
 has_entry H seen.Nothing h = tt
 has_entry H (seen.Done e sent) h = h
 has_entry H (seen.Fault e) h = h
@@ -119,6 +119,7 @@ has_entry H seen.Crashed h = tt
 has_entry H (seen.Hosted m a) h = tt
 has_entry H (seen.Rounded e m) h = tt
 
+-- an entry that stands in a history stands in each that goes on from it
 still_stands : (H : History) (more : History) (s : Seen) → HasEntry H s → HasEntry (more ++ H) s
 still_stands H more (seen.Done e sent) h = let l = length-append more H in omega (arith, l, h)
 still_stands H more (seen.Fault e) h = let l = length-append more H in omega (arith, l, h)

@@ -5,47 +5,15 @@ use Rattle.swap_base.specs.declared.EntryNo.{EntryNo}
 use Rattle.swap_wire.specs.Input.{Input}
 use Rattle.swap_wire.specs.declared.Event.{Event}
 use Rattle.swap_wire.specs.declared.Seen.{Seen}
-use Rattle.swap_wire.specs.declared.Seen.TheVariants as seen
 use Rattle.swap_wire.specs.declared.fabric.Fabric.{Ghosts as FabricMeaning}
 use Rattle.swap_disk.specs.declared.port.DiskPort.{Ghosts as DiskMeaning}
 use Rattle.swap_record.specs.History.{History, Row}
-use Rattle.swap_script.specs.Transcript.{HasEntry}
 use Rattle.swap_table.specs.Promises.{Promises}
 use Rattle.swap_world.specs.Failures.{HoldsEntry, HoldsEntriesSeen}
 use Rattle.swap_world.specs.Laws.{Began, Holds, HoldsAfterEach}
 use Rattle.swap_world.specs.Runs.{WorldOf, Written, Alone, Together, IsReached, StandsIn, entry_seen, made_of, logged_of}
+use Rattle.swap_run.proofs.Printed.{has_entry}
 use Rattle.swap_show.specs.Printing.{EntriesStand}
-
--- an entry that was seen is named by its line
-has_entry : (H : History) (s : Seen) → StandsIn H s → HasEntry H s
-has_entry H seen.Nothing h = tt
-has_entry H (seen.Done e sent) h = h
-has_entry H (seen.Fault e) h = h
-has_entry H seen.Room h = tt
-has_entry H seen.Busy h = tt
-has_entry H seen.Idle h = tt
-has_entry H (seen.Wait v) h = tt
-has_entry H (seen.Again v) h = tt
-has_entry H (seen.Started p e) h = tt
-has_entry H (seen.Written e) h = tt
-has_entry H (seen.WriteKept e) h = tt
-has_entry H (seen.WriteDropped e) h = tt
-has_entry H (seen.ReadCame p) h = tt
-has_entry H (seen.ReadFailed p) h = tt
-has_entry H seen.Ticked h = tt
-has_entry H (seen.Asked a b c) h = tt
-has_entry H seen.Borrowing h = tt
-has_entry H (seen.Linked l) h = tt
-has_entry H (seen.Gave m r e) h = tt
-has_entry H seen.GaveEnd h = tt
-has_entry H (seen.GaveEnded m) h = tt
-has_entry H (seen.Took m) h = tt
-has_entry H seen.Lost h = tt
-has_entry H seen.Lied h = tt
-has_entry H seen.Cut h = tt
-has_entry H seen.Crashed h = tt
-has_entry H (seen.Hosted m a) h = tt
-has_entry H (seen.Rounded e m) h = tt
 
 abbrev IsIn : History → Option EntryNo → Type 0
 IsIn H o = MatchOption o (Unit {0}) (λ (e : EntryNo). e.0 < length H)
