@@ -5,12 +5,16 @@ use Rattle.std.proofs.lemmas.List.{set_past, get_or_append_left, get_or-append_r
 use Rattle.std.proofs.lemmas.List.Sums.{sum_by-append}
 use Rattle.swap_bits.specs.Bits.{has, is_in_range, AddsOne, TakesOne, TakesRange, CountsParts, CountsOne, KeepsBound}
 
-pub adds_one : AddsOne
-adds_one s i j lt =
+-- the set with one value replaced
+pub has_set : (s : List Bool) (i j : ℕ) (v : Bool) → i < length s → has (set s i v) j ≡ cond (i == j) v (has s j)
+has_set s i j v lt =
     ⊎_elim
-    (λ (e : i ≡ j). ap (λ n. get_or (set s i true) n false) (sym e) ∙ get_or-set_same s i true false lt ∙ sym (cond-true (i == j) true (has s j) (eq-eqb i j e)))
-    (λ (ne : i ≢ j). get_or-set_other s i j true false (λ e. ne (sym e)) ∙ sym (cond-false (i == j) true (has s j) (ne_eqb i j ne)))
+    (λ (e : i ≡ j). ap (λ n. get_or (set s i v) n false) (sym e) ∙ get_or-set_same s i v false lt ∙ sym (cond-true (i == j) v (has s j) (eq-eqb i j e)))
+    (λ (ne : i ≢ j). get_or-set_other s i j v false (λ e. ne (sym e)) ∙ sym (cond-false (i == j) v (has s j) (ne_eqb i j ne)))
     (cases_eq i j)
+
+pub adds_one : AddsOne
+adds_one s i j lt = has_set s i j true lt
 
 cleared_here : (s : List Bool) (i : ℕ) → get_or (set s i false) i false ≡ false
 cleared_here s i =
