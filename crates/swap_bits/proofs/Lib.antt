@@ -1,1 +1,4 @@
 pub mod Numbers
+pub mod InWords
+pub mod Ranges
+pub mod Counts

@@ -5,12 +5,16 @@ use Rattle.std.proofs.lemmas.List.{set_past, get_or_append_left, get_or-append_r
 use Rattle.std.proofs.lemmas.List.Sums.{sum_by-append}
 use Rattle.swap_bits.specs.Bits.{has, is_in_range, AddsOne, TakesOne, TakesRange, CountsParts, CountsOne, KeepsBound}
 
-pub adds_one : AddsOne
-adds_one s i j lt =
+-- the set with one value replaced
+pub has_set : (s : List Bool) (i j : ℕ) (v : Bool) → i < length s → has (set s i v) j ≡ cond (i == j) v (has s j)
+has_set s i j v lt =
     ⊎_elim
-    (λ (e : i ≡ j). ap (λ n. get_or (set s i true) n false) (sym e) ∙ get_or-set_same s i true false lt ∙ sym (cond-true (i == j) true (has s j) (eq-eqb i j e)))
-    (λ (ne : i ≢ j). get_or-set_other s i j true false (λ e. ne (sym e)) ∙ sym (cond-false (i == j) true (has s j) (ne_eqb i j ne)))
+    (λ (e : i ≡ j). ap (λ n. get_or (set s i v) n false) (sym e) ∙ get_or-set_same s i v false lt ∙ sym (cond-true (i == j) v (has s j) (eq-eqb i j e)))
+    (λ (ne : i ≢ j). get_or-set_other s i j v false (λ e. ne (sym e)) ∙ sym (cond-false (i == j) v (has s j) (ne_eqb i j ne)))
     (cases_eq i j)
+
+pub adds_one : AddsOne
+adds_one s i j lt = has_set s i j true lt
 
 cleared_here : (s : List Bool) (i : ℕ) → get_or (set s i false) i false ≡ false
 cleared_here s i =
@@ -41,10 +45,12 @@ takes_range s first end i le within =
     get_or-append_right (take first s) (replicate (end - first) false ++ drop end s) first i false front after
     ∙ ⊎_elim
     (λ (inside : i < end).
-    get_or_append_left (replicate (end - first) false) (drop end s) false (i - first) (omega (arith, middle, inside, after)) ∙ get_or-replicate (end - first) (i - first) false false (omega (arith, inside, after))
+    get_or_append_left (replicate (end - first) false) (drop end s) false (i - first) (omega (arith, middle, inside, after))
+    ∙ get_or-replicate (end - first) (i - first) false false (omega (arith, inside, after))
     ∙ sym (cond-true (is_in_range first end i) false (has s i) (and_from (nat_le first i) (nat_lt i end) (le-leb first i after) (lt-ltb i end inside))))
     (λ (past : end ≤ i).
-    get_or-append_right (replicate (end - first) false) (drop end s) (end - first) (i - first) false middle (omega (arith, past, le)) ∙ get_or-drop end s (i - first - (end - first)) false
+    get_or-append_right (replicate (end - first) false) (drop end s) (end - first) (i - first) false middle (omega (arith, past, le))
+    ∙ get_or-drop end s (i - first - (end - first)) false
     ∙ ap (λ n. get_or s n false) (omega (arith, past, le, after))
     ∙ sym (cond-false (is_in_range first end i) false (has s i) (and_right (nat_le first i) (nat_lt i end) (le-ltb i end past))))
     (cases_lt i end))
@@ -55,7 +61,8 @@ counts_parts s first middle end le le' within =
     let split : take (end - first) (drop first s) ≡ take (middle - first) (drop first s) ++ take (end - middle) (drop middle s) =
     ap (λ n. take n (drop first s)) (omega (arith, le, le')) ∙ take-add (middle - first) (end - middle) (drop first s)
     ∙ ap (λ l. take (middle - first) (drop first s) ++ take (end - middle) l) (drop-drop (middle - first) first s ∙ ap (λ n. drop n s) (omega (arith, le))) in
-    ap (λ l. count_by (λ (b : Bool). b) l) split ∙ sum_by-append (λ (b : Bool). cond b 1 0) (take (middle - first) (drop first s)) (take (end - middle) (drop middle s))
+    ap (λ l. count_by (λ (b : Bool). b) l) split
+    ∙ sum_by-append (λ (b : Bool). cond b 1 0) (take (middle - first) (drop first s)) (take (end - middle) (drop middle s))
 
 pub counts_one : CountsOne
 counts_one s i lt =
@@ -68,5 +75,13 @@ keeps_bound s first end i le within = (
   length-set s i true,
   length-set s i false,
   length-append (take first s) (replicate (end - first) false ++ drop end s)
-      ∙ omega (arith, length-front s first (omega arith), length-append (replicate (end - first) false) (drop end s), length-replicate (end - first) false, length-drop end s, le, within),
+      ∙ omega (
+        arith,
+        length-front s first (omega arith),
+        length-append (replicate (end - first) false) (drop end s),
+        length-replicate (end - first) false,
+        length-drop end s,
+        le,
+        within,
+      ),
 )

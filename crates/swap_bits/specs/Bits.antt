@@ -29,21 +29,29 @@ is_in_range first end i = nat_le first i && nat_lt i end
 
 -- what each change makes of the set, number by number
 abbrev pub AddsOne : Type 0
-AddsOne = (set : List Bool) (i j : ℕ) → i < length set → has (with_number set i) j ≡ (if i == j then true else has set j)
+AddsOne =
+    (set : List Bool) (i j : ℕ) → i < length set → has (with_number set i) j ≡ (if i == j then true else has set j)
 
 abbrev pub TakesOne : Type 0
 TakesOne = (set : List Bool) (i j : ℕ) → has (without_number set i) j ≡ (if i == j then false else has set j)
 
 abbrev pub TakesRange : Type 0
-TakesRange = (set : List Bool) (first end i : ℕ) → first ≤ end → end ≤ length set → has (without_range set first end) i ≡ (if is_in_range first end i then false else has set i)
+TakesRange =
+    (set : List Bool) (first end i : ℕ) → first ≤ end → end ≤ length set
+    → has (without_range set first end) i ≡ (if is_in_range first end i then false else has set i)
 
 -- a count over a range is that of its two parts
 abbrev pub CountsParts : Type 0
-CountsParts = (set : List Bool) (first middle end : ℕ) → first ≤ middle → middle ≤ end → end ≤ length set → count_in set first end ≡ count_in set first middle + count_in set middle end
+CountsParts =
+    (set : List Bool) (first middle end : ℕ) → first ≤ middle → middle ≤ end → end ≤ length set
+    → count_in set first end ≡ count_in set first middle + count_in set middle end
 
 abbrev pub CountsOne : Type 0
 CountsOne = (set : List Bool) (i : ℕ) → i < length set → count_in set i (i + 1) ≡ (if has set i then 1 else 0)
 
 -- the bound stays
 abbrev pub KeepsBound : Type 0
-KeepsBound = (set : List Bool) (first end i : ℕ) → first ≤ end → end ≤ length set → (length (with_number set i) ≡ length set) × (length (without_number set i) ≡ length set) × (length (without_range set first end) ≡ length set)
+KeepsBound =
+    (set : List Bool) (first end i : ℕ) → first ≤ end → end ≤ length set
+    → (length (with_number set i) ≡ length set) × (length (without_number set i) ≡ length set)
+    × (length (without_range set first end) ≡ length set)

@@ -7,8 +7,7 @@ use Rattle.std.proofs.Math.Numerals.{add-one}
 use Rattle.std.proofs.Math.Nat.{div-lt_iff_lt-mul, le-div_iff_mul-le, suc-mul, mul_comm, mul-le-mul_right}
 use Rattle.swap_base.specs.declared.Lender.{Lender}
 use Rattle.swap_base.specs.Sizes.{Sizes, pages_of, slab_of}
-use Rattle.swap_bits.specs.Bits.{has, is_in_range, without_range}
-use Rattle.swap_bits.proofs.Numbers.{takes_range, keeps_bound}
+use Rattle.swap_bits.specs.Bits.{has, is_in_range, without_range, TakesRange, KeepsBound}
 use Rattle.swap_slabs.specs.declared.SlabState.{SlabState}
 use Rattle.swap_slabs.specs.Slabs.{state_of, is_at}
 use Rattle.swap_remote.specs.Remote.{left_from}
@@ -72,9 +71,9 @@ kept_more s states lender bits now n away k = record {
       (cases_eq (slab_of s q) n);
 }
 
-pub cleared_more : (s : Sizes) (states : List SlabState) (lender : Lender) (bits now : List Bool) (n e : ℕ) → e ≡ s.pages_per_slab → 0 < e → n * e + e ≤ length now → at states lender n ≡ true → IsLeft s states lender bits now n
+pub cleared_more : TakesRange → KeepsBound → (s : Sizes) (states : List SlabState) (lender : Lender) (bits now : List Bool) (n e : ℕ) → e ≡ s.pages_per_slab → 0 < e → n * e + e ≤ length now → at states lender n ≡ true → IsLeft s states lender bits now n
     → IsLeft s states lender bits (without_range now (n * e) (n * e + e)) (n + 1)
-cleared_more s states lender bits now n e is_e some within here k = record {
+cleared_more takes_range keeps_bound s states lender bits now n e is_e some within here k = record {
   len = (keeps_bound now (n * e) (n * e + e) 0 (omega arith) within).2 ∙ k.len;
   each =
       λ q. takes_range now (n * e) (n * e + e) q (omega arith) within

@@ -12,7 +12,7 @@ use arrayvec::ArrayVec;
 use std::alloc::Global;
 use std::marker::Model;
 use swap_base::{Geometry, Lease, Lender, NoMemory, Page, Slab};
-use swap_bits::PageBits;
+use swap_bits::{PageBits, is_a_set};
 use swap_choice::{Asked, two_lenders};
 use swap_rings::{Request, Rings};
 use swap_slabs::{Chosen, MOST_LENDERS, Reply, SlabState, Slabs};
@@ -138,6 +138,7 @@ fn clear_at(geometry: &Geometry, slabs: &Slabs, bits: &mut PageBits, lender: Len
 {
     let each = geometry.pages_per_slab();
     geometry.limits();
+    is_a_set();
     for slab in 0..geometry.slabs() {
         if is_at(slabs.state(Slab(slab)), lender) {
             bits.clear_range(slab * each, slab * each + each);

@@ -20,7 +20,7 @@ loop-slab-preserved c =
     let state = ap (λ x. slabs.is_at c.args.lender x) c.state.ensures in
     elim c.if-is_at.branch [
       | then-is_at w ↦
-          rw (w.bits-is, w.clear_range.ensures) (cleared_more _ _ _ _ _ _ _ each some within (sym state ∙ sym c.is_at.ensures ∙ w.if-is_at.true) c.loop-slab.invariant)
+          rw (w.bits-is, w.clear_range.ensures) (cleared_more c.is_a_set.ensures.clear_range c.is_a_set.ensures.bound _ _ _ _ _ _ _ each some within (sym state ∙ sym c.is_at.ensures ∙ w.if-is_at.true) c.loop-slab.invariant)
       | else-is_at w ↦ rw w.bits-is (kept_more _ _ _ _ _ _ (sym state ∙ sym c.is_at.ensures ∙ w.if-is_at.false) c.loop-slab.invariant)
     ]
 
