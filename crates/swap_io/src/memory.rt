@@ -1,4 +1,4 @@
-ghost use Rattle.std.specs.Prelude.{◌≡◌, ℕ, ◌<◌, ◌≤◌, [], length, take, drop, IfOk, Some};
+ghost use Rattle.std.specs.Prelude.{◌≡◌, ℕ, ◌<◌, ◌≤◌, [], length, take, drop, IfOk, OnOk, Some};
 ghost use Rattle.std.specs.Io.{ReadsAtMost, WritesAtMost};
 ghost use Rattle.std.specs.Io.KnownBytes.{ReadConsumes, WriteAppends};
 ghost use Rattle.swap_io.specs.Causes.{HasCause};
@@ -55,6 +55,7 @@ impl Source for MemSource {
         ensures bound { ReadsAtMost result buf.new }
         ensures bytes { ReadConsumes (Some self.old.left) (Some self.new.left) result buf.new }
         ensures cause { HasCause self.old.faults self.new.faults result }
+        ensures unfailed { OnOk result (self.new.faults ≡ self.old.faults) }
         ensures result { result ≡ read_gives self.old (length buf.old) }
         ensures after { self.new ≡ after_read self.old (length buf.old) }
         ensures given { IfOk result (λ n. (take n buf.new ≡ take n self.old.left) × (drop n buf.new ≡ drop n buf.old)) }

@@ -1,4 +1,4 @@
-ghost use Rattle.std.specs.Prelude.{◌≡◌, ◌<◌, length, is_ok, if◌then◌else◌, IfOk};
+ghost use Rattle.std.specs.Prelude.{◌≡◌, ◌<◌, length, is_ok, if◌then◌else◌, IfOk, OnOk};
 ghost use Rattle.std.specs.Io.{ReadsAtMost, WritesAtMost};
 ghost use Rattle.std.specs.Io.KnownBytes.{ReadConsumes, WriteAppends};
 ghost use Rattle.swap_io.specs.Causes.{HasCause};
@@ -41,6 +41,7 @@ impl<R: Read + Drop> Source for StdSource<R> {
         ensures bound { ReadsAtMost result buf.new }
         ensures bytes { ReadConsumes self.old.bytes self.new.bytes result buf.new }
         ensures cause { HasCause self.old.faults self.new.faults result }
+        ensures unfailed { OnOk result (self.new.faults ≡ self.old.faults) }
         ensures count { self.new.faults ≡ (if is_ok result then self.old.faults else raised self.old.faults) }
     {
         let Ok(n) = self.reader.read(buf) else {

@@ -67,11 +67,12 @@ impl Record {
         let _entries = &self.entries;
     }
 
-    /// Makes room for `n` more entries; after a refusal all is as before.
+    /// Makes room for `n` more entries; after a refusal all is as before. Memory is wanting only where there is less room.
     pub fn reserve(&mut self, n: u32) -> Result<(), ReserveRefused>
         ensures ok { OnOk result (self.new ≡ record self.old { spare = max self.old.spare n }) }
         ensures err { OnErr result (self.new ≡ self.old) }
         ensures too_many { (result ≡ Err ReserveRefused.TooMany) ↔ (4_194_304 < length self.old.history + n) }
+        ensures no_memory { result ≡ Err ReserveRefused.NoMemory → self.old.spare < n }
     {
         if n > MOST_ENTRIES - self.entries.len() as u32 {
             return Err(ReserveRefused::TooMany);

@@ -1,8 +1,9 @@
 -- Each move keeps what a table of slabs is, and the lenders' rows agree after it.
-use Rattle.std.proofs.Common.{◌≡◌, ◌≢◌, ℕ, ◌+◌, ◌-◌, ◌<◌, ◌≤◌, ◌^◌, Bool, true, false, ◌&&◌, ◌==◌, List, [], ◌∷◌, ◌++◌, length, get_or, set, find, position, option_map, count_by, refl, sym, ap, ◌∙◌, subst, arith, Option, None, Some, IsSome, ⊎_elim, length-set, eq-eqb, ne_eqb, eqb-true}
+use Rattle.std.proofs.Common.{◌≡◌, ◌≢◌, ℕ, ◌+◌, ◌-◌, ◌<◌, ◌≤◌, ◌^◌, Bool, true, false, ◌&&◌, ◌==◌, List, length, get_or, set, find, position, option_map, count_by, refl, sym, ap, ◌∙◌, subst, arith, Option, None, Some, IsSome, ⊎_elim, length-set, eq-eqb, ne_eqb, eqb-true}
 use Rattle.std.proofs.lemmas.Bool.{cases_eq, cases_Bool, cond-true, cond-false, false≢true, and_parts, and_right, and_from}
-use Rattle.std.proofs.lemmas.List.{length_push}
-use Rattle.std.proofs.lemmas.List.Sums.{sum_by_push, get_or-le-sum_by, count_by-le-length}
+use Rattle.std.specs.List.{insert}
+use Rattle.std.proofs.lemmas.List.Edits.{length-insert}
+use Rattle.std.proofs.lemmas.List.Sums.{sum_by-insert, get_or-le-sum_by, count_by-le-length}
 use Rattle.swap_base.specs.declared.Slab.{Slab}
 use Rattle.swap_base.specs.declared.Lender.{Lender}
 use Rattle.swap_base.specs.declared.Lease.{Lease}
@@ -14,7 +15,7 @@ use Rattle.swap_slabs.specs.declared.row.Leased.{Leased}
 use Rattle.swap_slabs.specs.declared.TheConstants.{MOST_LENDERS, MOST_FLYING}
 use Rattle.swap_slabs.specs.Slabs.{state_of, with_state, is_local, is_mapped, lender_of, leased_of, is_lender, is_leased_at, is_lease, is_at, has_lease_at, has_lease, flying_of, replied, waits, by_lease}
 use Rattle.swap_slabs.specs.Kept.{IsSecond, StateFits, IsSlabs}
-use Rattle.swap_slabs.specs.Rows.{LenderRow, has_number, is_entry, without, row_of, one, RowFits, Fits}
+use Rattle.swap_slabs.specs.Rows.{LenderRow, has_number, is_entry, without, row_of, one, Puts, RowFits, Fits}
 use Rattle.swap_slabs.proofs.Change.{count_after, state_here, state_other, slabs_after, fits_same, fits_row, length-without, without-count, entry_of, entry_slab, count_none}
 
 pub local_is : (state : SlabState) → is_local state ≡ true → state ≡ Local
@@ -146,10 +147,10 @@ and_true : (b : Bool) → (b && true) ≡ b
 and_true true = refl
 and_true false = refl
 
-lent_entry : (states : List SlabState) (slab : Slab) (l : Lender) (k : Lease) (leases : List Leased) → slab.0 < length states → state_of states slab ≡ Borrowing l → ((j : Lease) (s : Slab) → count_by (λ e. is_entry j s e) leases ≡ one (has_lease l j (state_of states s)))
-    → (j : Lease) (s : Slab) → count_by (λ e. is_entry j s e) (leases ++ record { lease = k; slab = slab } ∷ []) ≡ one (has_lease l j (state_of (set states slab.0 (Mapped l k 0)) s))
-lent_entry states slab l k leases lt was each j s =
-    let added = sum_by_push (λ (e : Leased). one (is_entry j s e)) leases (record { lease = k; slab = slab }) in
+lent_entry : (states : List SlabState) (slab : Slab) (l : Lender) (k : Lease) (leases : List Leased) (i : ℕ) → slab.0 < length states → state_of states slab ≡ Borrowing l → ((j : Lease) (s : Slab) → count_by (λ e. is_entry j s e) leases ≡ one (has_lease l j (state_of states s)))
+    → (j : Lease) (s : Slab) → count_by (λ e. is_entry j s e) (insert leases i (record { lease = k; slab = slab })) ≡ one (has_lease l j (state_of (set states slab.0 (Mapped l k 0)) s))
+lent_entry states slab l k leases i lt was each j s =
+    let added = sum_by-insert (λ (e : Leased). one (is_entry j s e)) leases i (record { lease = k; slab = slab }) in
     ⊎_elim
     (λ (e : s.0 ≡ slab.0).
     let old_ : one (has_lease l j (state_of states s)) ≡ 0 = ap (λ n. one (has_lease l j (get_or states n Local))) e ∙ ap (λ x. one (has_lease l j x)) was in
@@ -163,18 +164,18 @@ lent_entry states slab l k leases lt was each j s =
     (cases_eq s.0 slab.0)
 
 pub lent_fits : (states : List SlabState) (slab : Slab) (table : List LenderRow) (m : ℕ) (l : Lender) (k : Lease) (row' : LenderRow) → slab.0 < length states → Fits states table m → state_of states slab ≡ Borrowing l → l.0 < MOST_LENDERS → by_lease states l k ≡ None
-    → row' ≡ record (row_of table l) { leases = (row_of table l).leases ++ record { lease = k; slab = slab } ∷ [] } → Fits (with_state states slab (Mapped l k 0)) (set table l.0 row') (m + 1)
-lent_fits states slab table m l k row' lt h was within new made =
+    → Puts (row_of table l) (record { lease = k; slab = slab }) row' → Fits (with_state states slab (Mapped l k 0)) (set table l.0 row') (m + 1)
+lent_fits states slab table m l k row' lt h was within new (i, le, made) =
     let row : RowFits states l (row_of table l) = h.row l within in
     let st : SlabState = Mapped l k 0 in
     let P : LenderRow → Type 0 = λ r. Fits (with_state states slab (Mapped l k 0)) (set table l.0 r) (m + 1) in
     subst P (sym made)
-    (fits_row states slab (Mapped l k 0) lt table m (m + 1) l (record (row_of table l) { leases = (row_of table l).leases ++ record { lease = k; slab = slab } ∷ [] }) h (lent_slabs states slab l k lt h.slabs within new) within
+    (fits_row states slab (Mapped l k 0) lt table m (m + 1) l (record (row_of table l) { leases = insert (row_of table l).leases i (record { lease = k; slab = slab }) }) h (lent_slabs states slab l k lt h.slabs within new) within
     (λ other ne. (lender_at (state_of states slab) other l (ap lender_of was) ne, not_other other l ne))
     (record {
       held = omega (arith, row.held, count_after states slab (Mapped l k 0) lt (λ state. is_at l state), ap (λ x. one (is_at l x)) was);
-      leases = lent_entry states slab l k (row_of table l).leases lt was row.leases;
-      number = omega (arith, row.number, count_after states slab (Mapped l k 0) lt (λ state. has_lease_at l state), ap (λ x. one (has_lease_at l x)) was, ap one (is_lender_self l), length_push (row_of table l).leases (record { lease = k; slab = slab }));
+      leases = lent_entry states slab l k (row_of table l).leases i lt was row.leases;
+      number = omega (arith, row.number, count_after states slab (Mapped l k 0) lt (λ state. has_lease_at l state), ap (λ x. one (has_lease_at l x)) was, ap one (is_lender_self l), length-insert (row_of table l).leases i (record { lease = k; slab = slab }) le);
       room = omega (arith, row.room, length-set states slab.0 (Mapped l k 0));
     })
     (omega (arith, ap (λ x. one (is_mapped x)) was)))

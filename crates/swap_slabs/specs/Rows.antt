@@ -1,5 +1,7 @@
 -- The index of the slabs by their lenders, which no state depends on.
-use Rattle.std.specs.Prelude.{◌≡◌, ℕ, ◌<◌, ◌≤◌, ◌^◌, Bool, ◌&&◌, ◌==◌, if◌then◌else◌, List, [], ◌∷◌, length, count_by, find, option_map, slice_index_or, Option}
+use Rattle.std.specs.Prelude.{◌≡◌, ℕ, ◌<◌, ◌≤◌, ◌^◌, Bool, true, false, nat_lt, ◌&&◌, ◌==◌, if◌then◌else◌, List, [], ◌∷◌, length, count_by, find, option_map, slice_index_or, Option}
+use Rattle.std.specs.List.{insert}
+use Rattle.std.specs.List.Sorted.{IsNonDecreasingBy, IsPartitionPoint}
 use Rattle.swap_base.specs.declared.Slab.{Slab}
 use Rattle.swap_base.specs.declared.Lender.{Lender}
 use Rattle.swap_base.specs.declared.Lease.{Lease}
@@ -23,6 +25,24 @@ has_number lease l = l.lease.0 == lease.0
 
 abbrev pub is_entry : Lease → Slab → Leased → Bool
 is_entry lease slab l = (l.lease.0 == lease.0) && (l.slab.0 == slab.0)
+
+-- no lease is below one before it
+abbrev pub number_of : Leased → ℕ
+number_of l = l.lease.0
+
+abbrev pub Ascend : List Leased → Type 0
+Ascend leases = IsNonDecreasingBy number_of leases
+
+-- the leases before a place are below this one, and the others aren't
+abbrev pub is_below : Lease → Leased → Bool
+is_below lease l = nat_lt (number_of l) lease.0
+
+abbrev pub IsPlace : Lease → List Leased → ℕ → Type 0
+IsPlace lease leases i = IsPartitionPoint (λ l. is_below lease l ≡ true) (λ l. is_below lease l ≡ false) leases i
+
+-- one lease more stands somewhere among the others
+abbrev pub Puts : LenderRow → Leased → LenderRow → Type 0
+Puts before leased after = (i : ℕ) × (i ≤ length before.leases) × (after ≡ record before { leases = insert before.leases i leased })
 
 -- the leases without the first of this number
 abbrev pub without : Lease → List Leased → List Leased

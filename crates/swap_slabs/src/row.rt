@@ -1,5 +1,5 @@
-ghost use Rattle.std.specs.Prelude.{◌≡◌, ℕ, ◌+◌, ◌-◌, ◌<◌, ◌^◌, ◌++◌, [], ◌∷◌, length, IfOk, IsSome, find, position, nat_lt};
-ghost use Rattle.swap_slabs.specs.Rows.{new_row, has_number, without, slab_in};
+ghost use Rattle.std.specs.Prelude.{◌≡◌, ℕ, ◌+◌, ◌-◌, ◌<◌, ◌≤◌, ◌^◌, length, IfOk, IsSome, find, position, nat_lt};
+ghost use Rattle.swap_slabs.specs.Rows.{new_row, has_number, without, slab_in, Ascend, IsPlace, Puts};
 
 use std::alloc::{AllocError, Global};
 use std::marker::Model;
@@ -13,7 +13,8 @@ pub(crate) struct Leased {
 }
 
 /// What one lender has of the slabs: how many are borrowed from it, mapped to it or drain at it, and the
-/// leases of those that are mapped or drain. It has room for a lease of every slab.
+/// leases of those that are mapped or drain, ascending, so that one is found by halving. It has room for a lease
+/// of every slab.
 #[derive(Drop)]
 pub(crate) struct Row {
     held: u32,
@@ -23,13 +24,13 @@ pub(crate) struct Row {
 
 impl Model for Row {
     ghost use Rattle.std.specs.Prelude.{◌≤◌, vec_capacity};
-    ghost use Rattle.swap_slabs.specs.Rows.{LenderRow};
+    ghost use Rattle.swap_slabs.specs.Rows.{LenderRow, Ascend};
 
     ghost Value = { LenderRow };
 
     ghost view = { λ r. record { held = r.held; leases = r.leases.items; room = r.room } };
 
-    ghost invariant = { λ r. r.room ≤ vec_capacity r.leases };
+    ghost invariant = { λ r. (r.room ≤ vec_capacity r.leases) × Ascend r.leases.items };
 }
 
 impl Row {
@@ -69,9 +70,10 @@ impl Row {
     /// A slab has a lease.
     pub(crate) fn add(&mut self, leased: Leased)
         requires { length self.old.leases < self.old.room }
-        ensures { self.new ≡ record self.old { leases = self.old.leases ++ leased ∷ [] } }
+        ensures { Puts self.old leased self.new }
     {
-        self.leases.push_reserved(leased);
+        let place = place_for(&self.leases, leased.lease);
+        self.leases.insert(place, leased).unwrap();
     }
 
     /// A slab no longer has its lease, and isn't at the lender.
@@ -97,13 +99,34 @@ impl Row {
     pub(crate) fn find(&self, lease: Lease) -> Option<Slab>
         ensures { result ≡ slab_in lease self.now.leases }
     {
-        let leased = self.leases.iter().find(|leased| leased.lease.0 == lease.0)?;
-        Some(leased.slab)
+        match place_of(&self.leases, lease) {
+            Some(place) => Some(self.leases[place].slab),
+            None => None,
+        }
     }
 }
 
+/// Where a lease stands among ascending ones, or would.
+fn place_for(leases: &[Leased], lease: Lease) -> usize
+    requires { Ascend leases.now }
+    ensures within { result ≤ length leases.now }
+    ensures place { IsPlace lease leases.now result }
+{
+    leases.partition_point(|leased| leased.lease.0 < lease.0)
+}
+
+/// Where a lease stands among ascending ones, if it does.
 fn place_of(leases: &[Leased], lease: Lease) -> Option<usize>
+    requires { Ascend leases.now }
     ensures { result ≡ position (has_number lease) leases.now }
 {
-    leases.iter().position(|leased| leased.lease.0 == lease.0)
+    let place = place_for(leases, lease);
+    if place == leases.len() {
+        return None;
+    }
+    if leases[place].lease.0 == lease.0 {
+        Some(place)
+    } else {
+        None
+    }
 }

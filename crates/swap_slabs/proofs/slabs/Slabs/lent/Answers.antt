@@ -1,10 +1,10 @@
-use Rattle.std.proofs.Common.{◌≡◌, ◌<◌, List, [], ◌∷◌, ◌++◌, length, sym, ap, ◌∙◌, subst, arith, None}
+use Rattle.std.proofs.Common.{◌≡◌, ◌<◌, List, length, sym, ◌∙◌, subst, arith, None}
 use Rattle.swap_slabs.specs.declared.SlabState.{SlabState}
 use Rattle.swap_slabs.specs.declared.SlabState.TheVariants.{Borrowing}
 use Rattle.swap_slabs.specs.declared.TheConstants.{MOST_LENDERS}
 use Rattle.swap_slabs.specs.Slabs.{state_of, by_lease}
 use Rattle.swap_slabs.specs.Kept.{StateFits, IsNew}
-use Rattle.swap_slabs.specs.Rows.{LenderRow}
+use Rattle.swap_slabs.specs.Rows.{LenderRow, Puts}
 use Rattle.swap_slabs.proofs.RowReads.{row_read, state_read}
 use Rattle.swap_slabs.proofs.Moves.{lent_fits, lent_room}
 use Rattle.swap_slabs.proofs.slabs.Slabs.lent.Goals as goal
@@ -31,5 +31,5 @@ invariant_of-self c =
     let within : c.in-Borrowing.lender.0 < MOST_LENDERS = subst StateFits was (c.self.invariant.slabs.fits c.args.slab) in
     let read = row_read c.self.inside.states.items c.self.inside.rows.items c.self.inside.mapped c.in-Borrowing.lender c.self.invariant within c.index_mut-row.result.now c.index_mut-row.ensures.value in
     let new : by_lease c.self.inside.states.items c.in-Borrowing.lender c.args.lease ≡ None = subst (λ s. IsNew c.self.inside.states.items s c.args.lease) was (subst (λ (l : List SlabState). IsNew l (state_of l c.args.slab) c.args.lease) (sym c.self.view_is) c.requires.lease) in
-    let F : LenderRow → LenderRow = λ r. record r { leases = r.leases ++ record { lease = c.args.lease; slab = c.args.slab } ∷ [] } in
-    lent_fits c.self.inside.states.items c.args.slab c.self.inside.rows.items c.self.inside.mapped c.in-Borrowing.lender c.args.lease c.add.new.self lt c.self.invariant was within new (c.add.ensures ∙ ap F read)
+    let P : LenderRow → Type 0 = λ r. Puts r (record { lease = c.args.lease; slab = c.args.slab }) c.add.new.self in
+    lent_fits c.self.inside.states.items c.args.slab c.self.inside.rows.items c.self.inside.mapped c.in-Borrowing.lender c.args.lease c.add.new.self lt c.self.invariant was within new (subst P read c.add.ensures)
