@@ -1,5 +1,5 @@
 -- What a line tells of its event: what was seen, and where that is an entry the entry itself, as it is printed.
-use Rattle.std.specs.Prelude.{ℕ, if◌then◌else◌, List, [], ◌∷◌, Option, None, Some, replicate, codes}
+use Rattle.std.specs.Prelude.{ℕ, if◌then◌else◌, List, [], ◌∷◌, length, Option, None, Some, replicate, codes}
 use Rattle.swap_base.specs.declared.Page.{Page}
 use Rattle.swap_base.specs.declared.EntryNo.{EntryNo}
 use Rattle.swap_base.specs.declared.Lender.{Lender}
@@ -35,6 +35,20 @@ page_word size word = pattern size word >>= λ page. if is_word (shortest page) 
 abbrev pub bytes_at : ℕ → Words → Option (List ℕ × Words)
 bytes_at size [] = None
 bytes_at size (word ∷ words) = page_word size word >>= λ bytes. Some (bytes, words)
+
+-- what a word that is read as a page leaves: the page that its pattern fills, or the page as it was
+abbrev pub filled_or : List ℕ → Option (List ℕ) → List ℕ
+filled_or page None = page
+filled_or page (Some filled) = filled
+
+abbrev pub page_left : List ℕ → Words → List ℕ
+page_left page [] = page
+page_left page (word ∷ words) = filled_or page (pattern (length page) word)
+
+-- and the words behind it
+abbrev pub behind_first : Words → Words
+behind_first [] = []
+behind_first (word ∷ words) = words
 
 -- the entry that a page-in names, if it names one
 abbrev pub named_word : List ℕ → Option (Option EntryNo)

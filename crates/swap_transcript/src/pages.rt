@@ -3,7 +3,8 @@ ghost use Rattle.std.specs.Prelude.{◌≡◌, ◌≤◌, ◌==◌, length, repl
 ghost use Rattle.std.specs.List.{list_any};
 ghost use Rattle.swap_base.specs.Sizes.{page_lengths};
 ghost use Rattle.std.specs.Option.{option_map};
-ghost use Rattle.swap_transcript.specs.Told.{page_word, bytes_at};
+ghost use Rattle.swap_transcript.specs.Told.{page_word, bytes_at, filled_or, page_left, behind_first};
+ghost use Rattle.swap_io.specs.Words.{pattern};
 
 use std::alloc::Global;
 use std::marker::Model;
@@ -56,10 +57,12 @@ impl PageRead {
         self.page.fill(0);
     }
 
-    /// A page at the front of the words.
+    /// A page at the front of the words. A word that is none is taken too, and leaves what its pattern fills.
     pub fn read_at(&mut self, words: &mut Words<'_>) -> Option<()>
         ensures page { option_map (λ _. (self.new, words.new)) result ≡ bytes_at (length self.old) words.old }
         ensures size { length self.new ≡ length self.old }
+        ensures left { self.new ≡ page_left self.old words.old }
+        ensures words { words.new ≡ behind_first words.old }
     {
         page_by_word(words.next()?, &mut self.page, &mut self.word)
     }
@@ -69,7 +72,8 @@ impl PageRead {
 fn page_by_word(word: &[u8], page: &mut [u8], shortest: &mut LineBuf) -> Option<()>
     requires length { IsTrue (list_any (λ n. length page.old == n) page_lengths) }
     requires few { length page.old ≤ 4_096 }
-    ensures { option_map (λ _. page.new) result ≡ page_word (length page.old) word.now }
+    ensures page { option_map (λ _. page.new) result ≡ page_word (length page.old) word.now }
+    ensures left { page.new ≡ filled_or page.old (pattern (length page.old) word.now) }
 {
     if !pattern(word, page) {
         return None;
