@@ -1,3 +1,4 @@
 pub mod BlocksLaws
-pub mod RunningLaws
-pub mod RunningMoves
+pub mod Numbers
+pub mod FlightMoves
+pub mod DriveMoves
