@@ -1,6 +1,6 @@
 use Rattle.std.proofs.Common.{◌∙◌}
-use Rattle.swap_tests.proofs.Alone.{without_alone}
-use Rattle.swap_tests.proofs.tests.file.taken.Goals as goal
+use Rattle.swap_host_tests.proofs.Alone.{without_alone}
+use Rattle.swap_host_tests.proofs.tests.file.taken.Goals as goal
 
 pub returns-in-Some-take-clause-idle : goal.returns-in-Some-take-clause-idle
 returns-in-Some-take-clause-idle g c =

@@ -1,5 +1,5 @@
 use Rattle.std.proofs.Common.{◌≡◌}
-use Rattle.swap_tests.proofs.tests.net.arrived.Given as goal
+use Rattle.swap_host_tests.proofs.tests.net.arrived.Given as goal
 
 abbrev pub invariant-loop : goal.invariant-loop
 invariant-loop g l =

@@ -1,5 +1,5 @@
 use Rattle.std.proofs.Common.{◌≡◌, length}
-use Rattle.swap_tests.proofs.tests.file.taken.Given as goal
+use Rattle.swap_host_tests.proofs.tests.file.taken.Given as goal
 
 abbrev pub invariant-loop : goal.invariant-loop
 invariant-loop g l =
