@@ -1,0 +1,5 @@
+//! Tests of crates below the drill: what no clause of theirs says.
+#![tactic(auto)]
+
+#[cfg(test)]
+mod tests;
