@@ -1,4 +1,4 @@
-//! Tests of crates below the drill: what no clause of theirs says.
+//! Tests of the crates below the drill and the player: what no clause of theirs says.
 #![tactic(auto)]
 
 #[cfg(test)]
