@@ -92,6 +92,3 @@ impl Rate {
 pub fn near_exact()
     ensures { (periods : List ℕ) → IsNearExact periods }
 {}
-
-#[cfg(test)]
-mod tests;

@@ -8,6 +8,3 @@ mod slots;
 pub use lenders::{Asked, Side, better, first_pick, two_lenders};
 pub use sets::{least, picked};
 pub use slots::{SLOTS, has_slot, slot_at, slot_count, with_slot, without_slot};
-
-#[cfg(test)]
-mod tests;

@@ -6,6 +6,3 @@ mod tcp_door;
 
 pub use streams::{TcpSink, TcpSource};
 pub use tcp_door::{TcpDoor, socket_address};
-
-#[cfg(test)]
-mod tests;

@@ -11,8 +11,6 @@ use std::marker::Model;
 use std::sync::{Arc, Wait};
 
 mod bell;
-#[cfg(test)]
-mod tests;
 
 pub use bell::{Bell, SharedBell};
 

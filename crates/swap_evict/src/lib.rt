@@ -90,6 +90,3 @@ impl EvictRound {
         Some(least(&self.values, standing, count))
     }
 }
-
-#[cfg(test)]
-mod tests;

@@ -10,8 +10,6 @@ mod lender;
 mod outbox;
 mod peers;
 mod slots;
-#[cfg(test)]
-mod tests;
 
 pub use lender::LenderCore;
 pub use outbox::Outbox;

@@ -6,8 +6,6 @@ ghost use Rattle.swap_link.specs.Whole.{NewIsHarbor, AskKeeps};
 mod channel;
 mod harbor;
 mod lane;
-#[cfg(test)]
-mod tests;
 
 pub use harbor::Harbor;
 

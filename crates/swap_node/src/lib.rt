@@ -8,6 +8,3 @@ mod send;
 
 pub use node::{Delivered, Ear, Node};
 pub use replies::Replies;
-
-#[cfg(test)]
-mod tests;

@@ -24,6 +24,3 @@ pub fn rows()
     ensures lend { LendRows }
     ensures play { PlayRows }
 {}
-
-#[cfg(test)]
-mod tests;

@@ -2,7 +2,5 @@
 #![tactic(auto)]
 
 mod remote;
-#[cfg(test)]
-mod tests;
 
 pub use remote::Remote;

@@ -3,8 +3,6 @@
 
 mod link;
 mod rings;
-#[cfg(test)]
-mod tests;
 
 pub use rings::Rings;
 use swap_base::{Caller, EntryNo, Page, Slab};

@@ -5,8 +5,6 @@ ghost use Rattle.swap_slabs.specs.Kept.{SetsState, AllLocalKeeps, AskKeeps, Answ
 
 mod row;
 mod slabs;
-#[cfg(test)]
-mod tests;
 
 pub use slabs::Slabs;
 use swap_base::{Lease, Lender};

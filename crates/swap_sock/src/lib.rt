@@ -16,6 +16,3 @@ pub use memory::{Counts, MemDoor, MemHost};
 pub fn rows()
     ensures { AddressRows }
 {}
-
-#[cfg(test)]
-mod tests;

@@ -39,6 +39,3 @@ pub fn draws_are_in_range()
 pub fn rows()
     ensures draws { DrawRows }
 {}
-
-#[cfg(test)]
-mod tests;

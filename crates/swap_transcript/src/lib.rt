@@ -53,6 +53,3 @@ pub fn rows()
     ensures noted { NotedRows }
     ensures refused { RefusedRows }
 {}
-
-#[cfg(test)]
-mod tests;

@@ -18,6 +18,3 @@ pub fn laws()
     ensures more { MoreAdded }
     ensures earlier { EarlierStill }
 {}
-
-#[cfg(test)]
-mod tests;

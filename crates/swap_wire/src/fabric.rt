@@ -143,6 +143,3 @@ pub trait Fabric {
     /// What is owed stays so until a read is sent, a page is taken, or the link ends.
     ghost owed_until: { (f : Self) (c : FabricCall) (r : FabricAnswer c) (g : Self) (l : Lender) (pages : List (List ℕ)) → moves f c r g → owes f l pages → changes_owing l c r ≡ false → owes g l pages };
 }
-
-#[cfg(test)]
-mod tests;

@@ -1,0 +1,29 @@
+//! A file for each crate; of `swap_wire` the frames in `wire` and the links in `fabric`.
+
+mod activity;
+mod bits;
+mod calls;
+mod choice;
+mod disk;
+mod door;
+mod ends;
+mod evict;
+mod fabric;
+mod io;
+mod lender;
+mod link;
+mod node;
+mod options;
+mod places;
+mod queue;
+mod rates;
+mod record;
+mod remote;
+mod rings;
+mod script;
+mod slabs;
+mod sock;
+mod trace;
+mod transcript;
+mod turn;
+mod wire;

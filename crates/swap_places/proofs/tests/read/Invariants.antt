@@ -1,6 +1,0 @@
-use Rattle.std.proofs.Common.{◌≡◌, ℕ, true, IfSome}
-use Rattle.swap_places.specs.Line.{stands}
-use Rattle.swap_places.proofs.tests.read.Given as goal
-
-abbrev pub invariant-loop : goal.invariant-loop
-invariant-loop l = IfSome l.at (λ (k : ℕ). stands l.line.numbers k ≡ true)

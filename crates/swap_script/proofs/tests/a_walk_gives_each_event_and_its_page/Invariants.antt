@@ -1,5 +1,0 @@
-use Rattle.std.proofs.Common.{◌≡◌}
-use Rattle.swap_script.proofs.tests.a_walk_gives_each_event_and_its_page.Given as goal
-
-abbrev pub invariant-loop-want : goal.invariant-loop-want
-invariant-loop-want g l = l.walk.sizes.page_bytes ≡ 8

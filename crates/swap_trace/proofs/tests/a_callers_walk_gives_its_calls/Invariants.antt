@@ -1,5 +1,0 @@
-use Rattle.std.proofs.Common.{◌≡◌}
-use Rattle.swap_trace.proofs.tests.a_callers_walk_gives_its_calls.Given as goal
-
-abbrev pub invariant-loop-want : goal.invariant-loop-want
-invariant-loop-want g l = l.walk.sizes.page_bytes ≡ 8

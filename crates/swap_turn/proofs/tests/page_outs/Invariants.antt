@@ -1,6 +1,0 @@
-use Rattle.std.proofs.Common.{◌≡◌}
-use Rattle.swap_turn.specs.Standing.{IsFreeOf}
-use Rattle.swap_turn.proofs.tests.page_outs.Given as goal
-
-abbrev pub invariant-pages : goal.invariant-pages
-invariant-pages g l = IsFreeOf l.lock l.pass × (l.pass.number ≡ l.initial.pass.number)
