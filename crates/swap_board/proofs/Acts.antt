@@ -37,34 +37,52 @@ few_since seed (Made by i s ∷ acts) are = are.1
 few_since seed (Polled step ∷ acts) are = few_since seed acts are
 
 module _ {D F : Type 0} (disk_moves : D → (c : DiskCall) → DiskAnswer c → D → Type 0) (moves : F → (c : FabricCall) → FabricAnswer c → F → Type 0) where
-  acted_on : (first : Device) (k0 : D) (f0 : F) (acts : List Act) (d : Device) (k : D) (f : F) (new : List Act) (d' : Device) (k' : D) (f' : F) → of_device d ≡ of_device first → IsActed disk_moves moves first k0 f0 acts d k f → IsActed disk_moves moves d k f new d' k' f' → IsActed disk_moves moves first k0 f0 (new ++ acts) d' k' f'
+  acted_on :
+      (first : Device) (k0 : D) (f0 : F) (acts : List Act) (d : Device) (k : D) (f : F) (new : List Act) (d' : Device) (k' : D) (f' : F)
+      → of_device d ≡ of_device first → IsActed disk_moves moves first k0 f0 acts d k f → IsActed disk_moves moves d k f new d' k' f'
+      → IsActed disk_moves moves first k0 f0 (new ++ acts) d' k' f'
   acted_on first k0 f0 acts d k f new d' k' f' same run opens = run
   acted_on first k0 f0 acts d k f new d' k' f' same run (makes {acts = before} {d = e} {k = ke} {f = fe} by i s da ka fa more range step) =
-      makes by i s da ka fa (acted_on first k0 f0 acts d k f before e ke fe same run more) (let P : FabricOf → Type 0 = λ o. IsInRange o.sizes o.lenders i.event in subst P same range) step
+      makes by i s da ka fa (acted_on first k0 f0 acts d k f before e ke fe same run more)
+      (let P : FabricOf → Type 0 = λ o. IsInRange o.sizes o.lenders i.event in subst P same range) step
   acted_on first k0 f0 acts d k f new d' k' f' same run (polls {acts = before} {d = e} {k = ke} {f = fe} step da ka fa more along) =
       polls step da ka fa (acted_on first k0 f0 acts d k f before e ke fe same run more) along
 
   -- one call after others
-  pub makes_on : (first w w' : WorldOf D F) (acts new : List Act) → Makes disk_moves moves acts first w → Makes disk_moves moves new w w' → Makes disk_moves moves (new ++ acts) first w'
+  pub makes_on :
+      (first w w' : WorldOf D F) (acts new : List Act) → Makes disk_moves moves acts first w → Makes disk_moves moves new w w'
+      → Makes disk_moves moves (new ++ acts) first w'
   makes_on first w w' acts new was now = record {
-    acted = acted_on first.core.device first.core.disk first.core.fabric acts w.core.device w.core.disk w.core.fabric new w'.core.device w'.core.disk w'.core.fabric was.of was.acted now.acted;
-    logged = now.logged ∙ ap (λ l. l ++ lines_of new) was.logged ∙ append_assoc first.log (lines_of acts) (lines_of new) ∙ ap (λ l. first.log ++ l) (sym (lines_of-append new acts));
+    acted =
+        acted_on first.core.device first.core.disk first.core.fabric acts w.core.device w.core.disk w.core.fabric new w'.core.device w'.core.disk w'.core.fabric
+        was.of was.acted now.acted;
+    logged =
+        now.logged ∙ ap (λ l. l ++ lines_of new) was.logged ∙ append_assoc first.log (lines_of acts) (lines_of new)
+        ∙ ap (λ l. first.log ++ l) (sym (lines_of-append new acts));
     of = now.of ∙ was.of;
   }
 
   -- nothing, one event, and a poll
-  pub makes_none : (w w' : WorldOf D F) → w'.core.device ≡ w.core.device → w'.core.disk ≡ w.core.disk → w'.core.fabric ≡ w.core.fabric → w'.log ≡ w.log → Makes disk_moves moves [] w w'
+  pub makes_none :
+      (w w' : WorldOf D F) → w'.core.device ≡ w.core.device → w'.core.disk ≡ w.core.disk → w'.core.fabric ≡ w.core.fabric → w'.log ≡ w.log
+      → Makes disk_moves moves [] w w'
   makes_none w w' ed ek ef el = record { acted = rw (ed, ek, ef) opens; logged = el ∙ sym (append-nil w.log); of = ap of_device ed }
 
-  pub makes_step : (w w' : WorldOf D F) (by : Maker) (i : Input) (s : Seen) → IsInRange w.core.device.sizes w.core.device.lenders i.event → IsEvent disk_moves moves w.core.device w.core.disk w.core.fabric i s w'.core.device w'.core.disk w'.core.fabric
-      → w'.log ≡ logged_if (has_effect i.event s) w.log i.event s → of_device w'.core.device ≡ of_device w.core.device → Makes disk_moves moves (Made by i s ∷ []) w w'
+  pub makes_step :
+      (w w' : WorldOf D F) (by : Maker) (i : Input) (s : Seen) → IsInRange w.core.device.sizes w.core.device.lenders i.event
+      → IsEvent disk_moves moves w.core.device w.core.disk w.core.fabric i s w'.core.device w'.core.disk w'.core.fabric
+      → w'.log ≡ logged_if (has_effect i.event s) w.log i.event s → of_device w'.core.device ≡ of_device w.core.device
+      → Makes disk_moves moves (Made by i s ∷ []) w w'
   makes_step w w' by i s range step logged of = record {
     acted = makes by i s w'.core.device w'.core.disk w'.core.fabric opens range step;
     logged = logged ∙ line_if-logged (has_effect i.event s) w.log i.event s;
     of = of;
   }
 
-  pub makes_poll : (w w' : WorldOf D F) (step : DiskStep) → Along disk_moves moves (disk_take w.core.device) w.core.disk w.core.fabric w'.core.disk w'.core.fabric (w'.core.device, step) → w'.log ≡ logged_polled step w.log → of_device w'.core.device ≡ of_device w.core.device
+  pub makes_poll :
+      (w w' : WorldOf D F) (step : DiskStep)
+      → Along disk_moves moves (disk_take w.core.device) w.core.disk w.core.fabric w'.core.disk w'.core.fabric (w'.core.device, step)
+      → w'.log ≡ logged_polled step w.log → of_device w'.core.device ≡ of_device w.core.device
       → Makes disk_moves moves (Polled step ∷ []) w w'
   makes_poll w w' step along logged of = record {
     acted = polls step w'.core.device w'.core.disk w'.core.fabric opens along;
@@ -73,8 +91,12 @@ module _ {D F : Type 0} (disk_moves : D → (c : DiskCall) → DiskAnswer c → 
   }
 
   -- one event after room was made
-  pub makes_after : (w w1 w' : WorldOf D F) (by : Maker) (i : Input) (s : Seen) → w1.core.device ≡ w.core.device → w1.core.disk ≡ w.core.disk → w1.core.fabric ≡ w.core.fabric → w1.log ≡ w.log → IsInRange w.core.device.sizes w.core.device.lenders i.event
-      → IsEvent disk_moves moves w1.core.device w1.core.disk w1.core.fabric i s w'.core.device w'.core.disk w'.core.fabric → w'.log ≡ logged_if (has_effect i.event s) w1.log i.event s → of_device w'.core.device ≡ of_device w1.core.device → Makes disk_moves moves (Made by i s ∷ []) w w'
+  pub makes_after :
+      (w w1 w' : WorldOf D F) (by : Maker) (i : Input) (s : Seen) → w1.core.device ≡ w.core.device → w1.core.disk ≡ w.core.disk → w1.core.fabric ≡ w.core.fabric
+      → w1.log ≡ w.log → IsInRange w.core.device.sizes w.core.device.lenders i.event
+      → IsEvent disk_moves moves w1.core.device w1.core.disk w1.core.fabric i s w'.core.device w'.core.disk w'.core.fabric
+      → w'.log ≡ logged_if (has_effect i.event s) w1.log i.event s → of_device w'.core.device ≡ of_device w1.core.device
+      → Makes disk_moves moves (Made by i s ∷ []) w w'
   makes_after w w1 w' by i s ed ek ef el range step logged of =
       let P : Device → Type 0 = λ d. IsInRange d.sizes d.lenders i.event in
       makes_on w w1 w' [] (Made by i s ∷ []) (makes_none w w1 ed ek ef el) (makes_step w1 w' by i s (subst P (sym ed) range) step logged of)

@@ -34,7 +34,10 @@ use Rattle.swap_board.proofs.Working.{works_same}
 
 -- acts of a player that begin no call leave every count
 abbrev pub AreQuiet : List Act → Type 0
-AreQuiet new = (seed : Lcg) (first : ℕ) (acts : List Act) → AreMade seed acts → calls_since acts ≤ PACE → AreMade seed (new ++ acts) × (calls_since (new ++ acts) ≡ calls_since acts) × (calls_in (new ++ acts) ≡ calls_in acts) × (drawn seed (new ++ acts) ≡ drawn seed acts) × (operated (new ++ acts) ≡ operated acts) × (places first (new ++ acts) ≡ places first acts)
+AreQuiet new =
+    (seed : Lcg) (first : ℕ) (acts : List Act) → AreMade seed acts → calls_since acts ≤ PACE
+    → AreMade seed (new ++ acts) × (calls_since (new ++ acts) ≡ calls_since acts) × (calls_in (new ++ acts) ≡ calls_in acts)
+    × (drawn seed (new ++ acts) ≡ drawn seed acts) × (operated (new ++ acts) ≡ operated acts) × (places first (new ++ acts) ≡ places first acts)
 
 abbrev pub IsQuiet : Event → Type 0
 IsQuiet e = IsPlayers e × ((n : ℕ) → since_after e n ≡ n) × ((n : ℕ) → calls_after e n ≡ n)
@@ -66,14 +69,20 @@ module _ {D F : Type 0} (disk_moves : D → (c : DiskCall) → DiskAnswer c → 
   pub point_quiet : (means : D → Port) (p : Point) (acts : List Act) (w w' : WorldOf D F) → WorksAt disk_moves moves means p acts w w' → AreQuiet acts
   point_quiet means point.Disk acts w w' at_ =
       subst AreQuiet (sym at_.acts_are)
-      (quiet_polled at_.step (ends (known w.core.device.sizes at_.oldest) at_.end_page at_.end_seen ++ Made Player (record { event = event.Start; page = at_.start_page }) at_.start_seen ∷ [])
-      (quiet_ends (known w.core.device.sizes at_.oldest) at_.end_page at_.end_seen (Made Player (record { event = event.Start; page = at_.start_page }) at_.start_seen ∷ [])
+      (quiet_polled at_.step
+      (ends (known w.core.device.sizes at_.oldest) at_.end_page at_.end_seen
+      ++ Made Player (record { event = event.Start; page = at_.start_page }) at_.start_seen ∷ [])
+      (quiet_ends (known w.core.device.sizes at_.oldest) at_.end_page at_.end_seen
+      (Made Player (record { event = event.Start; page = at_.start_page }) at_.start_seen ∷ [])
       (quiet_more (record { event = event.Start; page = at_.start_page }) at_.start_seen [] (tt, λ n. refl, λ n. refl) quiet_none)))
-  point_quiet means (point.Give l) acts w w' (page, s, is) = subst AreQuiet (sym is) (quiet_more (record { event = event.Give l; page = page }) s [] (tt, λ n. refl, λ n. refl) quiet_none)
-  point_quiet means (point.Take l) acts w w' (page, s, is) = subst AreQuiet (sym is) (quiet_more (record { event = event.Take l; page = page }) s [] (tt, λ n. refl, λ n. refl) quiet_none)
+  point_quiet means (point.Give l) acts w w' (page, s, is) =
+      subst AreQuiet (sym is) (quiet_more (record { event = event.Give l; page = page }) s [] (tt, λ n. refl, λ n. refl) quiet_none)
+  point_quiet means (point.Take l) acts w w' (page, s, is) =
+      subst AreQuiet (sym is) (quiet_more (record { event = event.Take l; page = page }) s [] (tt, λ n. refl, λ n. refl) quiet_none)
 
   -- the board after quiet acts
-  pub board_quiet : (n : Named D F) (w w' : WorldOf D F) (begun since : ℕ) (placed : List ℕ) (words : Lcg) (new : List Act) → AreQuiet new → Works disk_moves moves new w w'
+  pub board_quiet :
+      (n : Named D F) (w w' : WorldOf D F) (begun since : ℕ) (placed : List ℕ) (words : Lcg) (new : List Act) → AreQuiet new → Works disk_moves moves new w w'
       → IsBoard disk_moves moves n w begun since placed words → IsBoard disk_moves moves n w' begun since placed words
   board_quiet n w w' begun since placed words new quiet works b =
       let q = quiet (seed_of n.number) (length b.first.log) b.acts b.made (few_since (seed_of n.number) b.acts b.made) in
@@ -96,17 +105,26 @@ module _ {D F : Type 0} (disk_moves : D → (c : DiskCall) → DiskAnswer c → 
       }
 
   -- and in a world with other room
-  pub board_same : (n : Named D F) (w w' : WorldOf D F) (begun since : ℕ) (placed : List ℕ) (words : Lcg) → IsSame w w' → IsBoard disk_moves moves n w begun since placed words → IsBoard disk_moves moves n w' begun since placed words
+  pub board_same :
+      (n : Named D F) (w w' : WorldOf D F) (begun since : ℕ) (placed : List ℕ) (words : Lcg) → IsSame w w'
+      → IsBoard disk_moves moves n w begun since placed words
+      → IsBoard disk_moves moves n w' begun since placed words
   board_same n w w' begun since placed words same b = board_quiet n w w' begun since placed words [] quiet_none (works_same disk_moves moves w w' same) b
 
   -- the board after a point was worked at
-  pub pumped_board : (means : D → Port) (n : Named D F) (w w' : WorldOf D F) (begun since : ℕ) (placed : List ℕ) (words : Lcg) (p : Point) (m : Moved) → PumpsAs disk_moves moves means p m w w'
+  pub pumped_board :
+      (means : D → Port) (n : Named D F) (w w' : WorldOf D F) (begun since : ℕ) (placed : List ℕ) (words : Lcg) (p : Point) (m : Moved)
+      → PumpsAs disk_moves moves means p m w w'
       → IsBoard disk_moves moves n w begun since placed words → IsBoard disk_moves moves n w' begun since placed words
-  pumped_board means n w w' begun since placed words p moved.Did pumps b = board_quiet n w w' begun since placed words pumps.acts (point_quiet means p pumps.acts w w' pumps.at_point) pumps.works b
-  pumped_board means n w w' begun since placed words p moved.Nothing pumps b = board_quiet n w w' begun since placed words pumps.acts (point_quiet means p pumps.acts w w' pumps.at_point) pumps.works b
+  pumped_board means n w w' begun since placed words p moved.Did pumps b =
+      board_quiet n w w' begun since placed words pumps.acts (point_quiet means p pumps.acts w w' pumps.at_point) pumps.works b
+  pumped_board means n w w' begun since placed words p moved.Nothing pumps b =
+      board_quiet n w w' begun since placed words pumps.acts (point_quiet means p pumps.acts w w' pumps.at_point) pumps.works b
   pumped_board means n w w' begun since placed words p moved.NoMemory same b = board_same n w w' begun since placed words same b
 
-  pub pumped_of : (means : D → Port) (w w' : WorldOf D F) (p : Point) (m : Moved) → PumpsAs disk_moves moves means p m w w' → of_device w'.core.device ≡ of_device w.core.device
+  pub pumped_of :
+      (means : D → Port) (w w' : WorldOf D F) (p : Point) (m : Moved) → PumpsAs disk_moves moves means p m w w'
+      → of_device w'.core.device ≡ of_device w.core.device
   pumped_of means w w' p moved.Did pumps = pumps.works.makes.of
   pumped_of means w w' p moved.Nothing pumps = pumps.works.makes.of
   pumped_of means w w' p moved.NoMemory same = ap of_device same.device
@@ -127,7 +145,9 @@ record PacedOn (seed : Lcg) (acts new : List Act) (since1 : ℕ) (words1 : Lcg) 
   pub operated_same : operated (new ++ acts) ≡ operated acts
   pub placed : places first (new ++ acts) ≡ places first acts
 
-paced_by : (seed : Lcg) (acts : List Act) (since : ℕ) (g : Lcg) (page : List ℕ) (s : Seen) (since1 : ℕ) (words1 : Lcg) (first : ℕ) (b : Bool) → nat_le PACE since ≡ b → since ≡ calls_since acts → g ≡ drawn seed acts → AreMade seed acts
+paced_by :
+    (seed : Lcg) (acts : List Act) (since : ℕ) (g : Lcg) (page : List ℕ) (s : Seen) (since1 : ℕ) (words1 : Lcg) (first : ℕ) (b : Bool) → nat_le PACE since ≡ b
+    → since ≡ calls_since acts → g ≡ drawn seed acts → AreMade seed acts
     → since1 ≡ cond b 0 since → words1 ≡ drawn g (cond b (Made Pacer (record { event = event.Round (pcg32 g).0; page = page }) s ∷ []) [])
     → PacedOn seed acts (cond b (Made Pacer (record { event = event.Round (pcg32 g).0; page = page }) s ∷ []) []) since1 words1 first
 paced_by seed acts since g page s since1 words1 first true due is_since is_g are now after = record {
@@ -150,17 +170,23 @@ paced_by seed acts since g page s since1 words1 first false due is_since is_g ar
 }
 
 -- what was added to a history, as it is seen of the call
-pub call_adds : (d : Device) (page : List ℕ) (e : Event) (s : Seen) (before H : History) → d.history ≡ before → IsCall e → ((row : Row) → H ≡ row ∷ d.history → TellsFault s row.entry.op) → Adds d (record { event = e; page = page }) s H → AddsEntry (IsAnswered e page) before s H
+pub call_adds :
+    (d : Device) (page : List ℕ) (e : Event) (s : Seen) (before H : History) → d.history ≡ before → IsCall e
+    → ((row : Row) → H ≡ row ∷ d.history → TellsFault s row.entry.op) → Adds d (record { event = e; page = page }) s H
+    → AddsEntry (IsAnswered e page) before s H
 call_adds d page e s before H same is told (nothing none now) = boards.nothing none (now ∙ same)
 call_adds d page e s before H same is told (one row seen_ now answers) =
-    boards.one row (seen_ ∙ ap (λ (x : History). Some (record { 0 = length x })) same) (now ∙ ap (λ (x : History). row ∷ x) same) (call_answers e is answers) (told row now)
+    boards.one row (seen_ ∙ ap (λ (x : History). Some (record { 0 = length x })) same) (now ∙ ap (λ (x : History). row ∷ x) same) (call_answers e is answers)
+    (told row now)
   where
     call_answers : (e : Event) → IsCall e → AnswersCall d (record { event = e; page = page }) row → IsAnswered e page row
     call_answers (event.PageOut c p) is a = a
     call_answers (event.PageIn c p) is a = a
     call_answers e is a = absurd is
 
-pub finish_adds : (d d1 : Device) (page : List ℕ) (c : Caller) (s : Seen) (H : History) → d1 ≡ d → ((row : Row) → H ≡ row ∷ d1.history → TellsFault s row.entry.op) → Adds d1 (record { event = event.Finish c; page = page }) s H → AddsEntry (IsAnswerTo d c) d.history s H
+pub finish_adds :
+    (d d1 : Device) (page : List ℕ) (c : Caller) (s : Seen) (H : History) → d1 ≡ d → ((row : Row) → H ≡ row ∷ d1.history → TellsFault s row.entry.op)
+    → Adds d1 (record { event = event.Finish c; page = page }) s H → AddsEntry (IsAnswerTo d c) d.history s H
 finish_adds d d1 page c s H same told adds = subst (λ (x : Device). AddsEntry (IsAnswerTo x c) x.history s H) same (go adds)
   where
     go : Adds d1 (record { event = event.Finish c; page = page }) s H → AddsEntry (IsAnswerTo d1 c) d1.history s H
@@ -169,21 +195,28 @@ finish_adds d d1 page c s H same told adds = subst (λ (x : Device). AddsEntry (
 
 module _ {D F : Type 0} (disk_moves : D → (c : DiskCall) → DiskAnswer c → D → Type 0) (moves : F → (c : FabricCall) → FabricAnswer c → F → Type 0) where
   -- a call's event, after the Round that was due
-  pub makes_begun : (w w1 w' : WorldOf D F) (since : ℕ) (words : Lcg) (since1 : ℕ) (words1 : Lcg) (i : Input) (s : Seen) (p : Paced disk_moves moves since words w since1 words1 w1)
-      → IsInRange w1.core.device.sizes w1.core.device.lenders i.event → IsEvent disk_moves moves w1.core.device w1.core.disk w1.core.fabric i s w'.core.device w'.core.disk w'.core.fabric → w'.log ≡ logged_if (has_effect i.event s) w1.log i.event s
+  pub makes_begun : (w w1 w' : WorldOf D F) (since : ℕ) (words : Lcg) (since1 : ℕ) (words1 : Lcg) (i : Input) (s : Seen)
+      (p : Paced disk_moves moves since words w since1 words1 w1)
+      → IsInRange w1.core.device.sizes w1.core.device.lenders i.event
+      → IsEvent disk_moves moves w1.core.device w1.core.disk w1.core.fabric i s w'.core.device w'.core.disk w'.core.fabric
+      → w'.log ≡ logged_if (has_effect i.event s) w1.log i.event s
       → of_device w'.core.device ≡ of_device w1.core.device → Makes disk_moves moves (Made Player i s ∷ paces since words p.page p.seen) w w'
   makes_begun w w1 w' since words since1 words1 i s p range step logged of =
-      makes_on disk_moves moves w w1 w' (paces since words p.page p.seen) (Made Player i s ∷ []) p.works.makes (makes_step disk_moves moves w1 w' Player i s range step logged of)
+      makes_on disk_moves moves w w1 w' (paces since words p.page p.seen) (Made Player i s ∷ []) p.works.makes
+      (makes_step disk_moves moves w1 w' Player i s range step logged of)
 
   pub board_begun : (n : Named D F) (w w1 w' : WorldOf D F) (begun since : ℕ) (placed : List ℕ) (words : Lcg) (since1 : ℕ) (words1 : Lcg) (i : Input) (s : Seen)
       → IsCall i.event → (p : Paced disk_moves moves since words w since1 words1 w1) → IsInRange w1.core.device.sizes w1.core.device.lenders i.event
-      → IsEvent disk_moves moves w1.core.device w1.core.disk w1.core.fabric i s w'.core.device w'.core.disk w'.core.fabric → w'.log ≡ logged_if (has_effect i.event s) w1.log i.event s
+      → IsEvent disk_moves moves w1.core.device w1.core.disk w1.core.fabric i s w'.core.device w'.core.disk w'.core.fabric
+      → w'.log ≡ logged_if (has_effect i.event s) w1.log i.event s
       → of_device w'.core.device ≡ of_device w1.core.device → KeepsRoom w1.core w'.core → GrowsByCalls i.event w1.core.device w'.core.device → begun < n.calls
       → IsBoard disk_moves moves n w begun since placed words → IsBoard disk_moves moves n w' (begun + 1) (since1 + 1) placed words1
   board_begun n w w1 w' begun since placed words since1 words1 i s call p range step logged of room grows fewer b =
       let c = call_counts i.event call in
       let new : List Act = paces since words p.page p.seen in
-      let on : PacedOn (seed_of n.number) b.acts new since1 words1 (length b.first.log) = paced_by (seed_of n.number) b.acts since words p.page p.seen since1 words1 (length b.first.log) (nat_le PACE since) refl b.since_is b.words_are b.made p.since_is p.words in
+      let on : PacedOn (seed_of n.number) b.acts new since1 words1 (length b.first.log) =
+      paced_by (seed_of n.number) b.acts since words p.page p.seen since1 words1 (length b.first.log)
+      (nat_le PACE since) refl b.since_is b.words_are b.made p.since_is p.words in
       let makes_ = makes_begun w w1 w' since words since1 words1 i s p range step logged of in
       record {
         first = b.first;
@@ -206,19 +239,25 @@ module _ {D F : Type 0} (disk_moves : D → (c : DiskCall) → DiskAnswer c → 
       }
 
   -- what the call's beginning says
-  pub begins : (calls : ℕ) (w w1 w' : WorldOf D F) (begun since made : ℕ) (words : Lcg) (since1 : ℕ) (words1 : Lcg) (e : Event) (page : List ℕ) (s : Seen) (p : Paced disk_moves moves since words w since1 words1 w1)
+  pub begins : (calls : ℕ) (w w1 w' : WorldOf D F) (begun since made : ℕ) (words : Lcg) (since1 : ℕ) (words1 : Lcg) (e : Event) (page : List ℕ) (s : Seen)
+      (p : Paced disk_moves moves since words w since1 words1 w1)
       → Makes disk_moves moves (Made Player (record { event = e; page = page }) s ∷ paces since words p.page p.seen) w w' → begun < calls
-      → Begins disk_moves moves calls e page s (record { world = w; begun = begun; since = since; made = made; words = words }) (record { world = w'; begun = begun + 1; since = since1 + 1; made = made; words = words1 })
+      → Begins disk_moves moves calls e page s (record { world = w; begun = begun; since = since; made = made; words = words })
+      (record { world = w'; begun = begun + 1; since = since1 + 1; made = made; words = words1 })
   begins calls w w1 w' begun since made words since1 words1 e page s p makes_ fewer = record {
     buf = p.page;
     seen = p.seen;
     makes = makes_;
     fewer = fewer;
-    now = ap (λ (n : ℕ). let b : BoardOf D F = record { world = w'; begun = begun + 1; since = n + 1; made = made; words = words1 } in b) p.since_is ∙ ap (λ (g : Lcg). let b : BoardOf D F = record { world = w'; begun = begun + 1; since = since_now since + 1; made = made; words = g } in b) p.words;
+    now =
+        ap (λ (n : ℕ). let b : BoardOf D F = record { world = w'; begun = begun + 1; since = n + 1; made = made; words = words1 } in b) p.since_is
+        ∙ ap (λ (g : Lcg). let b : BoardOf D F = record { world = w'; begun = begun + 1; since = since_now since + 1; made = made; words = g } in b) p.words;
   }
 
   -- a later step of a call
-  pub board_finished : (n : Named D F) (w w1 w' : WorldOf D F) (begun since : ℕ) (placed : List ℕ) (words : Lcg) (i : Input) (s : Seen) → IsSame w w1 → IsQuiet i.event → is_new_call i.event ≡ 0
+  pub board_finished :
+      (n : Named D F) (w w1 w' : WorldOf D F) (begun since : ℕ) (placed : List ℕ) (words : Lcg) (i : Input) (s : Seen) → IsSame w w1 → IsQuiet i.event
+      → is_new_call i.event ≡ 0
       → Makes disk_moves moves (Made Player i s ∷ []) w w' → KeepsRoom w1.core w'.core → GrowsByCalls i.event w1.core.device w'.core.device
       → IsBoard disk_moves moves n w begun since placed words → IsBoard disk_moves moves n w' begun since placed words
   board_finished n w w1 w' begun since placed words i s same quiet old makes_ room grows b =
@@ -244,7 +283,9 @@ module _ {D F : Type 0} (disk_moves : D → (c : DiskCall) → DiskAnswer c → 
       }
 
   -- a board that was just made
-  pub board_made : (n : Named D F) (w w' : WorldOf D F) (words : Lcg) → n.opening ≡ Some w → w.core.device.sizes ≡ n.sizes → w.core.device.lenders ≡ n.lenders → AreOperators n.sizes n.lenders n.operator → busy_callers w.core.device ≡ 0 → n.calls ≤ w'.core.spare
+  pub board_made :
+      (n : Named D F) (w w' : WorldOf D F) (words : Lcg) → n.opening ≡ Some w → w.core.device.sizes ≡ n.sizes → w.core.device.lenders ≡ n.lenders
+      → AreOperators n.sizes n.lenders n.operator → busy_callers w.core.device ≡ 0 → n.calls ≤ w'.core.spare
       → IsSame w w' → words ≡ seed_of n.number → IsBoard disk_moves moves n w' 0 0 [] words
   board_made n w w' words is sizes lenders operators idle room same ew = record {
     first = w;
@@ -292,12 +333,15 @@ all_at P (x ∷ xs) (suc i) d all within = all_at P xs i d all.1 (omega (arith, 
 module _ {D F : Type 0} (disk_moves : D → (c : DiskCall) → DiskAnswer c → D → Type 0) (moves : F → (c : FabricCall) → FabricAnswer c → F → Type 0) where
   -- the board after the operator's next event
   pub board_operated : (n : Named D F) (w w' : WorldOf D F) (begun since : ℕ) (placed placed' : List ℕ) (words : Lcg) (e : Event) (page : List ℕ) (s : Seen)
-      → IsOperators e → length placed < length n.operator → e ≡ get_or n.operator (length placed) e → placed' ≡ placed ++ length w.log ∷ [] → Works disk_moves moves (Made Operator (record { event = e; page = page }) s ∷ []) w w'
+      → IsOperators e → length placed < length n.operator → e ≡ get_or n.operator (length placed) e → placed' ≡ placed ++ length w.log ∷ []
+      → Works disk_moves moves (Made Operator (record { event = e; page = page }) s ∷ []) w w'
       → IsBoard disk_moves moves n w begun since placed words → IsBoard disk_moves moves n w' begun (since_after e since) placed' words
   board_operated n w w' begun since placed placed' words e page s is within next grown works b =
       let len : length placed' ≡ suc (length placed) = let a = length-append placed (length w.log ∷ []) in let g = ap length grown in omega (arith, a, g) in
-      let log : length w.log ≡ length b.first.log + length (lines_of b.acts) = let a = length-append b.first.log (lines_of b.acts) in let g = ap length b.makes.logged in omega (arith, a, g) in
-      let taken : take (suc (length placed)) n.operator ≡ take (length placed) n.operator ++ e ∷ [] = take-suc n.operator (length placed) e within ∙ ap (λ (x : Event). take (length placed) n.operator ++ x ∷ []) (sym next) in
+      let log : length w.log ≡ length b.first.log + length (lines_of b.acts) = let a = length-append b.first.log (lines_of b.acts) in
+      let g = ap length b.makes.logged in omega (arith, a, g) in
+      let taken : take (suc (length placed)) n.operator ≡ take (length placed) n.operator ++ e ∷ [] =
+      take-suc n.operator (length placed) e within ∙ ap (λ (x : Event). take (length placed) n.operator ++ x ∷ []) (sym next) in
       record {
         first = b.first;
         opens = b.opens;
@@ -330,8 +374,11 @@ module _ {D F : Type 0} (disk_moves : D → (c : DiskCall) → DiskAnswer c → 
   abbrev board_at : WorldOf D F → ℕ → ℕ → ℕ → Lcg → BoardOf D F
   board_at w begun since made words = record { world = w; begun = begun; since = since; made = made; words = words }
 
-  operates : (es : List Event) (e : Event) (w w' : WorldOf D F) (begun since made since' made' : ℕ) (words : Lcg) (m : Moved) → MakesOne disk_moves moves e m w w' → made < length es → e ≡ get_or es made e
-      → since' ≡ since_after e since → made' ≡ made + 1 → Operates disk_moves moves es (operated_of m) (board_at w begun since made words) (board_at w' begun since' made' words)
+  operates :
+      (es : List Event) (e : Event) (w w' : WorldOf D F) (begun since made since' made' : ℕ) (words : Lcg) (m : Moved) → MakesOne disk_moves moves e m w w'
+      → made < length es → e ≡ get_or es made e
+      → since' ≡ since_after e since → made' ≡ made + 1
+      → Operates disk_moves moves es (operated_of m) (board_at w begun since made words) (board_at w' begun since' made' words)
   operates es e w w' begun since made since' made' words m made_ within next since_is made_is = record {
     event = e;
     page = made_.page;
@@ -344,7 +391,9 @@ module _ {D F : Type 0} (disk_moves : D → (c : DiskCall) → DiskAnswer c → 
   }
 
   -- what the operator's call says
-  pub operates_as : (es : List Event) (e : Event) (w w' : WorldOf D F) (begun since made since' made' : ℕ) (words : Lcg) (m : Moved) (o : Operated) → m ≢ moved.NoMemory → MakesOne disk_moves moves e m w w' → made < length es → e ≡ get_or es made e
+  pub operates_as :
+      (es : List Event) (e : Event) (w w' : WorldOf D F) (begun since made since' made' : ℕ) (words : Lcg) (m : Moved) (o : Operated) → m ≢ moved.NoMemory
+      → MakesOne disk_moves moves e m w w' → made < length es → e ≡ get_or es made e
       → since' ≡ since_after e since → made' ≡ made + 1 → o ≡ operated_of m
       → OperatesAs disk_moves moves es o (board_at w begun since made words) (board_at w' begun since' made' words)
   operates_as es e w w' begun since made since' made' words moved.Did o some made_ within next since_is made_is is =

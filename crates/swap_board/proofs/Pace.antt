@@ -41,7 +41,8 @@ calls-step (event.Host l used word) n m k is = is
 since_without : (between before : List Act) → AreNoRounds between → calls_since (between ++ before) ≡ calls_in between + calls_since before
 since_without [] before none = omega arith
 since_without (Made by i s ∷ between) before none =
-    after_no_round i.event (calls_since (between ++ before)) none.0 ∙ calls-step i.event (calls_since (between ++ before)) (calls_in between) (calls_since before) (since_without between before none.1)
+    after_no_round i.event (calls_since (between ++ before)) none.0
+    ∙ calls-step i.event (calls_since (between ++ before)) (calls_in between) (calls_since before) (since_without between before none.1)
 since_without (Polled step ∷ between) before none = since_without between before none
 
 made_earlier : (seed : Lcg) (after before : List Act) → AreMade seed (after ++ before) → AreMade seed before

@@ -46,7 +46,9 @@ abbrev first_fails : List Row → Bool
 first_fails [] = true
 first_fails (row ∷ H) = is_failed row.entry.op
 
-comes_told : {d : Device} {page : List ℕ} {e : Event} {d' : Device} {s : Seen} (row : Row) (H : History) → Comes d page e d' s → d'.history ≡ row ∷ H → TellsFault s row.entry.op
+comes_told :
+    {d : Device} {page : List ℕ} {e : Event} {d' : Device} {s : Seen} (row : Row) (H : History) → Comes d page e d' s → d'.history ≡ row ∷ H
+    → TellsFault s row.entry.op
 comes_told row H (refuses new) is = tt
 comes_told {s = s} row H (rests old rest) is = rest_told s row.entry.op rest
 comes_told row H (accepts step linked) is = tt
@@ -60,7 +62,10 @@ comes_told {s = s} row H (links old of linked) is = link_told s row.entry.op of
 comes_told row H (brings c bytes r linked) is = tt
 
 module _ {D F : Type 0} (disk_moves : D → (c : DiskCall) → DiskAnswer c → D → Type 0) (moves : F → (c : FabricCall) → FabricAnswer c → F → Type 0) where
-  pub event_told : (d d' : Device) (k k' : D) (f f' : F) (i : Input) (s : Seen) (row : Row) (H : History) → IsEvent disk_moves moves d k f i s d' k' f' → d'.history ≡ row ∷ H → TellsFault s row.entry.op
+  pub event_told :
+      (d d' : Device) (k k' : D) (f f' : F) (i : Input) (s : Seen) (row : Row) (H : History) → IsEvent disk_moves moves d k f i s d' k' f'
+      → d'.history ≡ row ∷ H
+      → TellsFault s row.entry.op
   event_told d d' k k' f f' i s row H step is = go i.event step
     where
       go : (e : Event) → StepOf disk_moves moves i.page e d k f s d' k' f' → TellsFault s row.entry.op

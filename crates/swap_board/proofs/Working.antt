@@ -57,7 +57,8 @@ callless_adds d i s H is (nothing none same) = same
 callless_adds d i s H is (one row seen_ same answers) = absurd (answers_none d i.page i.event row is answers)
 
 -- where as many calls are idle, as many are busy
-busy_same : (xs ys : Calls) → ((n : ℕ) → is_idle (get_or xs n idle).state ≡ is_idle (get_or ys n idle).state) → count_by is_busy_call xs ≡ count_by is_busy_call ys
+busy_same :
+    (xs ys : Calls) → ((n : ℕ) → is_idle (get_or xs n idle).state ≡ is_idle (get_or ys n idle).state) → count_by is_busy_call xs ≡ count_by is_busy_call ys
 busy_same [] [] same = refl
 busy_same [] (y ∷ ys) same =
     let first : one_if true ≡ one_if (is_idle y.state) = ap one_if (same 0) in
@@ -98,7 +99,8 @@ room_less true n m is = omega (arith, is)
 room_less false n m is = omega (arith, is)
 
 -- what a port's poll is along the device's program
-pub poll_along : {D F : Type 0} (disk_moves : D → (c : DiskCall) → DiskAnswer c → D → Type 0) (moves : F → (c : FabricCall) → FabricAnswer c → F → Type 0) (d d' : Device) (k k' : D) (f f' : F) (taken : Option Taken)
+pub poll_along : {D F : Type 0} (disk_moves : D → (c : DiskCall) → DiskAnswer c → D → Type 0) (moves : F → (c : FabricCall) → FabricAnswer c → F → Type 0)
+    (d d' : Device) (k k' : D) (f f' : F) (taken : Option Taken)
     → disk_moves k TakeDone taken k' → f' ≡ f → d' ≡ (took_back d taken).0 → Along disk_moves moves (disk_take d) k f k' f' (d', (took_back d taken).1)
 poll_along disk_moves moves d d' k k' f f' taken moved ef ed = (taken, k', moved, (refl, ef, ap (λ (x : Device). (x, (took_back d taken).1)) ed))
 
@@ -121,7 +123,9 @@ never_none before now is = by_test (nat_lt before now) is
     by_test false e = cc
 
 module _ {D F : Type 0} (disk_moves : D → (c : DiskCall) → DiskAnswer c → D → Type 0) (moves : F → (c : FabricCall) → FabricAnswer c → F → Type 0) where
-  pub works_on : (first w w' : WorldOf D F) (acts new : List Act) → Works disk_moves moves acts first w → Works disk_moves moves new w w' → Works disk_moves moves (new ++ acts) first w'
+  pub works_on :
+      (first w w' : WorldOf D F) (acts new : List Act) → Works disk_moves moves acts first w → Works disk_moves moves new w w'
+      → Works disk_moves moves (new ++ acts) first w'
   works_on first w w' acts new was now = record {
     makes = makes_on disk_moves moves first w w' acts new was.makes now.makes;
     history = now.history ∙ was.history;
@@ -144,7 +148,8 @@ module _ {D F : Type 0} (disk_moves : D → (c : DiskCall) → DiskAnswer c → 
   -- one event that is no step of a call
   pub works_step : (w w' : WorldOf D F) (by : Maker) (i : Input) (s : Seen) → IsCallless i.event → IsInRange w.core.device.sizes w.core.device.lenders i.event
       → IsEvent disk_moves moves w.core.device w.core.disk w.core.fabric i s w'.core.device w'.core.disk w'.core.fabric
-      → w'.log ≡ logged_if (has_effect i.event s) w.log i.event s → of_device w'.core.device ≡ of_device w.core.device → Adds w.core.device i s w'.core.device.history
+      → w'.log ≡ logged_if (has_effect i.event s) w.log i.event s → of_device w'.core.device ≡ of_device w.core.device
+      → Adds w.core.device i s w'.core.device.history
       → KeepsRoom w.core w'.core → GrowsByCalls i.event w.core.device w'.core.device → Works disk_moves moves (Made by i s ∷ []) w w'
   works_step w w' by i s is range step logged of adds room grows =
       let same : w'.core.device.history ≡ w.core.device.history = callless_adds w.core.device i s w'.core.device.history is adds in
@@ -158,13 +163,17 @@ module _ {D F : Type 0} (disk_moves : D → (c : DiskCall) → DiskAnswer c → 
       }
 
   -- a poll
-  pub works_poll : (w w' : WorldOf D F) (s : Seen) → (p : IsPolled disk_moves w.core.device w.core.disk w.log s w'.core.device w'.core.disk w'.log) → w'.core.fabric ≡ w.core.fabric → w'.core.device.history ≡ w.core.device.history
-      → w'.core.spare ≡ w.core.spare → of_device w'.core.device ≡ of_device w.core.device → ((c : Caller) → is_idle (state_of w'.core.device.calls c) ≡ is_idle (state_of w.core.device.calls c))
+  pub works_poll :
+      (w w' : WorldOf D F) (s : Seen) → (p : IsPolled disk_moves w.core.device w.core.disk w.log s w'.core.device w'.core.disk w'.log)
+      → w'.core.fabric ≡ w.core.fabric → w'.core.device.history ≡ w.core.device.history
+      → w'.core.spare ≡ w.core.spare → of_device w'.core.device ≡ of_device w.core.device
+      → ((c : Caller) → is_idle (state_of w'.core.device.calls c) ≡ is_idle (state_of w.core.device.calls c))
       → Works disk_moves moves (Polled (took_back w.core.device p.taken).1 ∷ []) w w'
   works_poll w w' s p fabric history spare of idle_ = record {
     makes =
         makes_poll disk_moves moves w w' (took_back w.core.device p.taken).1
-        (poll_along disk_moves moves w.core.device w'.core.device w.core.disk w'.core.disk w.core.fabric w'.core.fabric p.taken p.moved fabric p.device) p.logged of;
+        (poll_along disk_moves moves w.core.device w'.core.device w.core.disk w'.core.disk w.core.fabric w'.core.fabric p.taken p.moved fabric p.device)
+        p.logged of;
     history = history;
     busy = let e = busy_same w'.core.device.calls w.core.device.calls (λ n. idle_ (record { 0 = n })) in omega (arith, e);
     spare = omega (arith, spare);
@@ -180,7 +189,8 @@ module _ {D F : Type 0} (disk_moves : D → (c : DiskCall) → DiskAnswer c → 
       let P : Bool → Type 0 = λ b. Works disk_moves moves (cond b (round_of g [] seen.Nothing) []) w w1 in
       let Q : Bool → Type 0 = λ b. g ≡ drawn g (cond b (round_of g [] seen.Nothing) []) in
       let R : Bool → Type 0 = λ b. since ≡ cond b 0 since in
-      let I : Device → Type 0 = λ d. (c : Caller) → c.0 < w.core.device.sizes.callers → is_idle (state_of w.core.device.calls c) ≡ true → is_idle (state_of d.calls c) ≡ true in
+      let I : Device → Type 0 = λ d. (c : Caller) → c.0 < w.core.device.sizes.callers → is_idle (state_of w.core.device.calls c) ≡ true
+      → is_idle (state_of d.calls c) ≡ true in
       record {
         page = [];
         seen = seen.Nothing;
@@ -192,17 +202,21 @@ module _ {D F : Type 0} (disk_moves : D → (c : DiskCall) → DiskAnswer c → 
       }
 
   -- a Round is made
-  pub paced_round : (since : ℕ) (g g' : Lcg) (word : ℕ) (page : List ℕ) (s : Seen) (w w1 w' : WorldOf D F) → PACE ≤ since → (word, g') ≡ pcg32 g → IsSame w w1 → Works disk_moves moves (Made Pacer (record { event = event.Round word; page = page }) s ∷ []) w1 w'
+  pub paced_round :
+      (since : ℕ) (g g' : Lcg) (word : ℕ) (page : List ℕ) (s : Seen) (w w1 w' : WorldOf D F) → PACE ≤ since → (word, g') ≡ pcg32 g → IsSame w w1
+      → Works disk_moves moves (Made Pacer (record { event = event.Round word; page = page }) s ∷ []) w1 w'
       → StaysIdle w1.core.device (event.Round word) w'.core.device → 0 < w'.log_spare → Paced disk_moves moves since g w 0 g' w'
   paced_round since g g' word page s w w1 w' late drew same works stays room =
       let yes : nat_le PACE since ≡ true = grind (arith, nat_tests, late) in
       let word_is : word ≡ (pcg32 g).0 = ap (λ p. p.0) drew in
-      let now : Works disk_moves moves (Made Pacer (record { event = event.Round word; page = page }) s ∷ []) w w' = works_on w w1 w' [] (Made Pacer (record { event = event.Round word; page = page }) s ∷ []) (works_same w w1 same) works in
+      let now : Works disk_moves moves (Made Pacer (record { event = event.Round word; page = page }) s ∷ []) w w' =
+      works_on w w1 w' [] (Made Pacer (record { event = event.Round word; page = page }) s ∷ []) (works_same w w1 same) works in
       let W : ℕ → Type 0 = λ n. Works disk_moves moves (Made Pacer (record { event = event.Round n; page = page }) s ∷ []) w w' in
       let P : Bool → Type 0 = λ b. Works disk_moves moves (cond b (round_of g page s) []) w w' in
       let Q : Bool → Type 0 = λ b. g' ≡ drawn g (cond b (round_of g page s) []) in
       let R : Bool → Type 0 = λ b. 0 ≡ cond b 0 since in
-      let I : Device → Type 0 = λ d. (c : Caller) → c.0 < d.sizes.callers → is_idle (state_of d.calls c) ≡ true → is_idle (state_of w'.core.device.calls c) ≡ true in
+      let I : Device → Type 0 = λ d. (c : Caller) → c.0 < d.sizes.callers → is_idle (state_of d.calls c) ≡ true
+      → is_idle (state_of w'.core.device.calls c) ≡ true in
       record {
         page = page;
         seen = s;
@@ -214,64 +228,122 @@ module _ {D F : Type 0} (disk_moves : D → (c : DiskCall) → DiskAnswer c → 
       }
 
   -- the oldest operation of a disk in memory finishes, where there is one
-  pub ended_some : (means : D → Port) (w w' : WorldOf D F) (oldest : Option DiskWhich) (which : DiskWhich) → TellsOldest (means w.core.disk).blocks (means w.core.disk).flights oldest → known w.core.device.sizes oldest ≡ Some which
+  pub ended_some :
+      (means : D → Port) (w w' : WorldOf D F) (oldest : Option DiskWhich) (which : DiskWhich)
+      → TellsOldest (means w.core.disk).blocks (means w.core.disk).flights oldest → known w.core.device.sizes oldest ≡ Some which
       → Stepped disk_moves moves (event.Disk which true) w w' → Ended disk_moves moves means w w'
   ended_some means w w' oldest which tells is made =
       let P : Option DiskWhich → Type 0 = λ o. Works disk_moves moves (ends o made.page made.seen) w w' in
       record { oldest = oldest; tells = tells; page = made.page; seen = made.seen; works = subst P (sym is) (made.works Player) }
 
-  pub ended_none : (means : D → Port) (w : WorldOf D F) (oldest : Option DiskWhich) → TellsOldest (means w.core.disk).blocks (means w.core.disk).flights oldest → known w.core.device.sizes oldest ≡ None → Ended disk_moves moves means w w
+  pub ended_none :
+      (means : D → Port) (w : WorldOf D F) (oldest : Option DiskWhich) → TellsOldest (means w.core.disk).blocks (means w.core.disk).flights oldest
+      → known w.core.device.sizes oldest ≡ None → Ended disk_moves moves means w w
   ended_none means w oldest tells is =
       let P : Option DiskWhich → Type 0 = λ o. Works disk_moves moves (ends o [] seen.Nothing) w w in
-      record { oldest = oldest; tells = tells; page = []; seen = seen.Nothing; works = subst P (sym is) (works_same w w (record { device = refl; disk = refl; fabric = refl; log = refl; spare = omega arith })) }
+      record {
+        oldest = oldest;
+        tells = tells;
+        page = [];
+        seen = seen.Nothing;
+        works = subst P (sym is) (works_same w w (record { device = refl; disk = refl; fabric = refl; log = refl; spare = omega arith }));
+      }
 
   -- all of what a pump makes at the disk
-  worked_disk : (means : D → Port) (w w1 w2 w3 w' : WorldOf D F) → IsSame w w1 → Stepped disk_moves moves event.Start w1 w2 → Ended disk_moves moves means w2 w3 → Polls disk_moves moves w3 w' → (m : Moved) → m ≡ moved_between (length w.log) (length w'.log) → Pumps disk_moves moves means point.Disk m w w'
+  worked_disk :
+      (means : D → Port) (w w1 w2 w3 w' : WorldOf D F) → IsSame w w1 → Stepped disk_moves moves event.Start w1 w2 → Ended disk_moves moves means w2 w3
+      → Polls disk_moves moves w3 w' → (m : Moved) → m ≡ moved_between (length w.log) (length w'.log) → Pumps disk_moves moves means point.Disk m w w'
   worked_disk means w w1 w2 w3 w' same start ended polled m says =
       let first : List Act = Made Player (record { event = event.Start; page = start.page }) start.seen ∷ [] in
       let starts : Works disk_moves moves first w w2 = works_after w w1 w2 first same (start.works Player) in
       let sizes : w2.core.device.sizes ≡ w.core.device.sizes = ap (λ (o : FabricOf). o.sizes) starts.makes.of in
       let E : Sizes → Type 0 = λ s. Works disk_moves moves (ends (known s ended.oldest) ended.page ended.seen) w2 w3 in
       let middle : List Act = ends (known w.core.device.sizes ended.oldest) ended.page ended.seen in
-      let rest : Works disk_moves moves (Polled polled.step ∷ middle) w2 w' = works_on w2 w3 w' middle (Polled polled.step ∷ []) (subst E sizes ended.works) polled.works in
+      let rest : Works disk_moves moves (Polled polled.step ∷ middle) w2 w' =
+      works_on w2 w3 w' middle (Polled polled.step ∷ []) (subst E sizes ended.works) polled.works in
       let all : Works disk_moves moves ((Polled polled.step ∷ middle) ++ first) w w' = works_on w w2 w' first (Polled polled.step ∷ middle) starts rest in
       record {
         acts = (Polled polled.step ∷ middle) ++ first;
         works = all;
-        at_point = record { started = w2; start_page = start.page; start_seen = start.seen; start = starts.makes; oldest = ended.oldest; tells = ended.tells; end_page = ended.page; end_seen = ended.seen; step = polled.step; rest = rest.makes; acts_are = refl };
+        at_point =
+            record {
+              started = w2;
+              start_page = start.page;
+              start_seen = start.seen;
+              start = starts.makes;
+              oldest = ended.oldest;
+              tells = ended.tells;
+              end_page = ended.page;
+              end_seen = ended.seen;
+              step = polled.step;
+              rest = rest.makes;
+              acts_are = refl;
+            };
         says = says ∙ moved_is w.log (lines_of ((Polled polled.step ∷ middle) ++ first)) w'.log all.makes.logged;
       }
 
-  pub worked_as : (means : D → Port) (w w1 w2 w3 w' : WorldOf D F) → IsSame w w1 → Stepped disk_moves moves event.Start w1 w2 → Ended disk_moves moves means w2 w3 → Polls disk_moves moves w3 w' → (m : Moved) → m ≡ moved_between (length w.log) (length w'.log) → PumpsAs disk_moves moves means point.Disk m w w'
+  pub worked_as :
+      (means : D → Port) (w w1 w2 w3 w' : WorldOf D F) → IsSame w w1 → Stepped disk_moves moves event.Start w1 w2 → Ended disk_moves moves means w2 w3
+      → Polls disk_moves moves w3 w' → (m : Moved) → m ≡ moved_between (length w.log) (length w'.log) → PumpsAs disk_moves moves means point.Disk m w w'
   worked_as means w w1 w2 w3 w' same start ended polled moved.Did says = worked_disk means w w1 w2 w3 w' same start ended polled moved.Did says
   worked_as means w w1 w2 w3 w' same start ended polled moved.Nothing says = worked_disk means w w1 w2 w3 w' same start ended polled moved.Nothing says
   worked_as means w w1 w2 w3 w' same start ended polled moved.NoMemory says = absurd (never_none (length w.log) (length w'.log) says)
 
   -- one event
-  makes_one : (w w1 w' : WorldOf D F) (e : Event) → IsSame w w1 → Stepped disk_moves moves e w1 w' → (m : Moved) → m ≡ moved_between (length w.log) (length w'.log) → MakesOne disk_moves moves e m w w'
+  makes_one :
+      (w w1 w' : WorldOf D F) (e : Event) → IsSame w w1 → Stepped disk_moves moves e w1 w' → (m : Moved) → m ≡ moved_between (length w.log) (length w'.log)
+      → MakesOne disk_moves moves e m w w'
   makes_one w w1 w' e same made m says =
       let i : Input = record { event = e; page = made.page } in
-      let all : (by : Maker) → Works disk_moves moves (Made by i made.seen ∷ []) w w' = λ by. works_after w w1 w' (Made by i made.seen ∷ []) same (made.works by) in
-      record { page = made.page; seen = made.seen; works = all; says = says ∙ moved_is w.log (lines_of (Made Player i made.seen ∷ [])) w'.log (all Player).makes.logged }
+      let all : (by : Maker) → Works disk_moves moves (Made by i made.seen ∷ []) w w' =
+      λ by. works_after w w1 w' (Made by i made.seen ∷ []) same (made.works by) in
+      record {
+        page = made.page;
+        seen = made.seen;
+        works = all;
+        says = says ∙ moved_is w.log (lines_of (Made Player i made.seen ∷ [])) w'.log (all Player).makes.logged;
+      }
 
-  pub makes_as : (w w1 w' : WorldOf D F) (e : Event) → IsSame w w1 → Stepped disk_moves moves e w1 w' → (m : Moved) → m ≡ moved_between (length w.log) (length w'.log) → MakesAs disk_moves moves e m w w'
+  pub makes_as :
+      (w w1 w' : WorldOf D F) (e : Event) → IsSame w w1 → Stepped disk_moves moves e w1 w' → (m : Moved) → m ≡ moved_between (length w.log) (length w'.log)
+      → MakesAs disk_moves moves e m w w'
   makes_as w w1 w' e same made moved.Did says = makes_one w w1 w' e same made moved.Did says
   makes_as w w1 w' e same made moved.Nothing says = makes_one w w1 w' e same made moved.Nothing says
   makes_as w w1 w' e same made moved.NoMemory says = absurd (never_none (length w.log) (length w'.log) says)
 
   -- so at a link
-  given : (w w' : WorldOf D F) (means : D → Port) (l : Lender) (m : Moved) → MakesOne disk_moves moves (event.Give l) m w w' → Pumps disk_moves moves means (point.Give l) m w w'
-  given w w' means l m one_ = record { acts = Made Player (record { event = event.Give l; page = one_.page }) one_.seen ∷ []; works = one_.works Player; at_point = (one_.page, one_.seen, refl); says = one_.says }
+  given :
+      (w w' : WorldOf D F) (means : D → Port) (l : Lender) (m : Moved) → MakesOne disk_moves moves (event.Give l) m w w'
+      → Pumps disk_moves moves means (point.Give l) m w w'
+  given w w' means l m one_ =
+      record {
+        acts = Made Player (record { event = event.Give l; page = one_.page }) one_.seen ∷ [];
+        works = one_.works Player;
+        at_point = (one_.page, one_.seen, refl);
+        says = one_.says;
+      }
 
-  taken : (w w' : WorldOf D F) (means : D → Port) (l : Lender) (m : Moved) → MakesOne disk_moves moves (event.Take l) m w w' → Pumps disk_moves moves means (point.Take l) m w w'
-  taken w w' means l m one_ = record { acts = Made Player (record { event = event.Take l; page = one_.page }) one_.seen ∷ []; works = one_.works Player; at_point = (one_.page, one_.seen, refl); says = one_.says }
+  taken :
+      (w w' : WorldOf D F) (means : D → Port) (l : Lender) (m : Moved) → MakesOne disk_moves moves (event.Take l) m w w'
+      → Pumps disk_moves moves means (point.Take l) m w w'
+  taken w w' means l m one_ =
+      record {
+        acts = Made Player (record { event = event.Take l; page = one_.page }) one_.seen ∷ [];
+        works = one_.works Player;
+        at_point = (one_.page, one_.seen, refl);
+        says = one_.says;
+      }
 
-  pub give_pumps : (w w' : WorldOf D F) (means : D → Port) (l : Lender) (m : Moved) → MakesAs disk_moves moves (event.Give l) m w w' → PumpsAs disk_moves moves means (point.Give l) m w w'
+  pub give_pumps :
+      (w w' : WorldOf D F) (means : D → Port) (l : Lender) (m : Moved) → MakesAs disk_moves moves (event.Give l) m w w'
+      → PumpsAs disk_moves moves means (point.Give l) m w w'
   give_pumps w w' means l moved.Did made = given w w' means l moved.Did made
   give_pumps w w' means l moved.Nothing made = given w w' means l moved.Nothing made
   give_pumps w w' means l moved.NoMemory made = made
 
-  pub take_pumps : (w w' : WorldOf D F) (means : D → Port) (l : Lender) (m : Moved) → MakesAs disk_moves moves (event.Take l) m w w' → PumpsAs disk_moves moves means (point.Take l) m w w'
+  pub take_pumps :
+      (w w' : WorldOf D F) (means : D → Port) (l : Lender) (m : Moved) → MakesAs disk_moves moves (event.Take l) m w w'
+      → PumpsAs disk_moves moves means (point.Take l) m w w'
   take_pumps w w' means l moved.Did made = taken w w' means l moved.Did made
   take_pumps w w' means l moved.Nothing made = taken w w' means l moved.Nothing made
   take_pumps w w' means l moved.NoMemory made = made

@@ -27,12 +27,19 @@ pub data Act : Type 0 where
   Polled : DiskStep → Act
 
 -- The acts from a device, its disk and its fabric to these, the newest first. Acts without an effect are among them.
-pub data IsActed {D F : Type 0} (disk_moves : D → (c : DiskCall) → DiskAnswer c → D → Type 0) (moves : F → (c : FabricCall) → FabricAnswer c → F → Type 0) (first : Device) (disk : D) (fabric : F) : List Act → Device → D → F → Type 0 where
+pub data IsActed {D F : Type 0} (disk_moves : D → (c : DiskCall) → DiskAnswer c → D → Type 0)
+    (moves : F → (c : FabricCall) → FabricAnswer c → F → Type 0) (first : Device) (disk : D) (fabric : F) :
+    List Act → Device → D → F → Type 0 where
   opens : IsActed disk_moves moves first disk fabric [] first disk fabric
-  makes : {acts : List Act} {d : Device} {k : D} {f : F} (by : Maker) (i : Input) (s : Seen) (d' : Device) (k' : D) (f' : F)
-      → IsActed disk_moves moves first disk fabric acts d k f → IsInRange first.sizes first.lenders i.event → IsEvent disk_moves moves d k f i s d' k' f' → IsActed disk_moves moves first disk fabric (Made by i s ∷ acts) d' k' f'
+  makes : {acts : List Act} {d : Device} {k : D} {f : F} (by : Maker) (i : Input) (s : Seen) (d' : Device) (k' : D)
+      (f' : F)
+      → IsActed disk_moves moves first disk fabric acts d k f → IsInRange first.sizes first.lenders i.event
+      → IsEvent disk_moves moves d k f i s d' k' f'
+      → IsActed disk_moves moves first disk fabric (Made by i s ∷ acts) d' k' f'
   polls : {acts : List Act} {d : Device} {k : D} {f : F} (step : DiskStep) (d' : Device) (k' : D) (f' : F)
-      → IsActed disk_moves moves first disk fabric acts d k f → Along disk_moves moves (disk_take d) k f k' f' (d', step) → IsActed disk_moves moves first disk fabric (Polled step ∷ acts) d' k' f'
+      → IsActed disk_moves moves first disk fabric acts d k f
+      → Along disk_moves moves (disk_take d) k f k' f' (d', step)
+      → IsActed disk_moves moves first disk fabric (Polled step ∷ acts) d' k' f'
 
 -- what an act leaves in the log: its event, where that had an effect, with what was seen of it
 abbrev pub line_if : Bool → Event → Seen → List (Event × Seen)
@@ -53,8 +60,10 @@ lines_of [] = []
 lines_of (act ∷ acts) = lines_of acts ++ line_of act
 
 -- these acts led from one world to the other, and stand in its log
-pub record Makes {D F : Type 0} (disk_moves : D → (c : DiskCall) → DiskAnswer c → D → Type 0) (moves : F → (c : FabricCall) → FabricAnswer c → F → Type 0) (acts : List Act) (w w' : WorldOf D F) : Type 0 where
-  pub acted : IsActed disk_moves moves w.core.device w.core.disk w.core.fabric acts w'.core.device w'.core.disk w'.core.fabric
+pub record Makes {D F : Type 0} (disk_moves : D → (c : DiskCall) → DiskAnswer c → D → Type 0)
+    (moves : F → (c : FabricCall) → FabricAnswer c → F → Type 0) (acts : List Act) (w w' : WorldOf D F) : Type 0 where
+  pub acted : IsActed disk_moves moves w.core.device w.core.disk w.core.fabric acts w'.core.device w'.core.disk
+      w'.core.fabric
   pub logged : w'.log ≡ w.log ++ lines_of acts
   pub of : of_device w'.core.device ≡ of_device w.core.device
 
@@ -126,7 +135,8 @@ PACE = 256
 -- each act is its maker's, and never more than so many calls were begun since the last Round
 abbrev pub AreMade : Lcg → List Act → Type 0
 AreMade seed [] = Unit {0}
-AreMade seed (Made by i s ∷ acts) = IsOf (drawn seed acts) by i.event × (since_after i.event (calls_since acts) ≤ PACE) × AreMade seed acts
+AreMade seed (Made by i s ∷ acts) =
+    IsOf (drawn seed acts) by i.event × (since_after i.event (calls_since acts) ≤ PACE) × AreMade seed acts
 AreMade seed (Polled step ∷ acts) = AreMade seed acts
 
 -- the operator's events, the oldest first

@@ -41,7 +41,15 @@ pub record Named (D F : Type 0) : Type 0 where
   pub number : ℕ
 
 abbrev pub nothing_named : {D F : Type 0} → Named D F
-nothing_named = record { opening = None; sizes = record { page_bytes = 0; pages_per_slab = 0; slabs = 0; queue = 0; callers = 0; window = 0; hot = 0 }; lenders = 0; operator = []; calls = 0; number = 0 }
+nothing_named =
+    record {
+      opening = None;
+      sizes = record { page_bytes = 0; pages_per_slab = 0; slabs = 0; queue = 0; callers = 0; window = 0; hot = 0 };
+      lenders = 0;
+      operator = [];
+      calls = 0;
+      number = 0;
+    }
 
 -- the generator of a number
 abbrev pub seed_of : ℕ → Lcg
@@ -65,7 +73,9 @@ AreOperators s lenders es = AllByRecursion (IsOperatorsOf s lenders) es
 
 -- The world of a board: acts of callers, pumps, pacing calls and the operator led to it from the world that it was made
 -- with, and its counts are theirs. Each call that may still begin, and each under way, has room for its entry.
-pub record IsBoard {D F : Type 0} (disk_moves : D → (c : DiskCall) → DiskAnswer c → D → Type 0) (moves : F → (c : FabricCall) → FabricAnswer c → F → Type 0) (n : Named D F) (w : WorldOf D F) (begun since : ℕ) (placed : List ℕ) (words : Lcg) : Type 0 where
+pub record IsBoard {D F : Type 0} (disk_moves : D → (c : DiskCall) → DiskAnswer c → D → Type 0)
+    (moves : F → (c : FabricCall) → FabricAnswer c → F → Type 0) (n : Named D F) (w : WorldOf D F) (begun since : ℕ)
+    (placed : List ℕ) (words : Lcg) : Type 0 where
   pub first : WorldOf D F
   pub opens : n.opening ≡ Some first
   pub acts : List Act
@@ -85,7 +95,9 @@ pub record IsBoard {D F : Type 0} (disk_moves : D → (c : DiskCall) → DiskAns
 
 -- and what stands beside the world fits what is named: the operator's list with room for a place of each of its events,
 -- the number of calls, and a page
-pub record IsKept {D F : Type 0} (disk_moves : D → (c : DiskCall) → DiskAnswer c → D → Type 0) (moves : F → (c : FabricCall) → FabricAnswer c → F → Type 0) (n : Named D F) (w : WorldOf D F) (begun since : ℕ) (placed : List ℕ) (words : Lcg) (operator : List Event) (most_places calls : ℕ) (page : List ℕ) : Type 0 where
+pub record IsKept {D F : Type 0} (disk_moves : D → (c : DiskCall) → DiskAnswer c → D → Type 0)
+    (moves : F → (c : FabricCall) → FabricAnswer c → F → Type 0) (n : Named D F) (w : WorldOf D F) (begun since : ℕ)
+    (placed : List ℕ) (words : Lcg) (operator : List Event) (most_places calls : ℕ) (page : List ℕ) : Type 0 where
   pub board : IsBoard disk_moves moves n w begun since placed words
   pub operator_is : operator ≡ n.operator
   pub places : length placed ≤ length operator
@@ -94,7 +106,8 @@ pub record IsKept {D F : Type 0} (disk_moves : D → (c : DiskCall) → DiskAnsw
   pub page_len : length page ≡ w.core.device.sizes.page_bytes
 
 -- a world that was a board's
-pub record WasPlayed {D F : Type 0} (disk_moves : D → (c : DiskCall) → DiskAnswer c → D → Type 0) (moves : F → (c : FabricCall) → FabricAnswer c → F → Type 0) (n : Named D F) (b : BoardOf D F) : Type 0 where
+pub record WasPlayed {D F : Type 0} (disk_moves : D → (c : DiskCall) → DiskAnswer c → D → Type 0)
+    (moves : F → (c : FabricCall) → FabricAnswer c → F → Type 0) (n : Named D F) (b : BoardOf D F) : Type 0 where
   pub placed : List ℕ
   pub made : b.made ≡ length placed
   pub board : IsBoard disk_moves moves n b.world b.begun b.since placed b.words
@@ -116,15 +129,28 @@ IsOfIdle d (event.PageIn c p) = is_idle (state_of d.calls c) ≡ true
 IsOfIdle d _ = Unit {0}
 
 -- a call was begun: its event was made, after a Round where one was due
-pub record Begins {D F : Type 0} (disk_moves : D → (c : DiskCall) → DiskAnswer c → D → Type 0) (moves : F → (c : FabricCall) → FabricAnswer c → F → Type 0) (calls : ℕ) (e : Event) (page : List ℕ) (s : Seen) (b b' : BoardOf D F) : Type 0 where
+pub record Begins {D F : Type 0} (disk_moves : D → (c : DiskCall) → DiskAnswer c → D → Type 0)
+    (moves : F → (c : FabricCall) → FabricAnswer c → F → Type 0) (calls : ℕ) (e : Event) (page : List ℕ) (s : Seen)
+    (b b' : BoardOf D F) : Type 0 where
   pub buf : List ℕ
   pub seen : Seen
-  pub makes : Makes disk_moves moves (Made Player (record { event = e; page = page }) s ∷ paces b.since b.words buf seen) b.world b'.world
+  pub makes : Makes disk_moves moves
+      (Made Player (record { event = e; page = page }) s ∷ paces b.since b.words buf seen) b.world b'.world
   pub fewer : b.begun < calls
-  pub now : b' ≡ record { world = b'.world; begun = b.begun + 1; since = since_now b.since + 1; made = b.made; words = drawn b.words (paces b.since b.words buf seen) }
+  pub now : b'
+      ≡ record {
+        world = b'.world;
+        begun = b.begun + 1;
+        since = since_now b.since + 1;
+        made = b.made;
+        words = drawn b.words (paces b.since b.words buf seen);
+      }
 
 -- how a call began: it was made, or all calls were begun before, or there was no memory; then nothing was made
-abbrev pub BeginsAs : {D F : Type 0} → (D → (c : DiskCall) → DiskAnswer c → D → Type 0) → (F → (c : FabricCall) → FabricAnswer c → F → Type 0) → ℕ → Event → List ℕ → Begun → BoardOf D F → BoardOf D F → Type 0
+abbrev pub BeginsAs :
+    {D F : Type 0} → (D → (c : DiskCall) → DiskAnswer c → D → Type 0)
+    → (F → (c : FabricCall) → FabricAnswer c → F → Type 0) → ℕ → Event → List ℕ → Begun → BoardOf D F → BoardOf D F
+    → Type 0
 BeginsAs disk_moves moves calls e page (begun.Made s) b b' = Begins disk_moves moves calls e page s b b'
 BeginsAs disk_moves moves calls e page begun.Spent b b' = (b' ≡ b) × (b.begun ≡ calls)
 BeginsAs disk_moves moves calls e page begun.NoMemory b b' = Stays b b'
@@ -152,7 +178,9 @@ TellsFault _ o = Unit {0}
 -- the history is as it was, or has the one entry more that was seen
 pub data AddsEntry (R : Row → Type 0) (before : History) (s : Seen) (now : History) : Type 0 where
   nothing : entry_seen s ≡ None → now ≡ before → AddsEntry R before s now
-  one : (row : Row) → entry_seen s ≡ Some (next_name before) → now ≡ row ∷ before → R row → TellsFault s row.entry.op → AddsEntry R before s now
+  one :
+      (row : Row) → entry_seen s ≡ Some (next_name before) → now ≡ row ∷ before → R row → TellsFault s row.entry.op
+      → AddsEntry R before s now
 
 abbrev pub BeginsHistory : Event → List ℕ → Begun → History → History → Type 0
 BeginsHistory e page (begun.Made s) before now = AddsEntry (IsAnswered e page) before s now
@@ -166,12 +194,18 @@ BeginsGives e begun.Spent H before given = given ≡ before
 BeginsGives e begun.NoMemory H before given = given ≡ before
 
 -- a later step of a call
-pub record Finishes {D F : Type 0} (disk_moves : D → (c : DiskCall) → DiskAnswer c → D → Type 0) (moves : F → (c : FabricCall) → FabricAnswer c → F → Type 0) (c : Caller) (page : List ℕ) (s : Seen) (b b' : BoardOf D F) : Type 0 where
-  pub makes : Makes disk_moves moves (Made Player (record { event = event.Finish c; page = page }) s ∷ []) b.world b'.world
+pub record Finishes {D F : Type 0} (disk_moves : D → (c : DiskCall) → DiskAnswer c → D → Type 0)
+    (moves : F → (c : FabricCall) → FabricAnswer c → F → Type 0) (c : Caller) (page : List ℕ) (s : Seen)
+    (b b' : BoardOf D F) : Type 0 where
+  pub makes : Makes disk_moves moves
+      (Made Player (record { event = event.Finish c; page = page }) s ∷ []) b.world b'.world
   pub adds : AddsEntry (IsAnswerTo b.world.core.device c) b.world.core.device.history s b'.world.core.device.history
   pub rest : b' ≡ record b { world = b'.world }
 
-abbrev pub FinishesAs : {D F : Type 0} → (D → (c : DiskCall) → DiskAnswer c → D → Type 0) → (F → (c : FabricCall) → FabricAnswer c → F → Type 0) → Caller → List ℕ → Result Seen NoMemory → BoardOf D F → BoardOf D F → Type 0
+abbrev pub FinishesAs :
+    {D F : Type 0} → (D → (c : DiskCall) → DiskAnswer c → D → Type 0)
+    → (F → (c : FabricCall) → FabricAnswer c → F → Type 0) → Caller → List ℕ → Result Seen NoMemory → BoardOf D F
+    → BoardOf D F → Type 0
 FinishesAs disk_moves moves c page (Ok s) b b' = Finishes disk_moves moves c page s b b'
 FinishesAs disk_moves moves c page (Err e) b b' = Stays b b'
 
@@ -186,7 +220,9 @@ operated_of moved.Nothing = operating.Nothing
 operated_of moved.NoMemory = operating.NoMemory
 
 -- the next event of the operator's list was made, and the answer says whether it had an effect
-pub record Operates {D F : Type 0} (disk_moves : D → (c : DiskCall) → DiskAnswer c → D → Type 0) (moves : F → (c : FabricCall) → FabricAnswer c → F → Type 0) (es : List Event) (o : Operated) (b b' : BoardOf D F) : Type 0 where
+pub record Operates {D F : Type 0} (disk_moves : D → (c : DiskCall) → DiskAnswer c → D → Type 0)
+    (moves : F → (c : FabricCall) → FabricAnswer c → F → Type 0) (es : List Event) (o : Operated)
+    (b b' : BoardOf D F) : Type 0 where
   pub event : Event
   pub page : List ℕ
   pub seen : Seen
@@ -194,10 +230,19 @@ pub record Operates {D F : Type 0} (disk_moves : D → (c : DiskCall) → DiskAn
   pub next : event ≡ slice_index_or es b.made event
   pub works : Works disk_moves moves (Made Operator (record { event = event; page = page }) seen ∷ []) b.world b'.world
   pub says : o ≡ operated_of (moved_by (lines_of (Made Operator (record { event = event; page = page }) seen ∷ [])))
-  pub now : b' ≡ record { world = b'.world; begun = b.begun; since = since_after event b.since; made = b.made + 1; words = b.words }
+  pub now : b'
+      ≡ record {
+        world = b'.world;
+        begun = b.begun;
+        since = since_after event b.since;
+        made = b.made + 1;
+        words = b.words;
+      }
 
 -- or all were made before, or there was no memory
-abbrev pub OperatesAs : {D F : Type 0} → (D → (c : DiskCall) → DiskAnswer c → D → Type 0) → (F → (c : FabricCall) → FabricAnswer c → F → Type 0) → List Event → Operated → BoardOf D F → BoardOf D F → Type 0
+abbrev pub OperatesAs :
+    {D F : Type 0} → (D → (c : DiskCall) → DiskAnswer c → D → Type 0)
+    → (F → (c : FabricCall) → FabricAnswer c → F → Type 0) → List Event → Operated → BoardOf D F → BoardOf D F → Type 0
 OperatesAs disk_moves moves es operating.Ended b b' = (b.made ≡ length es) × (b' ≡ b)
 OperatesAs disk_moves moves es operating.NoMemory b b' = Stays b b'
 OperatesAs disk_moves moves es operating.Made b b' = Operates disk_moves moves es operating.Made b b'

@@ -30,7 +30,8 @@ pub record IsSame {D F : Type 0} (w w' : WorldOf D F) : Type 0 where
   pub spare : w.core.spare ≤ w'.core.spare
 
 -- acts that begin no call and end none
-pub record Works {D F : Type 0} (disk_moves : D → (c : DiskCall) → DiskAnswer c → D → Type 0) (moves : F → (c : FabricCall) → FabricAnswer c → F → Type 0) (acts : List Act) (w w' : WorldOf D F) : Type 0 where
+pub record Works {D F : Type 0} (disk_moves : D → (c : DiskCall) → DiskAnswer c → D → Type 0)
+    (moves : F → (c : FabricCall) → FabricAnswer c → F → Type 0) (acts : List Act) (w w' : WorldOf D F) : Type 0 where
   pub makes : Makes disk_moves moves acts w w'
   pub history : w'.core.device.history ≡ w.core.device.history
   pub busy : busy_callers w'.core.device ≤ busy_callers w.core.device
@@ -44,7 +45,8 @@ IsCallless (event.Finish c) = ⊥
 IsCallless _ = Unit {0}
 
 -- such an event was made, whoever makes it
-pub record Stepped {D F : Type 0} (disk_moves : D → (c : DiskCall) → DiskAnswer c → D → Type 0) (moves : F → (c : FabricCall) → FabricAnswer c → F → Type 0) (e : Event) (w w' : WorldOf D F) : Type 0 where
+pub record Stepped {D F : Type 0} (disk_moves : D → (c : DiskCall) → DiskAnswer c → D → Type 0)
+    (moves : F → (c : FabricCall) → FabricAnswer c → F → Type 0) (e : Event) (w w' : WorldOf D F) : Type 0 where
   pub page : List ℕ
   pub seen : Seen
   pub works : (by : Maker) → Works disk_moves moves (Made by (record { event = e; page = page }) seen ∷ []) w w'
@@ -65,18 +67,22 @@ ends (Some w) page s = Made Player (record { event = event.Disk w true; page = p
 
 -- what a pump makes at the disk: a copy leaves for it, the oldest operation of a disk in memory finishes, and what
 -- finished by itself is taken
-pub record WorksDisk {D F : Type 0} (disk_moves : D → (c : DiskCall) → DiskAnswer c → D → Type 0) (moves : F → (c : FabricCall) → FabricAnswer c → F → Type 0) (means : D → Port) (acts : List Act) (w w' : WorldOf D F) : Type 0 where
+pub record WorksDisk {D F : Type 0} (disk_moves : D → (c : DiskCall) → DiskAnswer c → D → Type 0)
+    (moves : F → (c : FabricCall) → FabricAnswer c → F → Type 0) (means : D → Port) (acts : List Act)
+    (w w' : WorldOf D F) : Type 0 where
   pub started : WorldOf D F
   pub start_page : List ℕ
   pub start_seen : Seen
-  pub start : Makes disk_moves moves (Made Player (record { event = event.Start; page = start_page }) start_seen ∷ []) w started
+  pub start : Makes disk_moves moves
+      (Made Player (record { event = event.Start; page = start_page }) start_seen ∷ []) w started
   pub oldest : Option DiskWhich
   pub tells : TellsOldest (means started.core.disk).blocks (means started.core.disk).flights oldest
   pub end_page : List ℕ
   pub end_seen : Seen
   pub step : DiskStep
   pub rest : Makes disk_moves moves (Polled step ∷ ends (known w.core.device.sizes oldest) end_page end_seen) started w'
-  pub acts_are : acts ≡ (Polled step ∷ ends (known w.core.device.sizes oldest) end_page end_seen) ++ Made Player (record { event = event.Start; page = start_page }) start_seen ∷ []
+  pub acts_are : acts ≡ (Polled step ∷ ends (known w.core.device.sizes oldest) end_page end_seen)
+      ++ Made Player (record { event = event.Start; page = start_page }) start_seen ∷ []
 
 -- a pump's points: the lender is one of so many
 abbrev pub IsPoint : ℕ → Point → Type 0
@@ -85,10 +91,15 @@ IsPoint lenders (point.Give l) = l.0 < lenders
 IsPoint lenders (point.Take l) = l.0 < lenders
 
 -- what a point makes
-abbrev pub WorksAt : {D F : Type 0} → (D → (c : DiskCall) → DiskAnswer c → D → Type 0) → (F → (c : FabricCall) → FabricAnswer c → F → Type 0) → (D → Port) → Point → List Act → WorldOf D F → WorldOf D F → Type 0
+abbrev pub WorksAt :
+    {D F : Type 0} → (D → (c : DiskCall) → DiskAnswer c → D → Type 0)
+    → (F → (c : FabricCall) → FabricAnswer c → F → Type 0) → (D → Port) → Point → List Act → WorldOf D F → WorldOf D F
+    → Type 0
 WorksAt disk_moves moves means point.Disk acts w w' = WorksDisk disk_moves moves means acts w w'
-WorksAt disk_moves moves means (point.Give l) acts w w' = (page : List ℕ) × (s : Seen) × (acts ≡ Made Player (record { event = event.Give l; page = page }) s ∷ [])
-WorksAt disk_moves moves means (point.Take l) acts w w' = (page : List ℕ) × (s : Seen) × (acts ≡ Made Player (record { event = event.Take l; page = page }) s ∷ [])
+WorksAt disk_moves moves means (point.Give l) acts w w' =
+    (page : List ℕ) × (s : Seen) × (acts ≡ Made Player (record { event = event.Give l; page = page }) s ∷ [])
+WorksAt disk_moves moves means (point.Take l) acts w w' =
+    (page : List ℕ) × (s : Seen) × (acts ≡ Made Player (record { event = event.Take l; page = page }) s ∷ [])
 
 -- whether anything of it had an effect
 abbrev pub moved_by : List (Event × Seen) → Moved
@@ -100,32 +111,42 @@ abbrev pub moved_between : ℕ → ℕ → Moved
 moved_between before now = if nat_lt before now then moved.Did else moved.Nothing
 
 -- a point's acts were made, and the answer says whether one of them had an effect
-pub record Pumps {D F : Type 0} (disk_moves : D → (c : DiskCall) → DiskAnswer c → D → Type 0) (moves : F → (c : FabricCall) → FabricAnswer c → F → Type 0) (means : D → Port) (p : Point) (m : Moved) (w w' : WorldOf D F) : Type 0 where
+pub record Pumps {D F : Type 0} (disk_moves : D → (c : DiskCall) → DiskAnswer c → D → Type 0)
+    (moves : F → (c : FabricCall) → FabricAnswer c → F → Type 0) (means : D → Port) (p : Point) (m : Moved)
+    (w w' : WorldOf D F) : Type 0 where
   pub acts : List Act
   pub works : Works disk_moves moves acts w w'
   pub at_point : WorksAt disk_moves moves means p acts w w'
   pub says : m ≡ moved_by (lines_of acts)
 
 -- or there was no memory
-abbrev pub PumpsAs : {D F : Type 0} → (D → (c : DiskCall) → DiskAnswer c → D → Type 0) → (F → (c : FabricCall) → FabricAnswer c → F → Type 0) → (D → Port) → Point → Moved → WorldOf D F → WorldOf D F → Type 0
+abbrev pub PumpsAs :
+    {D F : Type 0} → (D → (c : DiskCall) → DiskAnswer c → D → Type 0)
+    → (F → (c : FabricCall) → FabricAnswer c → F → Type 0) → (D → Port) → Point → Moved → WorldOf D F → WorldOf D F
+    → Type 0
 PumpsAs disk_moves moves means p moved.Did w w' = Pumps disk_moves moves means p moved.Did w w'
 PumpsAs disk_moves moves means p moved.Nothing w w' = Pumps disk_moves moves means p moved.Nothing w w'
 PumpsAs disk_moves moves means p moved.NoMemory w w' = IsSame w w'
 
 -- so of an event
-pub record MakesOne {D F : Type 0} (disk_moves : D → (c : DiskCall) → DiskAnswer c → D → Type 0) (moves : F → (c : FabricCall) → FabricAnswer c → F → Type 0) (e : Event) (m : Moved) (w w' : WorldOf D F) : Type 0 where
+pub record MakesOne {D F : Type 0} (disk_moves : D → (c : DiskCall) → DiskAnswer c → D → Type 0)
+    (moves : F → (c : FabricCall) → FabricAnswer c → F → Type 0) (e : Event) (m : Moved)
+    (w w' : WorldOf D F) : Type 0 where
   pub page : List ℕ
   pub seen : Seen
   pub works : (by : Maker) → Works disk_moves moves (Made by (record { event = e; page = page }) seen ∷ []) w w'
   pub says : m ≡ moved_by (lines_of (Made Player (record { event = e; page = page }) seen ∷ []))
 
-abbrev pub MakesAs : {D F : Type 0} → (D → (c : DiskCall) → DiskAnswer c → D → Type 0) → (F → (c : FabricCall) → FabricAnswer c → F → Type 0) → Event → Moved → WorldOf D F → WorldOf D F → Type 0
+abbrev pub MakesAs :
+    {D F : Type 0} → (D → (c : DiskCall) → DiskAnswer c → D → Type 0)
+    → (F → (c : FabricCall) → FabricAnswer c → F → Type 0) → Event → Moved → WorldOf D F → WorldOf D F → Type 0
 MakesAs disk_moves moves e moved.Did w w' = MakesOne disk_moves moves e moved.Did w w'
 MakesAs disk_moves moves e moved.Nothing w w' = MakesOne disk_moves moves e moved.Nothing w w'
 MakesAs disk_moves moves e moved.NoMemory w w' = IsSame w w'
 
 -- of what a pump makes at the disk the middle
-pub record Ended {D F : Type 0} (disk_moves : D → (c : DiskCall) → DiskAnswer c → D → Type 0) (moves : F → (c : FabricCall) → FabricAnswer c → F → Type 0) (means : D → Port) (w w' : WorldOf D F) : Type 0 where
+pub record Ended {D F : Type 0} (disk_moves : D → (c : DiskCall) → DiskAnswer c → D → Type 0)
+    (moves : F → (c : FabricCall) → FabricAnswer c → F → Type 0) (means : D → Port) (w w' : WorldOf D F) : Type 0 where
   pub oldest : Option DiskWhich
   pub tells : TellsOldest (means w.core.disk).blocks (means w.core.disk).flights oldest
   pub page : List ℕ
@@ -133,23 +154,29 @@ pub record Ended {D F : Type 0} (disk_moves : D → (c : DiskCall) → DiskAnswe
   pub works : Works disk_moves moves (ends (known w.core.device.sizes oldest) page seen) w w'
 
 -- and the end
-pub record Polls {D F : Type 0} (disk_moves : D → (c : DiskCall) → DiskAnswer c → D → Type 0) (moves : F → (c : FabricCall) → FabricAnswer c → F → Type 0) (w w' : WorldOf D F) : Type 0 where
+pub record Polls {D F : Type 0} (disk_moves : D → (c : DiskCall) → DiskAnswer c → D → Type 0)
+    (moves : F → (c : FabricCall) → FabricAnswer c → F → Type 0) (w w' : WorldOf D F) : Type 0 where
   pub step : DiskStep
   pub works : Works disk_moves moves (Polled step ∷ []) w w'
 
 -- what a call makes first: a Round with the generator's next word, where so many calls were begun since the last
 abbrev pub paces : ℕ → Lcg → List ℕ → Seen → List Act
-paces since g page s = if nat_le PACE since then Made Pacer (record { event = event.Round (pcg32 g).0; page = page }) s ∷ [] else []
+paces since g page s =
+    if nat_le PACE since then Made Pacer (record { event = event.Round (pcg32 g).0; page = page }) s ∷ [] else []
 
 abbrev pub since_now : ℕ → ℕ
 since_now since = if nat_le PACE since then 0 else since
 
 -- the Round that was due was made, and there is room for one event more
-pub record Paced {D F : Type 0} (disk_moves : D → (c : DiskCall) → DiskAnswer c → D → Type 0) (moves : F → (c : FabricCall) → FabricAnswer c → F → Type 0) (since : ℕ) (g : Lcg) (w : WorldOf D F) (since' : ℕ) (g' : Lcg) (w' : WorldOf D F) : Type 0 where
+pub record Paced {D F : Type 0} (disk_moves : D → (c : DiskCall) → DiskAnswer c → D → Type 0)
+    (moves : F → (c : FabricCall) → FabricAnswer c → F → Type 0) (since : ℕ) (g : Lcg) (w : WorldOf D F) (since' : ℕ)
+    (g' : Lcg) (w' : WorldOf D F) : Type 0 where
   pub page : List ℕ
   pub seen : Seen
   pub works : Works disk_moves moves (paces since g page seen) w w'
   pub words : g' ≡ drawn g (paces since g page seen)
   pub since_is : since' ≡ since_now since
   pub room : 0 < w'.log_spare
-  pub idle : (c : Caller) → c.0 < w.core.device.sizes.callers → is_idle (state_of w.core.device.calls c) ≡ true → is_idle (state_of w'.core.device.calls c) ≡ true
+  pub idle :
+      (c : Caller) → c.0 < w.core.device.sizes.callers → is_idle (state_of w.core.device.calls c) ≡ true
+      → is_idle (state_of w'.core.device.calls c) ≡ true

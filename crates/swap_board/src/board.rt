@@ -46,9 +46,19 @@ impl<D: DiskPort, F: Fabric, N: Naming<D, F>> Model for Board<D, F, N> {
 
     ghost Value = { BoardOf D F };
 
-    ghost view = { λ b. record { world = b.world; begun = b.begun; since = b.since; made = length b.places.items; words = b.words } };
+    ghost view = { λ b.
+        record {
+          world = b.world;
+          begun = b.begun;
+          since = b.since;
+          made = length b.places.items;
+          words = b.words;
+        } };
 
-    ghost invariant = { λ b. IsKept D.moves F.moves N.named b.world b.begun b.since b.places.items b.words b.operator.items (vec_capacity b.places) b.calls b.page.items };
+    ghost invariant = { λ b.
+        IsKept D.moves F.moves N.named b.world b.begun b.since b.places.items b.words
+        b.operator.items
+        (vec_capacity b.places) b.calls b.page.items };
 }
 
 impl<D: DiskPort, F: Fabric, N: Naming<D, F>> Told for Board<D, F, N> {
@@ -101,16 +111,20 @@ impl<D: DiskPort, F: Fabric, N: Naming<D, F>> Board<D, F, N> {
         let _calls = self.calls;
     }
 
-    /// Begins a call: its event, and before it a Round with the generator's next word where 256 calls were begun since
-    /// the last. `Spent` comes exactly where all calls were begun before, and then nothing changes.
+    /// Begins a call: its event, and before it a Round with the generator's next word where 256
+    /// calls were begun since the last. `Spent` comes exactly where all calls were begun before,
+    /// and then nothing changes.
     pub fn begin(&mut self, event: &Event, page: &mut [u8]) -> Begun
         requires call { IsCall event.now }
         requires range { IsInRange N.named.sizes N.named.lenders event.now }
         requires idle { IsOfIdle self.old.world.core.device event.now }
         requires page { length page.old ≡ N.named.sizes.page_bytes }
-        ensures begins { BeginsAs D.moves F.moves N.named.calls event.now page.old result self.old self.new }
-        ensures history { BeginsHistory event.now page.old result self.old.world.core.device.history self.new.world.core.device.history }
-        ensures gives { BeginsGives event.now result self.new.world.core.device.history page.old page.new }
+        ensures begins { BeginsAs D.moves F.moves N.named.calls event.now page.old result
+            self.old self.new }
+        ensures history { BeginsHistory event.now page.old result
+            self.old.world.core.device.history self.new.world.core.device.history }
+        ensures gives { BeginsGives event.now result self.new.world.core.device.history page.old
+            page.new }
     {
         if self.begun == self.calls {
             return Begun::Spent;
@@ -131,7 +145,8 @@ impl<D: DiskPort, F: Fabric, N: Naming<D, F>> Board<D, F, N> {
         requires busy { is_idle (state_of self.old.world.core.device.calls caller) ≡ false }
         requires page { length page.old ≡ N.named.sizes.page_bytes }
         ensures makes { FinishesAs D.moves F.moves caller page.old result self.old self.new }
-        ensures gives { FinishesGives caller result self.new.world.core.device.history page.old page.new }
+        ensures gives { FinishesGives caller result self.new.world.core.device.history page.old
+            page.new }
     {
         if self.world.reserve(0, 1).is_err() {
             return Err(NoMemory);
@@ -139,9 +154,9 @@ impl<D: DiskPort, F: Fabric, N: Naming<D, F>> Board<D, F, N> {
         Ok(self.world.step(&Event::Finish { caller }, page))
     }
 
-    /// Works at a point: at the disk a copy leaves for it, the oldest operation of a disk in memory finishes, and what
-    /// finished by itself is taken; at a link its lender takes the next message, or the device does. `Nothing` comes
-    /// exactly where none of that has an effect.
+    /// Works at a point: at the disk a copy leaves for it, the oldest operation of a disk in memory
+    /// finishes, and what finished by itself is taken; at a link its lender takes the next message,
+    /// or the device does. `Nothing` comes exactly where none of that has an effect.
     pub fn pump(&mut self, point: Point) -> Moved
         requires { IsPoint N.named.lenders point }
         ensures pumps { PumpsAs D.moves F.moves D.means point result self.old.world self.new.world }
@@ -150,8 +165,8 @@ impl<D: DiskPort, F: Fabric, N: Naming<D, F>> Board<D, F, N> {
         pump(&mut self.world, &mut self.page, point)
     }
 
-    /// Makes the operator's next event. `Ended` comes exactly where all were made before, `Nothing` exactly where the
-    /// event had no effect; it counts as made then too.
+    /// Makes the operator's next event. `Ended` comes exactly where all were made before, `Nothing`
+    /// exactly where the event had no effect; it counts as made then too.
     pub fn operate(&mut self) -> Operated
         ensures makes { OperatesAs D.moves F.moves N.named.operator result self.old self.new }
     {
@@ -182,12 +197,29 @@ impl<D: DiskPort + Drop, F: Fabric + Drop, N: Naming<D, F>> Board<D, F, N> {
         calls: u32,
         number: u64,
     ) -> Result<Board<D, F, N>, NoMemory>
-        requires named { N.named ≡ record { opening = Some world; sizes = world.core.device.sizes; lenders = world.core.device.lenders; operator = operator.items; calls = calls; number = number } }
+        requires named { N.named
+            ≡ record {
+              opening = Some world;
+              sizes = world.core.device.sizes;
+              lenders = world.core.device.lenders;
+              operator = operator.items;
+              calls = calls;
+              number = number;
+            } }
         requires idle { busy_callers world.core.device ≡ 0 }
-        requires operator { AreOperators world.core.device.sizes world.core.device.lenders operator.items }
+        requires operator { AreOperators world.core.device.sizes world.core.device.lenders
+            operator.items }
         requires few { length world.core.device.history + calls ≤ 4_194_304 }
         ensures history { IfOk result (λ b. b.world.core.device ≡ world.core.device) }
-        ensures counts { IfOk result (λ b. b ≡ record { world = b.world; begun = 0; since = 0; made = 0; words = seed_of number }) }
+        ensures counts { IfOk result
+            (λ b. b
+            ≡ record {
+              world = b.world;
+              begun = 0;
+              since = 0;
+              made = 0;
+              words = seed_of number;
+            }) }
     {
         if world.reserve(calls, 0).is_err() {
             return Err(NoMemory);

@@ -107,8 +107,8 @@ fn poll<D: DiskPort, F: Fabric>(world: &mut World<D, F>)
     world.poll_disk();
 }
 
-// Works at the disk: a copy leaves for it, the oldest operation of a disk in memory finishes, and what finished by
-// itself is taken.
+// Works at the disk: a copy leaves for it, the oldest operation of a disk in memory finishes, and
+// what finished by itself is taken.
 fn work_disk<D: DiskPort, F: Fabric>(world: &mut World<D, F>, page: &mut Vec<u8>) -> Moved
     requires page { length page.old.items ≡ world.old.core.device.sizes.page_bytes }
     ensures page { length page.new.items ≡ length page.old.items }
@@ -151,7 +151,8 @@ pub(crate) fn pace<D: DiskPort, F: Fabric>(
 ) -> Option<u32>
     requires page { length page.old.items ≡ world.old.core.device.sizes.page_bytes }
     ensures page { length page.new.items ≡ length page.old.items }
-    ensures paced { IfSome result (λ n. Paced D.moves F.moves since words.old world.old n words.new world.new) }
+    ensures paced { IfSome result
+        (λ n. Paced D.moves F.moves since words.old world.old n words.new world.new) }
     ensures none { IfNone result (IsSame world.old world.new × (words.new ≡ words.old)) }
 {
     if world.reserve(0, 2).is_err() {

@@ -12,12 +12,13 @@ use Rattle.swap_base.specs.Sizes.{Sizes, pages_of, zeros}
 use Rattle.swap_disk.specs.declared.mem_disk.Ended.{Ended}
 use Rattle.swap_disk.specs.Disk.{Disk, Flight, Write, Read, which_of, page_of, Finished, is_flight_of, without, spoilt, settled, finish, finish_flight, can_finish, bytes_given, one_more, Taken, taken, taken_of, after_take, after_take_of, started}
 use Rattle.swap_disk.specs.Drive.{Drive, IsInFlight, IsDrive, new_drive}
-use Rattle.swap_disk.specs.Follows.{found_is, found_again}
+use Rattle.swap_disk.specs.lemmas.Follows.{found_is, found_again}
 use Rattle.swap_disk.specs.Blocks.{Table}
 use Rattle.swap_disk.specs.Flights.{Flying, ended_as, ended_in, drive_in, Stands, settled_by, handed, Holds}
 
 -- a disk as it is kept is a drive
-flies : (flights : List Flight) (w : DiskWhich) (ok : Bool) (found : Option Flight) → find (is_flight_of w) flights ≡ found → IsInFlight flights (ended_as ok found)
+flies :
+    (flights : List Flight) (w : DiskWhich) (ok : Bool) (found : Option Flight) → find (is_flight_of w) flights ≡ found → IsInFlight flights (ended_as ok found)
 flies flights w ok None e = tt
 flies flights w ok (Some flight) e = found_again w flights flight e
 
@@ -25,7 +26,8 @@ ended_flies : (flights : List Flight) (ended : Option Ended) → IsInFlight flig
 ended_flies flights None = tt
 ended_flies flights (Some e) = flies flights e.which e.ok (find (is_flight_of e.which) flights) refl
 
-pub is_drive : (table : Table) (flying : Flying) (ended : Option Ended) (faults : ℕ) → Holds table flying ended faults → IsDrive (drive_in table flying ended faults)
+pub is_drive :
+    (table : Table) (flying : Flying) (ended : Option Ended) (faults : ℕ) → Holds table flying ended faults → IsDrive (drive_in table flying ended faults)
 is_drive table flying ended faults h = record { in_flight = ended_flies flying.flights ended; range = h.faults_fit }
 
 -- ---- an operation is started
@@ -47,9 +49,11 @@ stands_more fs more (Some e) h = ap (λ (o : Option Flight). is_some o) (found_m
 
 module _ (table : Table) (flying flying' : Flying) (ended : Option Ended) (faults : ℕ) (more : List Flight) (h : Holds table flying ended faults)
     (is : flying' ≡ record { sizes = flying.sizes; flights = flying.flights ++ more }) where
-  pub start_is : ◌≡◌ {A = Drive} (record { sizes = flying.sizes; disk = started (drive_in table flying ended faults).disk more }) (drive_in table flying' ended faults)
+  pub start_is : ◌≡◌ {A = Drive} (record { sizes = flying.sizes; disk = started (drive_in table flying ended faults).disk more })
+      (drive_in table flying' ended faults)
   start_is =
-      let F : Option Finished → Drive = λ o. record { sizes = flying.sizes; disk = record { blocks = table.blocks; flights = flying.flights ++ more; finished = o; faults = faults } } in
+      let F : Option Finished → Drive =
+      λ o. record { sizes = flying.sizes; disk = record { blocks = table.blocks; flights = flying.flights ++ more; finished = o; faults = faults } } in
       ap F (sym (ended_more flying.flights more ended h.stands)) ∙ ap (λ (f : Flying). drive_in table f ended faults) (sym is)
 
   pub start_holds : Holds table flying' ended faults
@@ -59,7 +63,9 @@ module _ (table : Table) (flying flying' : Flying) (ended : Option Ended) (fault
 
 -- ---- an operation that has finished is taken
 
-given : (table : Table) (w : DiskWhich) (page : Page) (ok : Bool) (buf : List ℕ) → bytes_given w ok (handed table w page ok buf) ≡ bytes_given w ok (get_or table.blocks page.0 [])
+given :
+    (table : Table) (w : DiskWhich) (page : Page) (ok : Bool) (buf : List ℕ)
+    → bytes_given w ok (handed table w page ok buf) ≡ bytes_given w ok (get_or table.blocks page.0 [])
 given table (which.Write p) page ok buf = refl
 given table (which.Read c) page true buf = refl
 given table (which.Read c) page false buf = refl
@@ -72,50 +78,70 @@ TakeGives table flying e faults o page buf =
     × (after_take_of (record { blocks = table.blocks; flights = flying.flights; finished = ended_as e.ok o; faults = faults }) (ended_as e.ok o)
     ≡ record { blocks = table.blocks; flights = without e.which flying.flights; finished = None; faults = if e.ok then faults else one_more faults })
 
-take_found : (table : Table) (flying : Flying) (e : Ended) (faults : ℕ) (o : Option Flight) (page : Page) (buf : List ℕ) → find (is_flight_of e.which) flying.flights ≡ o → option_map page_of o ≡ Some page → TakeGives table flying e faults o page buf
+take_found :
+    (table : Table) (flying : Flying) (e : Ended) (faults : ℕ) (o : Option Flight) (page : Page) (buf : List ℕ) → find (is_flight_of e.which) flying.flights ≡ o
+    → option_map page_of o ≡ Some page → TakeGives table flying e faults o page buf
 take_found table flying e faults None page buf found is = cc
 take_found table flying e faults (Some f) page buf found is =
     let page_is : page_of f ≡ page = cc in
     let which_is : which_of f ≡ e.which = sym (found_is e.which flying.flights f found) in
     let G : DiskWhich → Page → List ℕ → Option Taken = λ w p bs. Some (record { done = record { which = w; page = p; ok = e.ok }; bytes = bs }) in (
-      ap (λ w. G w (page_of f) (bytes_given w e.ok (get_or table.blocks (page_of f).0 []))) which_is ∙ ap (λ p. G e.which p (bytes_given e.which e.ok (get_or table.blocks p.0 []))) page_is
+      ap (λ w. G w (page_of f) (bytes_given w e.ok (get_or table.blocks (page_of f).0 []))) which_is
+          ∙ ap (λ p. G e.which p (bytes_given e.which e.ok (get_or table.blocks p.0 []))) page_is
           ∙ ap (λ bs. G e.which page bs) (sym (given table e.which page e.ok buf)),
-      ap (λ w. record { blocks = table.blocks; flights = without w flying.flights; finished = None; faults = if e.ok then faults else one_more faults }) which_is,
+      ap
+          (λ w. record { blocks = table.blocks; flights = without w flying.flights; finished = None; faults = if e.ok then faults else one_more faults })
+          which_is,
     )
 
-module _ (table : Table) (flying flying' : Flying) (e : Ended) (faults faults' : ℕ) (page : Page) (buf buf' : List ℕ) (found : option_map page_of (find (is_flight_of e.which) flying.flights) ≡ Some page)
-    (handed_is : buf' ≡ handed table e.which page e.ok buf) (landed : flying' ≡ record { sizes = flying.sizes; flights = without e.which flying.flights }) (counted : faults' ≡ (if e.ok then faults else one_more faults)) where
+module _ (table : Table) (flying flying' : Flying) (e : Ended) (faults faults' : ℕ) (page : Page) (buf buf' : List ℕ)
+    (found : option_map page_of (find (is_flight_of e.which) flying.flights) ≡ Some page)
+    (handed_is : buf' ≡ handed table e.which page e.ok buf) (landed : flying' ≡ record { sizes = flying.sizes; flights = without e.which flying.flights })
+    (counted : faults' ≡ (if e.ok then faults else one_more faults)) where
   gives : TakeGives table flying e faults (find (is_flight_of e.which) flying.flights) page buf
   gives = take_found table flying e faults (find (is_flight_of e.which) flying.flights) page buf refl found
 
-  pub taken_is : taken (drive_in table flying (Some e) faults).disk ≡ Some (record { done = record { which = e.which; page = page; ok = e.ok }; bytes = bytes_given e.which e.ok buf' })
-  taken_is = gives.0 ∙ ap (λ bs. Some (record { done = record { which = e.which; page = page; ok = e.ok }; bytes = bytes_given e.which e.ok bs })) (sym handed_is)
+  pub taken_is : taken (drive_in table flying (Some e) faults).disk
+      ≡ Some (record { done = record { which = e.which; page = page; ok = e.ok }; bytes = bytes_given e.which e.ok buf' })
+  taken_is =
+      gives.0 ∙ ap (λ bs. Some (record { done = record { which = e.which; page = page; ok = e.ok }; bytes = bytes_given e.which e.ok bs })) (sym handed_is)
 
-  pub after_is : ◌≡◌ {A = Drive} (record { sizes = flying.sizes; disk = after_take (drive_in table flying (Some e) faults).disk }) (drive_in table flying' None faults')
+  pub after_is : ◌≡◌ {A = Drive} (record { sizes = flying.sizes; disk = after_take (drive_in table flying (Some e) faults).disk })
+      (drive_in table flying' None faults')
   after_is =
       let D : Disk → Drive = λ d. record { sizes = flying.sizes; disk = d } in
-      let F : ℕ → Drive = λ n. record { sizes = flying.sizes; disk = record { blocks = table.blocks; flights = without e.which flying.flights; finished = None; faults = n } } in
+      let F : ℕ → Drive =
+      λ n. record { sizes = flying.sizes; disk = record { blocks = table.blocks; flights = without e.which flying.flights; finished = None; faults = n } } in
       ap D gives.1 ∙ ap F (sym counted) ∙ ap (λ (f : Flying). drive_in table f None faults') (sym landed)
 
 -- ---- an operation finishes
 
 -- what a write and a read leave of the blocks
 pub settles_write : (table : Table) (o : Option Flight) (page : Page) (bytes : List ℕ) (ok : Bool) → o ≡ Some (Write page bytes) → ok ≡ true
-    → ◌≡◌ {A = Table} (record { blocks = set table.blocks page.0 bytes; page_bytes = table.page_bytes }) (record { blocks = settled_by table.blocks o ok; page_bytes = table.page_bytes })
+    → ◌≡◌ {A = Table} (record { blocks = set table.blocks page.0 bytes; page_bytes = table.page_bytes })
+    (record { blocks = settled_by table.blocks o ok; page_bytes = table.page_bytes })
 settles_write table o page bytes ok is true' =
     let F : List (List ℕ) → Table = λ bs. record { blocks = bs; page_bytes = table.page_bytes } in
-    ap F (ap (λ l. set table.blocks page.0 l) (sym (cond-true ok bytes (spoilt bytes) true')) ∙ ap (λ (x : Option Flight). settled_by table.blocks x ok) (sym is))
+    ap F
+    (ap (λ l. set table.blocks page.0 l) (sym (cond-true ok bytes (spoilt bytes) true')) ∙ ap (λ (x : Option Flight). settled_by table.blocks x ok) (sym is))
 
-pub spoils : (table : Table) (o : Option Flight) (page : Page) (bytes : List ℕ) (ok : Bool) → o ≡ Some (Write page bytes) → length bytes ≡ table.page_bytes → ok ≡ false
-    → ◌≡◌ {A = Table} (record { blocks = set table.blocks page.0 (replicate table.page_bytes 255); page_bytes = table.page_bytes }) (record { blocks = settled_by table.blocks o ok; page_bytes = table.page_bytes })
+pub spoils :
+    (table : Table) (o : Option Flight) (page : Page) (bytes : List ℕ) (ok : Bool) → o ≡ Some (Write page bytes) → length bytes ≡ table.page_bytes → ok ≡ false
+    → ◌≡◌ {A = Table} (record { blocks = set table.blocks page.0 (replicate table.page_bytes 255); page_bytes = table.page_bytes })
+    (record { blocks = settled_by table.blocks o ok; page_bytes = table.page_bytes })
 spoils table o page bytes ok is long failed =
     let F : List (List ℕ) → Table = λ bs. record { blocks = bs; page_bytes = table.page_bytes } in
     let spoilt_is : replicate table.page_bytes 255 ≡ spoilt bytes = splat_is_map bytes table.page_bytes 255 long in
-    ap F (ap (λ l. set table.blocks page.0 l) (spoilt_is ∙ sym (cond-false ok bytes (spoilt bytes) failed)) ∙ ap (λ (x : Option Flight). settled_by table.blocks x ok) (sym is))
+    ap F
+    (ap (λ l. set table.blocks page.0 l) (spoilt_is ∙ sym (cond-false ok bytes (spoilt bytes) failed))
+    ∙ ap (λ (x : Option Flight). settled_by table.blocks x ok) (sym is))
 
-pub settles_read : (blocks : List (List ℕ)) (w : DiskWhich) (fs : List Flight) (o : Option Flight) (caller : Caller) (ok : Bool) → find (is_flight_of w) fs ≡ o → w ≡ which.Read caller → blocks ≡ settled_by blocks o ok
+pub settles_read :
+    (blocks : List (List ℕ)) (w : DiskWhich) (fs : List Flight) (o : Option Flight) (caller : Caller) (ok : Bool) → find (is_flight_of w) fs ≡ o
+    → w ≡ which.Read caller → blocks ≡ settled_by blocks o ok
 settles_read blocks w fs None caller ok found is = refl
-settles_read blocks w fs (Some (Write page bytes)) caller ok found is = let e : which.Read caller ≡ which.Write page = sym is ∙ found_is w fs (Write page bytes) found in cc
+settles_read blocks w fs (Some (Write page bytes)) caller ok found is =
+    let e : which.Read caller ≡ which.Write page = sym is ∙ found_is w fs (Write page bytes) found in cc
 settles_read blocks w fs (Some (Read c page)) caller ok found is = refl
 
 -- nothing finishes where an operation waits to be taken, or none is in flight
@@ -123,22 +149,29 @@ waits : (o : Option Flight) (ok : Bool) → IsSome o → IsSome (ended_as ok o)
 waits None ok some = absurd (false≢true some)
 waits (Some f) ok some = refl
 
-stays_of : (d : Disk) (w : DiskWhich) (ok : Bool) (o : Option Finished) (flight : Option Flight) → IsSome o → (is_none o && is_some flight ≡ false) × (finish_flight d o flight ok ≡ d)
+stays_of :
+    (d : Disk) (w : DiskWhich) (ok : Bool) (o : Option Finished) (flight : Option Flight) → IsSome o
+    → (is_none o && is_some flight ≡ false) × (finish_flight d o flight ok ≡ d)
 stays_of d w ok None flight some = absurd (false≢true some)
 stays_of d w ok (Some f) flight some = (refl, refl)
 
 pub stays : (table : Table) (flying : Flying) (ended : Option Ended) (faults : ℕ) (w : DiskWhich) (ok : Bool) → Holds table flying ended faults → IsSome ended
-    → (can_finish (drive_in table flying ended faults).disk w ≡ false) × (finish (drive_in table flying ended faults).disk w ok ≡ (drive_in table flying ended faults).disk)
+    → (can_finish (drive_in table flying ended faults).disk w ≡ false)
+    × (finish (drive_in table flying ended faults).disk w ok ≡ (drive_in table flying ended faults).disk)
 stays table flying None faults w ok h some = absurd (false≢true some)
 stays table flying (Some e) faults w ok h some =
-    stays_of (drive_in table flying (Some e) faults).disk w ok (ended_in flying.flights (Some e)) (find (is_flight_of w) flying.flights) (waits (find (is_flight_of e.which) flying.flights) e.ok h.stands)
+    stays_of (drive_in table flying (Some e) faults).disk w ok (ended_in flying.flights (Some e)) (find (is_flight_of w) flying.flights)
+    (waits (find (is_flight_of e.which) flying.flights) e.ok h.stands)
 
 is_none_of : (o : Option Flight) → is_some o ≡ false → o ≡ None
 is_none_of None lacks = refl
 is_none_of (Some f) lacks = absurd (false≢true (sym lacks))
 
-pub none_finishes : (table : Table) (flying : Flying) (ended : Option Ended) (faults : ℕ) (w : DiskWhich) (ok : Bool) → is_some ended ≡ false → is_some (find (is_flight_of w) flying.flights) ≡ false
-    → (can_finish (drive_in table flying ended faults).disk w ≡ false) × (finish (drive_in table flying ended faults).disk w ok ≡ (drive_in table flying ended faults).disk)
+pub none_finishes :
+    (table : Table) (flying : Flying) (ended : Option Ended) (faults : ℕ) (w : DiskWhich) (ok : Bool) → is_some ended ≡ false
+    → is_some (find (is_flight_of w) flying.flights) ≡ false
+    → (can_finish (drive_in table flying ended faults).disk w ≡ false)
+    × (finish (drive_in table flying ended faults).disk w ok ≡ (drive_in table flying ended faults).disk)
 none_finishes table flying (Some e) faults w ok lacks found = absurd (false≢true (sym lacks))
 none_finishes table flying None faults w ok lacks found =
     let none : find (is_flight_of w) flying.flights ≡ None = is_none_of (find (is_flight_of w) flying.flights) found in

@@ -30,14 +30,19 @@ below_apart : (a p c : ℕ) → a < p → a ≢ p + c
 below_apart a p c lt e = omega (arith, lt, e)
 
 -- other operations are as they were where one page's bytes, or one caller's page, are others
-write_other : (s : Sizes) (reading : List Page) (kept : List (Option (List ℕ))) (page : ℕ) (o : Option (List ℕ)) (x : ℕ) → x ≢ page → flight_at s reading (set kept page o) x ≡ flight_at s reading kept x
+write_other :
+    (s : Sizes) (reading : List Page) (kept : List (Option (List ℕ))) (page : ℕ) (o : Option (List ℕ)) (x : ℕ) → x ≢ page
+    → flight_at s reading (set kept page o) x ≡ flight_at s reading kept x
 write_other s reading kept page o x ne =
-    ap (λ b. cond (nat_lt x (pages_of s)) (Write (record { 0 = x }) b) (Read (record { 0 = x - pages_of s }) (page_read reading (x - pages_of s)))) (ap (λ v. bytes_of v) (get_or-set_other kept page x o None ne))
+    ap (λ b. cond (nat_lt x (pages_of s)) (Write (record { 0 = x }) b) (Read (record { 0 = x - pages_of s }) (page_read reading (x - pages_of s))))
+    (ap (λ v. bytes_of v) (get_or-set_other kept page x o None ne))
   where
     bytes_of : Option (List ℕ) → List ℕ
     bytes_of v = bytes_at (v ∷ []) 0
 
-read_other : (s : Sizes) (reading : List Page) (kept : List (Option (List ℕ))) (caller : ℕ) (page : Page) (x : ℕ) → x ≢ pages_of s + caller → flight_at s (set reading caller page) kept x ≡ flight_at s reading kept x
+read_other :
+    (s : Sizes) (reading : List Page) (kept : List (Option (List ℕ))) (caller : ℕ) (page : Page) (x : ℕ) → x ≢ pages_of s + caller
+    → flight_at s (set reading caller page) kept x ≡ flight_at s reading kept x
 read_other s reading kept caller page x ne =
     let W : Flight = Write (record { 0 = x }) (bytes_at kept x) in
     let R : Page → Flight = λ p. Read (record { 0 = x - pages_of s }) p in
@@ -51,9 +56,12 @@ read_other s reading kept caller page x ne =
 
 -- ---- a write is started
 
-module _ (enters : EntersOne) (s : Sizes) (order writes order' writes' : Line) (reading : List Page) (kept kept' : List (Option (List ℕ))) (spare spare' : List (List ℕ)) (page : Page) (bytes room : List ℕ)
-    (h : AreKept s order writes reading kept spare) (within : page.0 < pages_of s) (fits : length bytes ≡ s.page_bytes) (out : stands order.numbers page.0 ≡ false) (popped : spare ≡ spare' ++ room ∷ [])
-    (entered : order'.numbers ≡ order.numbers ++ page.0 ∷ []) (entered' : writes'.numbers ≡ writes.numbers ++ page.0 ∷ []) (kept_is : kept' ≡ set kept page.0 (Some bytes)) where
+module _ (enters : EntersOne) (s : Sizes) (order writes order' writes' : Line) (reading : List Page) (kept kept' : List (Option (List ℕ)))
+    (spare spare' : List (List ℕ)) (page : Page) (bytes room : List ℕ)
+    (h : AreKept s order writes reading kept spare) (within : page.0 < pages_of s) (fits : length bytes ≡ s.page_bytes)
+    (out : stands order.numbers page.0 ≡ false) (popped : spare ≡ spare' ++ room ∷ [])
+    (entered : order'.numbers ≡ order.numbers ++ page.0 ∷ []) (entered' : writes'.numbers ≡ writes.numbers ++ page.0 ∷ [])
+    (kept_is : kept' ≡ set kept page.0 (Some bytes)) where
   kept_here : get_or kept' page.0 None ≡ Some bytes
   kept_here = ap (λ l. get_or l page.0 None) kept_is ∙ get_or-set_same kept page.0 (Some bytes) None (subst (λ n. page.0 < n) (sym h.kept_len) within)
 
@@ -64,22 +72,30 @@ module _ (enters : EntersOne) (s : Sizes) (order writes order' writes' : Line) (
   page_kept p in' =
       ⊎_elim
       (λ (e : page.0 ≡ p). subst (λ k. IsPage s (get_or kept' k None)) e (subst (IsPage s) (sym kept_here) (refl, fits)))
-      (λ (ne : page.0 ≢ p). subst (IsPage s) (sym (kept_there p ne)) (h.kept_fits p (sym (ap (λ l. stands l p) entered' ∙ behind enters writes.numbers page.0 p ne) ∙ in')))
+      (λ (ne : page.0 ≢ p).
+      subst (IsPage s) (sym (kept_there p ne)) (h.kept_fits p (sym (ap (λ l. stands l p) entered' ∙ behind enters writes.numbers page.0 p ne) ∙ in')))
       (cases_eq page.0 p)
 
   pub write_kept : order'.bound ≡ order.bound → writes'.bound ≡ writes.bound → AreKept s order' writes' reading kept' spare'
   write_kept bound bound' = record {
     order_bound = bound ∙ h.order_bound;
     writes_bound = bound' ∙ h.writes_bound;
-    writes_are = entered' ∙ ap (λ l. l ++ page.0 ∷ []) h.writes_are ∙ sym (page_enters s reading kept order.numbers page.0 within) ∙ ap (λ l. pages_among s l) (sym entered);
+    writes_are =
+        entered' ∙ ap (λ l. l ++ page.0 ∷ []) h.writes_are ∙ sym (page_enters s reading kept order.numbers page.0 within)
+        ∙ ap (λ l. pages_among s l) (sym entered);
     reading_len = h.reading_len;
     kept_len = ap length kept_is ∙ length-set kept page.0 (Some bytes) ∙ h.kept_len;
     room = omega (arith, h.room, ap length popped, length_push spare' room, ap length entered', length_push writes.numbers page.0);
     spare_fits = λ i d lt.
-        ap length (sym (ap (λ l. get_or l i d) popped ∙ get_or_append_left spare' (room ∷ []) d i lt)) ∙ h.spare_fits i d (omega (arith, lt, ap length popped, length_push spare' room));
+        ap length (sym (ap (λ l. get_or l i d) popped ∙ get_or_append_left spare' (room ∷ []) d i lt))
+        ∙ h.spare_fits i d (omega (arith, lt, ap length popped, length_push spare' room));
     kept_fits = page_kept;
     reads_fit = λ caller in'.
-        h.reads_fit caller (sym (ap (λ l. stands l (pages_of s + caller)) entered ∙ behind enters order.numbers page.0 (pages_of s + caller) (below_apart page.0 (pages_of s) caller within)) ∙ in');
+        h.reads_fit caller
+        (sym
+        (ap (λ l. stands l (pages_of s + caller)) entered
+        ∙ behind enters order.numbers page.0 (pages_of s + caller) (below_apart page.0 (pages_of s) caller within))
+        ∙ in');
   }
 
   pub write_flies : flights_in s reading kept' order'.numbers ≡ flights_in s reading kept order.numbers ++ Write page bytes ∷ []
@@ -89,16 +105,21 @@ module _ (enters : EntersOne) (s : Sizes) (order writes order' writes' : Line) (
       let same : (x : ℕ) → x ≢ page.0 → flight_at s reading kept' x ≡ flight_at s reading kept x =
       λ x ne. ap (λ l. flight_at s reading l x) kept_is ∙ write_other s reading kept page.0 (Some bytes) x ne in
       ap (λ l. flights_in s reading kept' l) entered ∙ map-append (λ n. flight_at s reading kept' n) order.numbers (page.0 ∷ [])
-      ∙ ap (λ l. l ++ flight_at s reading kept' page.0 ∷ []) (map_same (λ n. flight_at s reading kept' n) (λ n. flight_at s reading kept n) order.numbers page.0 same out)
-      ∙ ap (λ f. flights_in s reading kept order.numbers ++ f ∷ []) (at_write s reading kept' page.0 within ∙ ap (λ o. Write page (bytes_at (o ∷ []) 0)) kept_here)
+      ∙ ap (λ l. l ++ flight_at s reading kept' page.0 ∷ [])
+      (map_same (λ n. flight_at s reading kept' n) (λ n. flight_at s reading kept n) order.numbers page.0 same out)
+      ∙ ap (λ f. flights_in s reading kept order.numbers ++ f ∷ [])
+      (at_write s reading kept' page.0 within ∙ ap (λ o. Write page (bytes_at (o ∷ []) 0)) kept_here)
 
 -- ---- a read is started
 
-module _ (enters : EntersOne) (s : Sizes) (order writes order' : Line) (reading reading' : List Page) (kept : List (Option (List ℕ))) (spare : List (List ℕ)) (caller : Caller) (page : Page)
-    (h : AreKept s order writes reading kept spare) (known : caller.0 < s.callers) (within : page.0 < pages_of s) (out : stands order.numbers (pages_of s + caller.0) ≡ false)
+module _ (enters : EntersOne) (s : Sizes) (order writes order' : Line) (reading reading' : List Page) (kept : List (Option (List ℕ))) (spare : List (List ℕ))
+    (caller : Caller) (page : Page)
+    (h : AreKept s order writes reading kept spare) (known : caller.0 < s.callers) (within : page.0 < pages_of s)
+    (out : stands order.numbers (pages_of s + caller.0) ≡ false)
     (entered : order'.numbers ≡ order.numbers ++ (pages_of s + caller.0) ∷ []) (reading_is : reading' ≡ set reading caller.0 page) where
   read_here : page_read reading' caller.0 ≡ page
-  read_here = ap (λ l. page_read l caller.0) reading_is ∙ get_or-set_same reading caller.0 page (record { 0 = 0 }) (subst (λ n. caller.0 < n) (sym h.reading_len) known)
+  read_here =
+      ap (λ l. page_read l caller.0) reading_is ∙ get_or-set_same reading caller.0 page (record { 0 = 0 }) (subst (λ n. caller.0 < n) (sym h.reading_len) known)
 
   read_there : (c : ℕ) → caller.0 ≢ c → page_read reading' c ≡ page_read reading c
   read_there c ne = ap (λ l. page_read l c) reading_is ∙ get_or-set_other reading caller.0 c page (record { 0 = 0 }) (λ e. ne (sym e))
@@ -131,15 +152,19 @@ module _ (enters : EntersOne) (s : Sizes) (order writes order' : Line) (reading 
       let same : (x : ℕ) → x ≢ pages_of s + caller.0 → flight_at s reading' kept x ≡ flight_at s reading kept x =
       λ x ne. ap (λ l. flight_at s l kept x) reading_is ∙ read_other s reading kept caller.0 page x ne in
       ap (λ l. flights_in s reading' kept l) entered ∙ map-append (λ n. flight_at s reading' kept n) order.numbers ((pages_of s + caller.0) ∷ [])
-      ∙ ap (λ l. l ++ flight_at s reading' kept (pages_of s + caller.0) ∷ []) (map_same (λ n. flight_at s reading' kept n) (λ n. flight_at s reading kept n) order.numbers (pages_of s + caller.0) same out)
+      ∙ ap (λ l. l ++ flight_at s reading' kept (pages_of s + caller.0) ∷ [])
+      (map_same (λ n. flight_at s reading' kept n) (λ n. flight_at s reading kept n) order.numbers (pages_of s + caller.0) same out)
       ∙ ap (λ f. flights_in s reading kept order.numbers ++ f ∷ []) (at_caller s reading' kept caller.0 ∙ ap (λ p. Read caller p) read_here)
 
 -- ---- a write is over
 
-module _ (leaves : LeavesOne) (s : Sizes) (order writes order' writes' : Line) (reading : List Page) (kept kept' : List (Option (List ℕ))) (spare spare' : List (List ℕ)) (page : Page) (bytes : List ℕ)
-    (h : AreKept s order writes reading kept spare) (once : AreOnce order.numbers) (once' : AreOnce writes.numbers) (within : page.0 < pages_of s) (in' : stands order.numbers page.0 ≡ true)
+module _ (leaves : LeavesOne) (s : Sizes) (order writes order' writes' : Line) (reading : List Page) (kept kept' : List (Option (List ℕ)))
+    (spare spare' : List (List ℕ)) (page : Page) (bytes : List ℕ)
+    (h : AreKept s order writes reading kept spare) (once : AreOnce order.numbers) (once' : AreOnce writes.numbers) (within : page.0 < pages_of s)
+    (in' : stands order.numbers page.0 ≡ true)
     (took : get_or kept page.0 None ≡ Some bytes) (pushed : spare' ≡ spare ++ bytes ∷ [])
-    (left : order'.numbers ≡ line.without page.0 order.numbers) (left' : writes'.numbers ≡ line.without page.0 writes.numbers) (kept_is : kept' ≡ set kept page.0 None) where
+    (left : order'.numbers ≡ line.without page.0 order.numbers) (left' : writes'.numbers ≡ line.without page.0 writes.numbers)
+    (kept_is : kept' ≡ set kept page.0 None) where
   pub stands_too : stands writes.numbers page.0 ≡ true
   stands_too = ap (λ l. stands l page.0) h.writes_are ∙ page_stands s reading kept order.numbers page.0 within ∙ in'
 
@@ -163,13 +188,16 @@ module _ (leaves : LeavesOne) (s : Sizes) (order writes order' writes' : Line) (
   landed_kept bound bound' = record {
     order_bound = bound ∙ h.order_bound;
     writes_bound = bound' ∙ h.writes_bound;
-    writes_are = left' ∙ ap (λ l. line.without page.0 l) h.writes_are ∙ page_leaves s reading kept order.numbers page.0 within ∙ ap (λ l. pages_among s l) (sym left);
+    writes_are =
+        left' ∙ ap (λ l. line.without page.0 l) h.writes_are ∙ page_leaves s reading kept order.numbers page.0 within ∙ ap (λ l. pages_among s l) (sym left);
     reading_len = h.reading_len;
     kept_len = ap length kept_is ∙ length-set kept page.0 None ∙ h.kept_len;
     room = omega (arith, h.room, ap length pushed, length_push spare bytes, ap length left', length-without writes.numbers page.0 stands_too);
     spare_fits = spare_still;
     kept_fits = still_kept;
-    reads_fit = λ caller there. h.reads_fit caller (still leaves order.numbers page.0 (pages_of s + caller) once (sym (ap (λ l. stands l (pages_of s + caller)) left) ∙ there)).1;
+    reads_fit =
+        λ caller there.
+        h.reads_fit caller (still leaves order.numbers page.0 (pages_of s + caller) once (sym (ap (λ l. stands l (pages_of s + caller)) left) ∙ there)).1;
   }
 
   pub write_landed : flights_in s reading kept' order'.numbers ≡ without (which.Write page) (flights_in s reading kept order.numbers)
@@ -177,13 +205,16 @@ module _ (leaves : LeavesOne) (s : Sizes) (order writes order' writes' : Line) (
       let same : (x : ℕ) → x ≢ page.0 → flight_at s reading kept' x ≡ flight_at s reading kept x =
       λ x ne. ap (λ l. flight_at s reading l x) kept_is ∙ write_other s reading kept page.0 None x ne in
       ap (λ l. flights_in s reading kept' l) left
-      ∙ map_same (λ n. flight_at s reading kept' n) (λ n. flight_at s reading kept n) (line.without page.0 order.numbers) page.0 same (gone leaves order.numbers page.0 once)
+      ∙ map_same (λ n. flight_at s reading kept' n) (λ n. flight_at s reading kept n) (line.without page.0 order.numbers) page.0 same
+      (gone leaves order.numbers page.0 once)
       ∙ sym (without_is s reading kept (which.Write page) order.numbers (lt-ltb page.0 (pages_of s) within))
 
 -- ---- a read is over
 
-module _ (leaves : LeavesOne) (s : Sizes) (order writes order' : Line) (reading : List Page) (kept : List (Option (List ℕ))) (spare : List (List ℕ)) (caller : Caller)
-    (h : AreKept s order writes reading kept spare) (once : AreOnce order.numbers) (known : caller.0 < s.callers) (left : order'.numbers ≡ line.without (pages_of s + caller.0) order.numbers) where
+module _ (leaves : LeavesOne) (s : Sizes) (order writes order' : Line) (reading : List Page) (kept : List (Option (List ℕ))) (spare : List (List ℕ))
+    (caller : Caller)
+    (h : AreKept s order writes reading kept spare) (once : AreOnce order.numbers) (known : caller.0 < s.callers)
+    (left : order'.numbers ≡ line.without (pages_of s + caller.0) order.numbers) where
   pub still_reading : order'.bound ≡ order.bound → AreKept s order' writes reading kept spare
   still_reading bound = record {
     order_bound = bound ∙ h.order_bound;
@@ -194,7 +225,9 @@ module _ (leaves : LeavesOne) (s : Sizes) (order writes order' : Line) (reading 
     room = h.room;
     spare_fits = h.spare_fits;
     kept_fits = h.kept_fits;
-    reads_fit = λ c there. h.reads_fit c (still leaves order.numbers (pages_of s + caller.0) (pages_of s + c) once (sym (ap (λ l. stands l (pages_of s + c)) left) ∙ there)).1;
+    reads_fit =
+        λ c there.
+        h.reads_fit c (still leaves order.numbers (pages_of s + caller.0) (pages_of s + c) once (sym (ap (λ l. stands l (pages_of s + c)) left) ∙ there)).1;
   }
 
   pub read_landed : flights_in s reading kept order'.numbers ≡ without (which.Read caller) (flights_in s reading kept order.numbers)

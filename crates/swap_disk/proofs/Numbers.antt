@@ -40,13 +40,20 @@ module _ (s : Sizes) (reading : List Page) (kept : List (Option (List ℕ))) whe
   flights numbers = flights_in s reading kept numbers
 
   pub at_write : (n : ℕ) → n < pages_of s → at n ≡ Write (record { 0 = n }) (bytes_at kept n)
-  at_write n lt = cond-true (nat_lt n (pages_of s)) (Write (record { 0 = n }) (bytes_at kept n)) (Read (record { 0 = n - pages_of s }) (page_read reading (n - pages_of s))) (lt-ltb n (pages_of s) lt)
+  at_write n lt =
+      cond-true (nat_lt n (pages_of s)) (Write (record { 0 = n }) (bytes_at kept n)) (Read (record { 0 = n - pages_of s }) (page_read reading (n - pages_of s)))
+      (lt-ltb n (pages_of s) lt)
 
   at_read : (n : ℕ) → pages_of s ≤ n → at n ≡ Read (record { 0 = n - pages_of s }) (page_read reading (n - pages_of s))
-  at_read n le = cond-false (nat_lt n (pages_of s)) (Write (record { 0 = n }) (bytes_at kept n)) (Read (record { 0 = n - pages_of s }) (page_read reading (n - pages_of s))) (le-ltb n (pages_of s) le)
+  at_read n le =
+      cond-false (nat_lt n (pages_of s)) (Write (record { 0 = n }) (bytes_at kept n))
+      (Read (record { 0 = n - pages_of s }) (page_read reading (n - pages_of s)))
+      (le-ltb n (pages_of s) le)
 
   pub at_caller : (caller : ℕ) → at (pages_of s + caller) ≡ Read (record { 0 = caller }) (page_read reading caller)
-  at_caller caller = let e : pages_of s + caller - pages_of s ≡ caller = omega arith in at_read (pages_of s + caller) (omega arith) ∙ ap (λ n. Read (record { 0 = n }) (page_read reading n)) e
+  at_caller caller =
+      let e : pages_of s + caller - pages_of s ≡ caller = omega arith in
+      at_read (pages_of s + caller) (omega arith) ∙ ap (λ n. Read (record { 0 = n }) (page_read reading n)) e
 
   -- a known operation is that of its number alone
   same_number : (w : DiskWhich) (x : ℕ) → is_known s w ≡ true → is_flight_of w (at x) ≡ (x == number_of s w)
@@ -54,19 +61,22 @@ module _ (s : Sizes) (reading : List Page) (kept : List (Option (List ℕ))) whe
       ⊎_elim
       (λ (lt : x < pages_of s). ap (λ f. is_flight_of (which.Write page) f) (at_write x lt) ∙ flip page.0 x)
       (λ (ge : pages_of s ≤ x).
-      ap (λ f. is_flight_of (which.Write page) f) (at_read x ge) ∙ sym (ne_eqb x page.0 (λ e. apart page.0 x (pages_of s) (ltb-true page.0 (pages_of s) known) ge (sym e))))
+      ap (λ f. is_flight_of (which.Write page) f) (at_read x ge)
+      ∙ sym (ne_eqb x page.0 (λ e. apart page.0 x (pages_of s) (ltb-true page.0 (pages_of s) known) ge (sym e))))
       (cases_lt x (pages_of s))
   same_number (which.Read caller) x known =
       ⊎_elim
       (λ (lt : x < pages_of s).
-      ap (λ f. is_flight_of (which.Read caller) f) (at_write x lt) ∙ sym (ne_eqb x (pages_of s + caller.0) (apart x (pages_of s + caller.0) (pages_of s) lt (omega arith))))
+      ap (λ f. is_flight_of (which.Read caller) f) (at_write x lt)
+      ∙ sym (ne_eqb x (pages_of s + caller.0) (apart x (pages_of s + caller.0) (pages_of s) lt (omega arith))))
       (λ (ge : pages_of s ≤ x). ap (λ f. is_flight_of (which.Read caller) f) (at_read x ge) ∙ shift (pages_of s) caller.0 x ge)
       (cases_lt x (pages_of s))
 
   no_number : (w : DiskWhich) (x : ℕ) → is_known s w ≡ false → x < pages_of s + s.callers → is_flight_of w (at x) ≡ false
   no_number (which.Write page) x unknown below =
       ⊎_elim
-      (λ (lt : x < pages_of s). ap (λ f. is_flight_of (which.Write page) f) (at_write x lt) ∙ ne_eqb page.0 x (λ e. apart x page.0 (pages_of s) lt (ltb-false page.0 (pages_of s) unknown) (sym e)))
+      (λ (lt : x < pages_of s). ap (λ f. is_flight_of (which.Write page) f) (at_write x lt)
+      ∙ ne_eqb page.0 x (λ e. apart x page.0 (pages_of s) lt (ltb-false page.0 (pages_of s) unknown) (sym e)))
       (λ (ge : pages_of s ≤ x). ap (λ f. is_flight_of (which.Write page) f) (at_read x ge))
       (cases_lt x (pages_of s))
   no_number (which.Read caller) x unknown below =
@@ -74,25 +84,32 @@ module _ (s : Sizes) (reading : List Page) (kept : List (Option (List ℕ))) whe
       (λ (lt : x < pages_of s). ap (λ f. is_flight_of (which.Read caller) f) (at_write x lt))
       (λ (ge : pages_of s ≤ x).
       let past : s.callers ≤ caller.0 = ltb-false caller.0 s.callers unknown in
-      ap (λ f. is_flight_of (which.Read caller) f) (at_read x ge) ∙ ne_eqb caller.0 (x - pages_of s) (λ e. apart (x - pages_of s) caller.0 s.callers (omega (arith, below, ge)) past (sym e)))
+      ap (λ f. is_flight_of (which.Read caller) f) (at_read x ge)
+      ∙ ne_eqb caller.0 (x - pages_of s) (λ e. apart (x - pages_of s) caller.0 s.callers (omega (arith, below, ge)) past (sym e)))
       (cases_lt x (pages_of s))
 
   -- ---- an operation among those in flight
 
-  found : (w : DiskWhich) (numbers : List ℕ) → is_known s w ≡ true → find (is_flight_of w) (flights numbers) ≡ cond (stands numbers (number_of s w)) (Some (at (number_of s w))) None
+  found :
+      (w : DiskWhich) (numbers : List ℕ) → is_known s w ≡ true
+      → find (is_flight_of w) (flights numbers) ≡ cond (stands numbers (number_of s w)) (Some (at (number_of s w))) None
   found w [] known = refl
   found w (x ∷ xs) known =
       let k : ℕ = number_of s w in
       ⊎_elim
       (λ (e : x ≡ number_of s w).
       cond-true (is_flight_of w (at x)) (Some (at x)) (find (is_flight_of w) (flights xs)) (same_number w x known ∙ eq-eqb x (number_of s w) e)
-      ∙ ap (λ n. Some (at n)) e ∙ sym (cond-true (stands (x ∷ xs) (number_of s w)) (Some (at (number_of s w))) None (or_left (x == number_of s w) (stands xs (number_of s w)) (eq-eqb x (number_of s w) e))))
+      ∙ ap (λ n. Some (at n)) e
+      ∙ sym
+      (cond-true (stands (x ∷ xs) (number_of s w)) (Some (at (number_of s w))) None
+      (or_left (x == number_of s w) (stands xs (number_of s w)) (eq-eqb x (number_of s w) e))))
       (λ (ne : x ≢ number_of s w).
       cond-false (is_flight_of w (at x)) (Some (at x)) (find (is_flight_of w) (flights xs)) (same_number w x known ∙ ne_eqb x (number_of s w) ne)
       ∙ found w xs known ∙ ap (λ b. cond (b || stands xs (number_of s w)) (Some (at (number_of s w))) None) (sym (ne_eqb x (number_of s w) ne)))
       (cases_eq x (number_of s w))
 
-  not_found : (w : DiskWhich) (numbers : List ℕ) → is_known s w ≡ false → AreBelow (pages_of s + s.callers) numbers → find (is_flight_of w) (flights numbers) ≡ None
+  not_found :
+      (w : DiskWhich) (numbers : List ℕ) → is_known s w ≡ false → AreBelow (pages_of s + s.callers) numbers → find (is_flight_of w) (flights numbers) ≡ None
   not_found w [] unknown below = refl
   not_found w (x ∷ xs) unknown below =
       cond-false (is_flight_of w (at x)) (Some (at x)) (find (is_flight_of w) (flights xs)) (no_number w x unknown below.0) ∙ not_found w xs unknown below.1
@@ -101,7 +118,9 @@ module _ (s : Sizes) (reading : List Page) (kept : List (Option (List ℕ))) whe
   some_if true f = refl
   some_if false f = refl
 
-  pub has_is : (w : DiskWhich) (numbers : List ℕ) → AreBelow (pages_of s + s.callers) numbers → (is_known s w && stands numbers (number_of s w)) ≡ is_some (find (is_flight_of w) (flights numbers))
+  pub has_is :
+      (w : DiskWhich) (numbers : List ℕ) → AreBelow (pages_of s + s.callers) numbers
+      → (is_known s w && stands numbers (number_of s w)) ≡ is_some (find (is_flight_of w) (flights numbers))
   has_is w numbers below = go (is_known s w) refl
     where
       go : (b : Bool) → is_known s w ≡ b → (is_known s w && stands numbers (number_of s w)) ≡ is_some (find (is_flight_of w) (flights numbers))
@@ -111,15 +130,21 @@ module _ (s : Sizes) (reading : List Page) (kept : List (Option (List ℕ))) whe
       go false unknown = ap (λ t. t && stands numbers (number_of s w)) unknown ∙ sym (ap (λ (o : Option Flight). is_some o) (not_found w numbers unknown below))
 
   -- what is in flight stands in the line
-  pub in_line : (w : DiskWhich) (numbers : List ℕ) → AreBelow (pages_of s + s.callers) numbers → IsSome (find (is_flight_of w) (flights numbers)) → (is_known s w ≡ true) × (stands numbers (number_of s w) ≡ true)
+  pub in_line :
+      (w : DiskWhich) (numbers : List ℕ) → AreBelow (pages_of s + s.callers) numbers → IsSome (find (is_flight_of w) (flights numbers))
+      → (is_known s w ≡ true) × (stands numbers (number_of s w) ≡ true)
   in_line w numbers below some = and_parts (is_known s w) (stands numbers (number_of s w)) (has_is w numbers below ∙ some)
 
-  pub found_at : (w : DiskWhich) (numbers : List ℕ) → is_known s w ≡ true → stands numbers (number_of s w) ≡ true → find (is_flight_of w) (flights numbers) ≡ Some (at (number_of s w))
+  pub found_at :
+      (w : DiskWhich) (numbers : List ℕ) → is_known s w ≡ true → stands numbers (number_of s w) ≡ true
+      → find (is_flight_of w) (flights numbers) ≡ Some (at (number_of s w))
   found_at w numbers known in' = found w numbers known ∙ cond-true (stands numbers (number_of s w)) (Some (at (number_of s w))) None in'
 
-  pub out_of_line : (w : DiskWhich) (numbers : List ℕ) → is_known s w ≡ true → find (is_flight_of w) (flights numbers) ≡ None → stands numbers (number_of s w) ≡ false
+  pub out_of_line :
+      (w : DiskWhich) (numbers : List ℕ) → is_known s w ≡ true → find (is_flight_of w) (flights numbers) ≡ None → stands numbers (number_of s w) ≡ false
   out_of_line w numbers known free =
-      sym (some_if (stands numbers (number_of s w)) (at (number_of s w))) ∙ sym (ap (λ (o : Option Flight). is_some o) (found w numbers known)) ∙ ap (λ (o : Option Flight). is_some o) free
+      sym (some_if (stands numbers (number_of s w)) (at (number_of s w))) ∙ sym (ap (λ (o : Option Flight). is_some o) (found w numbers known))
+      ∙ ap (λ (o : Option Flight). is_some o) free
 
   pub without_is : (w : DiskWhich) (numbers : List ℕ) → is_known s w ≡ true → without w (flights numbers) ≡ flights (line.without (number_of s w) numbers)
   without_is w [] known = refl
@@ -130,7 +155,8 @@ module _ (s : Sizes) (reading : List Page) (kept : List (Option (List ℕ))) whe
       ∙ ap flights (sym (cond-true (x == number_of s w) xs (x ∷ line.without (number_of s w) xs) (eq-eqb x (number_of s w) e))))
       (λ (ne : x ≢ number_of s w).
       cond-false (is_flight_of w (at x)) (flights xs) (at x ∷ without w (flights xs)) (same_number w x known ∙ ne_eqb x (number_of s w) ne)
-      ∙ ap (λ l. at x ∷ l) (without_is w xs known) ∙ ap flights (sym (cond-false (x == number_of s w) xs (x ∷ line.without (number_of s w) xs) (ne_eqb x (number_of s w) ne))))
+      ∙ ap (λ l. at x ∷ l) (without_is w xs known)
+      ∙ ap flights (sym (cond-false (x == number_of s w) xs (x ∷ line.without (number_of s w) xs) (ne_eqb x (number_of s w) ne))))
       (cases_eq x (number_of s w))
 
   -- ---- the oldest operation, and the writes
@@ -138,8 +164,10 @@ module _ (s : Sizes) (reading : List Page) (kept : List (Option (List ℕ))) whe
   which_is : (n : ℕ) → which_of (at n) ≡ which_at s n
   which_is n =
       ⊎_elim
-      (λ (lt : n < pages_of s). ap which_of (at_write n lt) ∙ sym (cond-true (nat_lt n (pages_of s)) (which.Write (record { 0 = n })) (which.Read (record { 0 = n - pages_of s })) (lt-ltb n (pages_of s) lt)))
-      (λ (ge : pages_of s ≤ n). ap which_of (at_read n ge) ∙ sym (cond-false (nat_lt n (pages_of s)) (which.Write (record { 0 = n })) (which.Read (record { 0 = n - pages_of s })) (le-ltb n (pages_of s) ge)))
+      (λ (lt : n < pages_of s). ap which_of (at_write n lt)
+      ∙ sym (cond-true (nat_lt n (pages_of s)) (which.Write (record { 0 = n })) (which.Read (record { 0 = n - pages_of s })) (lt-ltb n (pages_of s) lt)))
+      (λ (ge : pages_of s ≤ n). ap which_of (at_read n ge)
+      ∙ sym (cond-false (nat_lt n (pages_of s)) (which.Write (record { 0 = n })) (which.Read (record { 0 = n - pages_of s })) (le-ltb n (pages_of s) ge)))
       (cases_lt n (pages_of s))
 
   pub oldest_is : (numbers : List ℕ) → option_map (λ n. which_at s n) (slice_get numbers 0) ≡ oldest_in (flights numbers)
@@ -156,9 +184,11 @@ module _ (s : Sizes) (reading : List Page) (kept : List (Option (List ℕ))) whe
   oldest_write_is [] = refl
   oldest_write_is (x ∷ xs) =
       ⊎_elim
-      (λ (lt : x < pages_of s). ap (λ l. option_map page_numbered (slice_get l 0)) (keeps_page x xs lt) ∙ sym (ap (λ f. oldest_write_in (f ∷ flights xs)) (at_write x lt)))
+      (λ (lt : x < pages_of s). ap (λ l. option_map page_numbered (slice_get l 0)) (keeps_page x xs lt)
+      ∙ sym (ap (λ f. oldest_write_in (f ∷ flights xs)) (at_write x lt)))
       (λ (ge : pages_of s ≤ x).
-      ap (λ l. option_map page_numbered (slice_get l 0)) (drops_read x xs ge) ∙ oldest_write_is xs ∙ sym (ap (λ f. oldest_write_in (f ∷ flights xs)) (at_read x ge)))
+      ap (λ l. option_map page_numbered (slice_get l 0)) (drops_read x xs ge) ∙ oldest_write_is xs
+      ∙ sym (ap (λ f. oldest_write_in (f ∷ flights xs)) (at_read x ge)))
       (cases_lt x (pages_of s))
 
   abbrev one : Flight → ℕ
@@ -178,7 +208,9 @@ module _ (s : Sizes) (reading : List Page) (kept : List (Option (List ℕ))) whe
   page_enters numbers k lt = filter-append (λ n. nat_lt n (pages_of s)) numbers (k ∷ []) ∙ ap (λ l. pages_among s numbers ++ l) (keeps_page k [] lt)
 
   pub read_enters : (numbers : List ℕ) (k : ℕ) → pages_of s ≤ k → pages_among s (numbers ++ k ∷ []) ≡ pages_among s numbers
-  read_enters numbers k ge = filter-append (λ n. nat_lt n (pages_of s)) numbers (k ∷ []) ∙ ap (λ l. pages_among s numbers ++ l) (drops_read k [] ge) ∙ append-nil (pages_among s numbers)
+  read_enters numbers k ge =
+      filter-append (λ n. nat_lt n (pages_of s)) numbers (k ∷ []) ∙ ap (λ l. pages_among s numbers ++ l) (drops_read k [] ge)
+      ∙ append-nil (pages_among s numbers)
 
   pub page_stands : (numbers : List ℕ) (k : ℕ) → k < pages_of s → stands (pages_among s numbers) k ≡ stands numbers k
   page_stands [] k lt = refl
@@ -186,7 +218,8 @@ module _ (s : Sizes) (reading : List Page) (kept : List (Option (List ℕ))) whe
       ⊎_elim
       (λ (below : x < pages_of s). ap (λ l. stands l k) (keeps_page x xs below) ∙ ap (λ b. (x == k) || b) (page_stands xs k lt))
       (λ (ge : pages_of s ≤ x).
-      ap (λ l. stands l k) (drops_read x xs ge) ∙ page_stands xs k lt ∙ ap (λ b. b || stands xs k) (sym (ne_eqb x k (λ e. apart k x (pages_of s) lt ge (sym e)))))
+      ap (λ l. stands l k) (drops_read x xs ge) ∙ page_stands xs k lt
+      ∙ ap (λ b. b || stands xs k) (sym (ne_eqb x k (λ e. apart k x (pages_of s) lt ge (sym e)))))
       (cases_lt x (pages_of s))
 
   leaves_first : (x k : ℕ) (xs : List ℕ) → x ≡ k → line.without k (x ∷ xs) ≡ xs
@@ -204,7 +237,8 @@ module _ (s : Sizes) (reading : List Page) (kept : List (Option (List ℕ))) whe
       ∙ ⊎_elim
       (λ (e : x ≡ k). leaves_first x k (pages_among s xs) e ∙ ap (λ l. pages_among s l) (sym (leaves_first x k xs e)))
       (λ (ne : x ≢ k).
-      leaves_later x k (pages_among s xs) ne ∙ ap (λ l. x ∷ l) (page_leaves xs k lt) ∙ sym (keeps_page x (line.without k xs) below) ∙ ap (λ l. pages_among s l) (sym (leaves_later x k xs ne)))
+      leaves_later x k (pages_among s xs) ne ∙ ap (λ l. x ∷ l) (page_leaves xs k lt) ∙ sym (keeps_page x (line.without k xs) below)
+      ∙ ap (λ l. pages_among s l) (sym (leaves_later x k xs ne)))
       (cases_eq x k))
       (λ (ge : pages_of s ≤ x).
       ap (λ l. line.without k l) (drops_read x xs ge) ∙ page_leaves xs k lt ∙ sym (drops_read x (line.without k xs) ge)
@@ -231,8 +265,11 @@ length-without (x ∷ xs) k in' =
     ⊎_elim
     (λ (e : x ≡ k). omega (arith, ap length (cond-true (x == k) xs (x ∷ line.without k xs) (eq-eqb x k e))))
     (λ (ne : x ≢ k).
-    omega
-    (arith, ap length (cond-false (x == k) xs (x ∷ line.without k xs) (ne_eqb x k ne)), length-without xs k (sym (ap (λ b. b || stands xs k) (ne_eqb x k ne)) ∙ in')))
+    omega (
+      arith,
+      ap length (cond-false (x == k) xs (x ∷ line.without k xs) (ne_eqb x k ne)),
+      length-without xs k (sym (ap (λ b. b || stands xs k) (ne_eqb x k ne)) ∙ in'),
+    ))
     (cases_eq x k)
 
 -- what differs at a number that isn't there makes no difference
@@ -246,10 +283,13 @@ map_same f g (x ∷ xs) k same out =
 
 -- ---- the same of operations in flight as they are seen
 
-module _ (s : Sizes) (reading : List Page) (kept : List (Option (List ℕ))) (order : Line) (now : Flying) (v : ◌≡◌ {A = Flying} (record { sizes = s; flights = flights_in s reading kept order.numbers }) now)
+module _ (s : Sizes) (reading : List Page) (kept : List (Option (List ℕ))) (order : Line) (now : Flying)
+    (v : ◌≡◌ {A = Flying} (record { sizes = s; flights = flights_in s reading kept order.numbers }) now)
     (bound : order.bound ≡ pages_of s + s.callers) (below : AreBelow order.bound order.numbers) (w : DiskWhich) where
   pub seen_in : IsSome (find (is_flight_of w) now.flights) → (is_known s w ≡ true) × (stands order.numbers (number_of s w) ≡ true)
-  seen_in some = in_line s reading kept w order.numbers (subst (λ b. AreBelow b order.numbers) bound below) (subst (λ (f : Flying). IsSome (find (is_flight_of w) f.flights)) (sym v) some)
+  seen_in some =
+      in_line s reading kept w order.numbers (subst (λ b. AreBelow b order.numbers) bound below)
+      (subst (λ (f : Flying). IsSome (find (is_flight_of w) f.flights)) (sym v) some)
 
   pub seen_at : IsSome (find (is_flight_of w) now.flights) → find (is_flight_of w) now.flights ≡ Some (flight_at s reading kept (number_of s w))
   seen_at some =

@@ -31,7 +31,14 @@ Moves d c answer e = IsDrive d × (ask d c ≡ (answer, e))
 
 -- it tells everything
 abbrev pub port_of : Drive → Port
-port_of d = record { sizes = d.sizes; flights = d.disk.flights; blocks = Some d.disk.blocks; finished = d.disk.finished; faults = d.disk.faults }
+port_of d =
+    record {
+      sizes = d.sizes;
+      flights = d.disk.flights;
+      blocks = Some d.disk.blocks;
+      finished = d.disk.finished;
+      faults = d.disk.faults;
+    }
 
 -- what a drive of a geometry is before the first call
 abbrev pub new_drive : Sizes → Drive

@@ -28,7 +28,8 @@ is_known s (which.Read caller) = nat_lt caller.0 s.callers
 
 -- the operation of a number, of a disk whose oldest is asked for
 abbrev pub which_at : Sizes → ℕ → DiskWhich
-which_at s n = if nat_lt n (pages_of s) then which.Write (record { 0 = n }) else which.Read (record { 0 = n - pages_of s })
+which_at s n =
+    if nat_lt n (pages_of s) then which.Write (record { 0 = n }) else which.Read (record { 0 = n - pages_of s })
 
 abbrev pub bytes_kept : Option (List ℕ) → List ℕ
 bytes_kept None = []
@@ -43,7 +44,9 @@ bytes_at kept page = bytes_kept (slice_index_or kept page None)
 
 -- the operation of a number
 abbrev pub flight_at : Sizes → List Page → List (Option (List ℕ)) → ℕ → Flight
-flight_at s reading kept n = if nat_lt n (pages_of s) then Write (record { 0 = n }) (bytes_at kept n) else Read (record { 0 = n - pages_of s }) (page_read reading (n - pages_of s))
+flight_at s reading kept n =
+    if nat_lt n (pages_of s) then Write (record { 0 = n }) (bytes_at kept n)
+    else Read (record { 0 = n - pages_of s }) (page_read reading (n - pages_of s))
 
 abbrev pub flights_in : Sizes → List Page → List (Option (List ℕ)) → List ℕ → List Flight
 flights_in s reading kept numbers = map (λ n. flight_at s reading kept n) numbers
@@ -58,7 +61,8 @@ IsPage s kept = IsSome kept × (length (bytes_kept kept) ≡ s.page_bytes)
 
 -- all operations stand in a line in the order of their start, and the writes in one more; a read has its page, a
 -- write its bytes, and there is room for each write that may be started
-pub record AreKept (s : Sizes) (order writes : Line) (reading : List Page) (kept : List (Option (List ℕ))) (spare : List (List ℕ)) : Type 0 where
+pub record AreKept (s : Sizes) (order writes : Line) (reading : List Page) (kept : List (Option (List ℕ)))
+    (spare : List (List ℕ)) : Type 0 where
   pub order_bound : order.bound ≡ pages_of s + s.callers
   pub writes_bound : writes.bound ≡ pages_of s
   pub writes_are : writes.numbers ≡ pages_among s order.numbers
@@ -67,7 +71,8 @@ pub record AreKept (s : Sizes) (order writes : Line) (reading : List Page) (kept
   pub room : length spare + length writes.numbers ≡ s.queue
   pub spare_fits : (i : ℕ) (d : List ℕ) → i < length spare → length (slice_index_or spare i d) ≡ s.page_bytes
   pub kept_fits : (page : ℕ) → stands writes.numbers page ≡ true → IsPage s (slice_index_or kept page None)
-  pub reads_fit : (caller : ℕ) → stands order.numbers (pages_of s + caller) ≡ true → (page_read reading caller).0 < pages_of s
+  pub reads_fit :
+      (caller : ℕ) → stands order.numbers (pages_of s + caller) ≡ true → (page_read reading caller).0 < pages_of s
 
 -- the operation that has finished, as it was started
 abbrev pub ended_as : Bool → Option Flight → Option Finished
@@ -79,7 +84,17 @@ ended_in flights None = None
 ended_in flights (Some e) = ended_as e.ok (find (is_flight_of e.which) flights)
 
 abbrev pub drive_in : Table → Flying → Option Ended → ℕ → Drive
-drive_in table flying ended faults = record { sizes = flying.sizes; disk = record { blocks = table.blocks; flights = flying.flights; finished = ended_in flying.flights ended; faults = faults } }
+drive_in table flying ended faults =
+    record {
+      sizes = flying.sizes;
+      disk =
+          record {
+            blocks = table.blocks;
+            flights = flying.flights;
+            finished = ended_in flying.flights ended;
+            faults = faults;
+          };
+    }
 
 abbrev pub Stands : List Flight → Option Ended → Type 0
 Stands flights None = Unit {0}

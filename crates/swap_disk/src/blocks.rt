@@ -17,7 +17,11 @@ impl Model for Blocks {
 
     ghost Value = { Table };
 
-    ghost view = { λ b. record { blocks = blocks_in b.pages b.page_bytes b.bytes.items; page_bytes = b.page_bytes } };
+    ghost view = { λ b.
+        record {
+          blocks = blocks_in b.pages b.page_bytes b.bytes.items;
+          page_bytes = b.page_bytes;
+        } };
 
     ghost invariant = { λ b. length b.bytes.items ≡ b.pages * b.page_bytes };
 }
@@ -26,7 +30,12 @@ impl Blocks {
     /// So many blocks of zeros.
     pub(crate) fn make(alloc: Global, pages: usize, page_bytes: usize) -> Result<Blocks, AllocError>
         requires { pages * page_bytes < 2 ^ 64 }
-        ensures { IfOk result (λ b. b ≡ record { blocks = replicate pages (replicate page_bytes 0); page_bytes = page_bytes }) }
+        ensures { IfOk result
+            (λ b. b
+            ≡ record {
+              blocks = replicate pages (replicate page_bytes 0);
+              page_bytes = page_bytes;
+            }) }
     {
         Ok(Blocks {
             bytes: vec![in alloc; 0; pages * page_bytes]?,
@@ -50,7 +59,11 @@ impl Blocks {
     pub(crate) fn write(&mut self, page: usize, bytes: &[u8])
         requires page { page < length self.old.blocks }
         requires bytes { length bytes.now ≡ self.old.page_bytes }
-        ensures { self.new ≡ record { blocks = slice_set self.old.blocks page bytes.now; page_bytes = self.old.page_bytes } }
+        ensures { self.new
+            ≡ record {
+              blocks = slice_set self.old.blocks page bytes.now;
+              page_bytes = self.old.page_bytes;
+            } }
     {
         let start = page * self.page_bytes;
         let end = start + self.page_bytes;
@@ -60,7 +73,12 @@ impl Blocks {
     /// A write of a block failed.
     pub(crate) fn spoil(&mut self, page: usize)
         requires { page < length self.old.blocks }
-        ensures { self.new ≡ record { blocks = slice_set self.old.blocks page (replicate self.old.page_bytes 255); page_bytes = self.old.page_bytes } }
+        ensures { self.new
+            ≡ record {
+              blocks =
+                  slice_set self.old.blocks page (replicate self.old.page_bytes 255);
+              page_bytes = self.old.page_bytes;
+            } }
     {
         let start = page * self.page_bytes;
         let end = start + self.page_bytes;

@@ -46,8 +46,9 @@ impl Buffer {
     }
 }
 
-/// The operations in flight in the order of their start. An operation has a number, a write that of its page, and a
-/// read one behind all pages, so each call takes the same time however many are in flight.
+/// The operations in flight in the order of their start. An operation has a number, a write that of
+/// its page, and a read one behind all pages, so each call takes the same time however many are in
+/// flight.
 #[derive(Drop)]
 pub(crate) struct Flights {
     geometry: Geometry,
@@ -64,9 +65,15 @@ impl Model for Flights {
 
     ghost Value = { Flying };
 
-    ghost view = { λ f. record { sizes = f.geometry; flights = flights_in f.geometry f.reading.items f.kept.items f.order.numbers } };
+    ghost view = { λ f.
+        record {
+          sizes = f.geometry;
+          flights = flights_in f.geometry f.reading.items f.kept.items f.order.numbers;
+        } };
 
-    ghost invariant = { λ f. AreKept f.geometry f.order f.writes f.reading.items f.kept.items f.spare.items × (f.geometry.queue ≤ vec_capacity f.spare) };
+    ghost invariant = { λ f.
+        AreKept f.geometry f.order f.writes f.reading.items f.kept.items f.spare.items
+        × (f.geometry.queue ≤ vec_capacity f.spare) };
 }
 
 /// Room for so many pages.
@@ -162,7 +169,8 @@ impl Flights {
     /// The page of an operation in flight.
     pub(crate) fn page(&self, which: DiskWhich) -> Page
         requires { IsSome (find (is_flight_of which) self.now.flights) }
-        ensures page { option_map page_of (find (is_flight_of which) self.now.flights) ≡ Some result }
+        ensures page { option_map page_of (find (is_flight_of which) self.now.flights)
+            ≡ Some result }
         ensures within { result.0 < pages_of self.now.sizes }
     {
         self.order.keeps();
@@ -175,7 +183,8 @@ impl Flights {
     /// The bytes of a write in flight.
     pub(crate) fn bytes(&self, page: Page) -> &[u8]
         requires { IsSome (find (is_flight_of (DiskWhich.Write page)) self.now.flights) }
-        ensures bytes { find (is_flight_of (DiskWhich.Write page)) self.now.flights ≡ Some (Write page result.now) }
+        ensures bytes { find (is_flight_of (DiskWhich.Write page)) self.now.flights
+            ≡ Some (Write page result.now) }
         ensures len { length result.now ≡ self.now.sizes.page_bytes }
         ensures within { page.0 < pages_of self.now.sizes }
     {
@@ -189,7 +198,8 @@ impl Flights {
         requires bytes { length bytes.now ≡ self.old.sizes.page_bytes }
         requires free { IsFree self.old.flights (DiskWhich.Write page) }
         requires room { writes_in self.old.flights < self.old.sizes.queue }
-        ensures { self.new ≡ record self.old { flights = self.old.flights ++ Write page bytes.now ∷ [] } }
+        ensures { self.new
+            ≡ record self.old { flights = self.old.flights ++ Write page bytes.now ∷ [] } }
     {
         is_a_line();
         self.order.keeps();
@@ -205,7 +215,8 @@ impl Flights {
         requires caller { caller.0 < self.old.sizes.callers }
         requires page { page.0 < pages_of self.old.sizes }
         requires free { IsFree self.old.flights (DiskWhich.Read caller) }
-        ensures { self.new ≡ record self.old { flights = self.old.flights ++ Read caller page ∷ [] } }
+        ensures { self.new
+            ≡ record self.old { flights = self.old.flights ++ Read caller page ∷ [] } }
     {
         is_a_line();
         self.order.keeps();
@@ -228,7 +239,8 @@ impl Flights {
     /// A write is over: its room is free again.
     fn land_write(&mut self, page: Page)
         requires { IsSome (find (is_flight_of (DiskWhich.Write page)) self.old.flights) }
-        ensures { self.new ≡ record self.old { flights = without (DiskWhich.Write page) self.old.flights } }
+        ensures { self.new
+            ≡ record self.old { flights = without (DiskWhich.Write page) self.old.flights } }
     {
         is_a_line();
         self.order.keeps();
@@ -241,7 +253,8 @@ impl Flights {
 
     fn land_read(&mut self, caller: Caller)
         requires { IsSome (find (is_flight_of (DiskWhich.Read caller)) self.old.flights) }
-        ensures { self.new ≡ record self.old { flights = without (DiskWhich.Read caller) self.old.flights } }
+        ensures { self.new
+            ≡ record self.old { flights = without (DiskWhich.Read caller) self.old.flights } }
     {
         is_a_line();
         self.order.keeps();

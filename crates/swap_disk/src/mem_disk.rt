@@ -44,7 +44,11 @@ fn settle(blocks: &mut Blocks, flights: &Flights, which: DiskWhich, ok: bool)
     requires page_bytes { blocks.old.page_bytes ≡ flights.now.sizes.page_bytes }
     requires pages { length blocks.old.blocks ≡ pages_of flights.now.sizes }
     requires in_flight { IsSome (find (is_flight_of which) flights.now.flights) }
-    ensures { blocks.new ≡ record blocks.old { blocks = settled_by blocks.old.blocks (find (is_flight_of which) flights.now.flights) ok } }
+    ensures { blocks.new
+        ≡ record blocks.old {
+          blocks =
+              settled_by blocks.old.blocks (find (is_flight_of which) flights.now.flights) ok;
+        } }
 {
     if let DiskWhich::Write(page) = which {
         let bytes = flights.bytes(page);
@@ -113,7 +117,7 @@ impl MemDisk {
 
 impl DiskPort for MemDisk {
     ghost use Rattle.swap_disk.specs.Drive.{port_of, Moves};
-    ghost use Rattle.swap_disk.specs.Follows.{follows as drive_follows};
+    ghost use Rattle.swap_disk.specs.lemmas.Follows.{follows as drive_follows};
 
     ghost means = { port_of };
 

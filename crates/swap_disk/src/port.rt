@@ -3,8 +3,9 @@ use swap_base::{Caller, DiskWhich, Page};
 
 /// Where pages go behind the queue.
 ///
-/// It means its geometry, which no call changes, its operations in flight in the order of their start, a count
-/// of faults, and, where it tells them, its blocks with the bytes of each write in flight.
+/// It means its geometry, which no call changes, its operations in flight in the order of their
+/// start, a count of faults, and, where it tells them, its blocks with the bytes of each write in
+/// flight.
 pub trait DiskPort {
     ghost use Rattle.std.specs.Prelude.{◌≡◌, ℕ, ◌<◌, length};
     ghost use Rattle.swap_base.specs.Sizes.{pages_of};
@@ -45,5 +46,6 @@ pub trait DiskPort {
         ensures { TellsOldest (means self.now).blocks (means self.now).flights result };
 
     /// Each move is one that a disk may make.
-    ghost follows: { (d : Self) (c : DiskCall) (answer : DiskAnswer c) (e : Self) → moves d c answer e → Follows (means d) c answer (means e) };
+    ghost follows: { (d : Self) (c : DiskCall) (answer : DiskAnswer c) (e : Self)
+        → moves d c answer e → Follows (means d) c answer (means e) };
 }

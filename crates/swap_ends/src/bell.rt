@@ -3,7 +3,8 @@ use std::sync::atomic::{AtomicBool, Ordering};
 use std::sync::{Arc, Wait};
 use std::thread::Parker;
 
-/// What one thread waits by and others ring. A ring that comes before the wait isn't lost. It also tells the thread to stop.
+/// What one thread waits by and others ring. A ring that comes before the wait isn't lost. It also
+/// tells the thread to stop.
 #[derive(Debug, Drop)]
 pub struct Bell {
     parker: Parker,

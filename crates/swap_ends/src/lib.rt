@@ -1,4 +1,5 @@
-//! What two threads share: a bounded queue whose ends remember what moved through them, and a bell to wait by.
+//! What two threads share: a bounded queue whose ends remember what moved through them, and a bell
+//! to wait by.
 #![tactic(auto)]
 
 ghost use Rattle.std.specs.Prelude.{◌≡◌, ◌<◌, [], ◌∷◌, ◌++◌, IfOk, MatchResult, MatchOption};
@@ -83,7 +84,8 @@ impl<T: Drop> End<T> {
 
     /// Gives an item to the other end; it comes back where the queue was full.
     pub fn push<R: Wait>(&mut self, rt: &R, item: T) -> Result<(), T>
-        ensures { MatchResult result (λ _. self.new ≡ self.old ++ item ∷ []) (λ x. (x ≡ item) × (self.new ≡ self.old)) }
+        ensures { MatchResult result (λ _. self.new ≡ self.old ++ item ∷ [])
+            (λ x. (x ≡ item) × (self.new ≡ self.old)) }
     {
         self.ring.push_as::<Moved, R>(rt, &mut self.pass, item)
     }

@@ -30,7 +30,8 @@ kinds (Read caller page) = refl
 
 all_kinds : (fs : List Flight) → writes_in fs + count_by is_read fs ≡ length fs
 all_kinds [] = refl
-all_kinds (f ∷ fs) = omega (arith, sum_by-cons (λ (f : Flight). one (is_write f)) f fs, sum_by-cons (λ (f : Flight). one (is_read f)) f fs, kinds f, all_kinds fs)
+all_kinds (f ∷ fs) =
+    omega (arith, sum_by-cons (λ (f : Flight). one (is_write f)) f fs, sum_by-cons (λ (f : Flight). one (is_read f)) f fs, kinds f, all_kinds fs)
 
 below_more : (n : ℕ) (f : Flight) → one (reads_below (suc n) f) ≤ one (reads_below n f) + one (is_flight_of (reader n) f)
 below_more n (Write page bytes) = omega arith
@@ -47,13 +48,20 @@ below_more n (Read caller page) =
 below_step : (n : ℕ) (fs : List Flight) → count_by (reads_below (suc n)) fs ≤ count_by (reads_below n) fs + count_by (is_flight_of (reader n)) fs
 below_step n [] = omega arith
 below_step n (f ∷ fs) =
-    omega
-    (arith, sum_by-cons (λ (f : Flight). one (reads_below (suc n) f)) f fs, sum_by-cons (λ (f : Flight). one (reads_below n f)) f fs, sum_by-cons (λ (f : Flight). one (is_flight_of (reader n) f)) f fs, below_more n f, below_step n fs)
+    omega (
+      arith,
+      sum_by-cons (λ (f : Flight). one (reads_below (suc n) f)) f fs,
+      sum_by-cons (λ (f : Flight). one (reads_below n f)) f fs,
+      sum_by-cons (λ (f : Flight). one (is_flight_of (reader n) f)) f fs,
+      below_more n f,
+      below_step n fs,
+    )
 
 below_zero : (fs : List Flight) → count_by (reads_below 0) fs ≡ 0
 below_zero [] = refl
 below_zero (Write page bytes ∷ fs) = sum_by-cons (λ (f : Flight). one (reads_below 0 f)) (Write page bytes) fs ∙ omega (arith, below_zero fs)
-below_zero (Read caller page ∷ fs) = sum_by-cons (λ (f : Flight). one (reads_below 0 f)) (Read caller page) fs ∙ omega (arith, below_zero fs, ap one (le-ltb caller.0 0 (omega arith)))
+below_zero (Read caller page ∷ fs) =
+    sum_by-cons (λ (f : Flight). one (reads_below 0 f)) (Read caller page) fs ∙ omega (arith, below_zero fs, ap one (le-ltb caller.0 0 (omega arith)))
 
 -- where no caller has two reads, there are no more reads than callers
 few_below : (fs : List Flight) → ((caller : Caller) → count_by (is_flight_of (which.Read caller)) fs ≤ 1) → (n : ℕ) → count_by (reads_below n) fs ≤ n
@@ -67,7 +75,13 @@ known_below n (Read caller page) known = omega (arith, ap one (lt-ltb caller.0 n
 all_below : (n : ℕ) (fs : List Flight) → AllByRecursion (IsKnown n) fs → count_by is_read fs ≤ count_by (reads_below n) fs
 all_below n [] known = omega arith
 all_below n (f ∷ fs) known =
-    omega (arith, sum_by-cons (λ (f : Flight). one (is_read f)) f fs, sum_by-cons (λ (f : Flight). one (reads_below n f)) f fs, known_below n f known.0, all_below n fs known.1)
+    omega (
+      arith,
+      sum_by-cons (λ (f : Flight). one (is_read f)) f fs,
+      sum_by-cons (λ (f : Flight). one (reads_below n f)) f fs,
+      known_below n f known.0,
+      all_below n fs known.1,
+    )
 
 pub bounded : (r : Roster) → Holds r → length r.flights ≤ r.queue + r.callers
 bounded r h = omega (arith, all_kinds r.flights, all_below r.callers r.flights h.known, few_below r.flights h.single r.callers, h.writes)
@@ -79,7 +93,13 @@ free_count w [] e = refl
 free_count w (f ∷ fs) e =
     ⊎_elim
     (λ (t : is_flight_of w f ≡ true). absurd (some_none (sym (cond-true (is_flight_of w f) (Some f) (find (is_flight_of w) fs) t) ∙ e)))
-    (λ (t : is_flight_of w f ≡ false). omega (arith, sum_by-cons (λ (f : Flight). one (is_flight_of w f)) f fs, ap one t, free_count w fs (sym (cond-false (is_flight_of w f) (Some f) (find (is_flight_of w) fs) t) ∙ e)))
+    (λ (t : is_flight_of w f ≡ false).
+    omega (
+      arith,
+      sum_by-cons (λ (f : Flight). one (is_flight_of w f)) f fs,
+      ap one t,
+      free_count w fs (sym (cond-false (is_flight_of w f) (Some f) (find (is_flight_of w) fs) t) ∙ e),
+    ))
     (cases_Bool (is_flight_of w f))
   where
     some_none : {A : Type 0} {a : A} → Some a ≡ None → ⊥
@@ -99,12 +119,17 @@ one_few : (b : Bool) → one b ≤ 1
 one_few true = omega arith
 one_few false = omega arith
 
-single_last : (fs : List Flight) (f : Flight) (queue callers : ℕ) → MayStart (record { flights = fs; queue = queue; callers = callers }) f → ((caller : Caller) → count_by (is_flight_of (which.Read caller)) fs ≤ 1) → (caller : Caller) → count_by (is_flight_of (which.Read caller)) (fs ++ f ∷ []) ≤ 1
-single_last fs (Write page bytes) queue callers may single caller = omega (arith, count_last (is_flight_of (which.Read caller)) fs (Write page bytes), single caller)
+single_last :
+    (fs : List Flight) (f : Flight) (queue callers : ℕ) → MayStart (record { flights = fs; queue = queue; callers = callers }) f
+    → ((caller : Caller) → count_by (is_flight_of (which.Read caller)) fs ≤ 1) → (caller : Caller)
+    → count_by (is_flight_of (which.Read caller)) (fs ++ f ∷ []) ≤ 1
+single_last fs (Write page bytes) queue callers may single caller =
+    omega (arith, count_last (is_flight_of (which.Read caller)) fs (Write page bytes), single caller)
 single_last fs (Read c page) queue callers may single caller =
     ⊎_elim
     (λ (e : caller.0 ≡ c.0).
-    let free : count_by (is_flight_of (which.Read caller)) fs ≡ 0 = subst (λ (d : Caller). count_by (is_flight_of (which.Read d)) fs ≡ 0) (sym (same_caller caller c e)) (free_count (which.Read c) fs may.0) in
+    let free : count_by (is_flight_of (which.Read caller)) fs ≡ 0 =
+    subst (λ (d : Caller). count_by (is_flight_of (which.Read d)) fs ≡ 0) (sym (same_caller caller c e)) (free_count (which.Read c) fs may.0) in
     omega (arith, count_last (is_flight_of (which.Read caller)) fs (Read c page), free, one_few (is_flight_of (which.Read caller) (Read c page))))
     (λ (ne : caller.0 ≡ c.0 → ⊥). omega (arith, count_last (is_flight_of (which.Read caller)) fs (Read c page), single caller, ap one (other caller.0 c.0 ne)))
     (cases_eq caller.0 c.0)
@@ -112,7 +137,9 @@ single_last fs (Read c page) queue callers may single caller =
     other : (n m : ℕ) → (n ≡ m → ⊥) → nat_eq n m ≡ false
     other n m ne = ⊎_elim (λ (t : nat_eq n m ≡ true). absurd (ne (eqb-true n m t))) (λ (t : nat_eq n m ≡ false). t) (cases_Bool (nat_eq n m))
 
-writes_last : (fs : List Flight) (f : Flight) (queue callers : ℕ) → MayStart (record { flights = fs; queue = queue; callers = callers }) f → writes_in fs ≤ queue → writes_in (fs ++ f ∷ []) ≤ queue
+writes_last :
+    (fs : List Flight) (f : Flight) (queue callers : ℕ) → MayStart (record { flights = fs; queue = queue; callers = callers }) f → writes_in fs ≤ queue
+    → writes_in (fs ++ f ∷ []) ≤ queue
 writes_last fs (Write page bytes) queue callers may few = omega (arith, count_last is_write fs (Write page bytes), may)
 writes_last fs (Read c page) queue callers may few = omega (arith, count_last is_write fs (Read c page), few)
 
@@ -140,11 +167,21 @@ fewer : (p : Flight → Bool) (w : DiskWhich) (fs : List Flight) → count_by p 
 fewer p w [] = omega arith
 fewer p w (f ∷ fs) =
     ⊎_elim
-    (λ (t : is_flight_of w f ≡ true). omega (arith, sum_by-cons (λ (f : Flight). one (p f)) f fs, ap (count_by p) (cond-true (is_flight_of w f) fs (f ∷ without w fs) t)))
-    (λ (t : is_flight_of w f ≡ false). omega (arith, sum_by-cons (λ (f : Flight). one (p f)) f fs, sum_by-cons (λ (f : Flight). one (p f)) f (without w fs), fewer p w fs, ap (count_by p) (cond-false (is_flight_of w f) fs (f ∷ without w fs) t)))
+    (λ (t : is_flight_of w f ≡ true).
+    omega (arith, sum_by-cons (λ (f : Flight). one (p f)) f fs, ap (count_by p) (cond-true (is_flight_of w f) fs (f ∷ without w fs) t)))
+    (λ (t : is_flight_of w f ≡ false).
+    omega (
+      arith,
+      sum_by-cons (λ (f : Flight). one (p f)) f fs,
+      sum_by-cons (λ (f : Flight). one (p f)) f (without w fs),
+      fewer p w fs,
+      ap (count_by p) (cond-false (is_flight_of w f) fs (f ∷ without w fs) t),
+    ))
     (cases_Bool (is_flight_of w f))
 
-known_by : (n : ℕ) (f : Flight) (fs ws : List Flight) (b : Bool) → AllByRecursion (IsKnown n) (f ∷ fs) → AllByRecursion (IsKnown n) ws → AllByRecursion (IsKnown n) (cond b fs (f ∷ ws))
+known_by :
+    (n : ℕ) (f : Flight) (fs ws : List Flight) (b : Bool) → AllByRecursion (IsKnown n) (f ∷ fs) → AllByRecursion (IsKnown n) ws
+    → AllByRecursion (IsKnown n) (cond b fs (f ∷ ws))
 known_by n f fs ws true all left = all.1
 known_by n f fs ws false all left = (all.0, left)
 

@@ -31,7 +31,9 @@ flights_of fs = map flight_of fs
 -- the operation that is named leaves; none where there is none
 abbrev pub Leaves : DiskWhich → Roster → Option Flying → Roster → Type 0
 Leaves w before None now = (find (is_flight_of w) before.flights ≡ None) × (now ≡ before)
-Leaves w before (Some f) now = (find (is_flight_of w) before.flights ≡ Some (flight_of f)) × (now ≡ record before { flights = without w before.flights })
+Leaves w before (Some f) now =
+    (find (is_flight_of w) before.flights ≡ Some (flight_of f))
+    × (now ≡ record before { flights = without w before.flights })
 
 -- an operation may start: a write where there are fewer than may be, a read of a caller that has none in flight
 abbrev pub MayStart : Roster → Flight → Type 0

@@ -22,11 +22,13 @@ pub enum NotOpened {
     NoMemory,
 }
 
-/// A disk in a file, which a thread reads and writes. Its calls push to and pop from queues, and take no memory; none waits
-/// for the file. Where it is dropped the thread is told to stop and does what is left, and the drop waits for its end.
+/// A disk in a file, which a thread reads and writes. Its calls push to and pop from queues, and
+/// take no memory; none waits for the file. Where it is dropped the thread is told to stop and does
+/// what is left, and the drop waits for its end.
 ///
-/// It doesn't tell its blocks. An operation that failed, or couldn't be handed to the thread, is a fault of the `take` that
-/// ends it. What comes back and names no operation in flight is dropped by the `take` that sees it.
+/// It doesn't tell its blocks. An operation that failed, or couldn't be handed to the thread, is a
+/// fault of the `take` that ends it. What comes back and names no operation in flight is dropped by
+/// the `take` that sees it.
 pub struct FileDisk<R: Wait + Copy> {
     rt: R,
     geometry: Geometry,
@@ -47,7 +49,8 @@ impl<R: Wait + Copy> Model for FileDisk<R> {
 
     ghost view = { λ d. file_port d.geometry d.flights.flights d.faults d.dones };
 
-    ghost invariant = { λ d. (d.flights.queue ≡ d.geometry.queue) × (d.flights.callers ≡ d.geometry.callers) × (d.faults < 2 ^ 64) };
+    ghost invariant = { λ d. (d.flights.queue ≡ d.geometry.queue)
+        × (d.flights.callers ≡ d.geometry.callers) × (d.faults < 2 ^ 64) };
 }
 
 impl<R: Wait + Copy> Drop for FileDisk<R> {
@@ -140,7 +143,8 @@ where
         FileDisk::over(rt, alloc, file, geometry)
     }
 
-    /// A disk over a file of the geometry's size, as `make_file` makes it: its thread and all buffers.
+    /// A disk over a file of the geometry's size, as `make_file` makes it: its thread and all
+    /// buffers.
     pub fn over(
         rt: R,
         alloc: Global,
@@ -181,7 +185,8 @@ where
 }
 
 impl<R: Wait + Copy> FileDisk<R> {
-    /// Hands an order to the thread in a spare buffer, which gets these bytes if there are some; whether the thread has it.
+    /// Hands an order to the thread in a spare buffer, which gets these bytes if there are some;
+    /// whether the thread has it.
     fn order(&mut self, which: DiskWhich, page: Page, fill: Option<&[u8]>) -> bool
         ensures { self.new ≡ self.old }
     {
@@ -216,7 +221,9 @@ impl<R: Wait + Copy> FileDisk<R> {
     /// What is told of an operation that ended. One that failed is a fault.
     fn ended(&mut self, which: DiskWhich, page: Page, ok: bool) -> DiskDone
         ensures done { result ≡ record { which = which; page = page; ok = ok } }
-        ensures port { self.new ≡ file_port self.old.port.sizes self.old.port.flights self.new.port.faults self.old.came }
+        ensures port { self.new
+            ≡ file_port self.old.port.sizes self.old.port.flights self.new.port.faults
+            self.old.came }
         ensures later { self.old.port.faults ≤ self.new.port.faults }
         ensures cause { ok ≡ false → Rose self.old.port.faults self.new.port.faults }
     {
@@ -226,7 +233,9 @@ impl<R: Wait + Copy> FileDisk<R> {
 
     /// Ends an operation that the thread doesn't have, if there is one.
     fn take_unsent(&mut self) -> Option<DiskDone>
-        ensures { (buf : List ℕ) → MatchOption result (self.new ≡ self.old) (λ done. Moves self.old TakeDone (taken_by (Some done) buf) self.new) }
+        ensures { (buf : List ℕ)
+            → MatchOption result (self.new ≡ self.old)
+            (λ done. Moves self.old TakeDone (taken_by (Some done) buf) self.new) }
     {
         let which = self.flights.unsent()?;
         let flying = self.flights.end(which)?;
@@ -238,7 +247,9 @@ impl<R: Wait + Copy> FileDisk<R> {
         ensures done { (result.which ≡ done.which) × (result.page ≡ page) }
         ensures ok { result.ok ≡ true → done.ok ≡ true }
         ensures filled { result.ok ≡ true → buf.new ≡ done.bytes.items }
-        ensures port { self.new ≡ file_port self.old.port.sizes self.old.port.flights self.new.port.faults self.old.came }
+        ensures port { self.new
+            ≡ file_port self.old.port.sizes self.old.port.flights self.new.port.faults
+            self.old.came }
         ensures later { self.old.port.faults ≤ self.new.port.faults }
         ensures cause { result.ok ≡ false → Rose self.old.port.faults self.new.port.faults }
     {

@@ -68,9 +68,13 @@ impl Model for Flights {
 
     ghost Value = { Roster };
 
-    ghost view = { λ f. record { flights = flights_of f.list.items; queue = f.queue; callers = f.callers } };
+    ghost view = { λ f.
+        record { flights = flights_of f.list.items; queue = f.queue; callers = f.callers } };
 
-    ghost invariant = { λ f. Holds (record { flights = flights_of f.list.items; queue = f.queue; callers = f.callers }) × (f.queue + f.callers ≤ vec_capacity f.list) };
+    ghost invariant = { λ f.
+        Holds
+        (record { flights = flights_of f.list.items; queue = f.queue; callers = f.callers })
+        × (f.queue + f.callers ≤ vec_capacity f.list) };
 }
 
 impl Flights {

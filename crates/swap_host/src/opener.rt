@@ -13,7 +13,8 @@ use swap_file::FileDisk;
 use swap_net::SocketFabric;
 use swap_sock::HostFault;
 
-/// What is to be opened, for a device of these sizes: a disk over a file, or a fabric with a lender at each address.
+/// What is to be opened, for a device of these sizes: a disk over a file, or a fabric with a lender
+/// at each address.
 #[derive(Drop)]
 pub(crate) enum Asked {
     Disk(File, Geometry),
@@ -83,8 +84,8 @@ pub(crate) enum Opened<R: Wait + Copy> {
     Refused(HostFault),
 }
 
-/// A thread that opens what it is asked for. The threads of a disk and of a fabric are started there: in a method of a
-/// trait no thread can be.
+/// A thread that opens what it is asked for. The threads of a disk and of a fabric are started
+/// there: in a method of a trait no thread can be.
 pub(crate) struct Opener<R: Wait + Copy> {
     rt: R,
     asks: End<Asked>,

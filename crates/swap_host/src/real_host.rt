@@ -15,9 +15,9 @@ use swap_file::{FileDisk, make_file};
 use swap_net::SocketFabric;
 use swap_sock::{Address, Counts, Host, HostFault};
 
-/// The host of this machine: a disk is a file, and links and doors go over TCP. It tells no more than the numbers of what it
-/// was asked for, gave and got back. What the system refuses is a fault, as is each disk and fabric where the thread that
-/// opens them couldn't be started.
+/// The host of this machine: a disk is a file, and links and doors go over TCP. It tells no more
+/// than the numbers of what it was asked for, gave and got back. What the system refuses is a
+/// fault, as is each disk and fabric where the thread that opens them couldn't be started.
 #[derive(Drop)]
 pub struct RealHost<R: Wait + Copy> {
     rt: R,
@@ -105,7 +105,8 @@ fn open_net<R: Wait + Copy>(
     addresses: &[Address],
     geometry: &Geometry,
 ) -> Result<SocketFabric<R>, HostFault>
-    ensures { IfOk result (λ n. n.is_of ≡ record { sizes = geometry.now; lenders = length addresses.now }) }
+    ensures { IfOk result
+        (λ n. n.is_of ≡ record { sizes = geometry.now; lenders = length addresses.now }) }
 {
     let Some(opener) = opener else {
         return Err(HostFault::Failed);

@@ -88,14 +88,19 @@ record Fills (page piece : List ℕ) : Type 0 where
 abbrev find_from : List ℕ → List ℕ → Option (List ℕ)
 find_from page ns = find (λ piece. bytes_eq (repeated (length page) piece) page) (map (λ n. take n page) ns)
 
-taken_length : (page : List ℕ) (n : ℕ) → list_any (λ m. eqb (length page) m) lengths ≡ true → list_any (λ m. eqb n m) lengths ≡ true → list_any (λ m. eqb (length (take n page)) m) lengths ≡ true
+taken_length :
+    (page : List ℕ) (n : ℕ) → list_any (λ m. eqb (length page) m) lengths ≡ true → list_any (λ m. eqb n m) lengths ≡ true
+    → list_any (λ m. eqb (length (take n page)) m) lengths ≡ true
 taken_length page n whole listed =
     elim (cases_lt (length page) n) [
       | inl long ↦ ap (λ xs. list_any (λ m. eqb (length xs) m) lengths) (take_all n page (omega arith)) ∙ whole
       | inr short ↦ ap (λ k. list_any (λ m. eqb k m) lengths) (length-take-le n page (omega arith)) ∙ listed
     ]
 
-fills_case : (page : List ℕ) (n : ℕ) (b : Bool) (later : Option (List ℕ)) → bytes_eq (repeated (length page) (take n page)) page ≡ b → list_any (λ m. eqb (length page) m) lengths ≡ true → list_any (λ m. eqb n m) lengths ≡ true → AreBytes page → Fills page (unwrap_or later page) → Fills page (unwrap_or (cond b (Some (take n page)) later) page)
+fills_case :
+    (page : List ℕ) (n : ℕ) (b : Bool) (later : Option (List ℕ)) → bytes_eq (repeated (length page) (take n page)) page ≡ b
+    → list_any (λ m. eqb (length page) m) lengths ≡ true → list_any (λ m. eqb n m) lengths ≡ true → AreBytes page → Fills page (unwrap_or later page)
+    → Fills page (unwrap_or (cond b (Some (take n page)) later) page)
 fills_case page n true later is whole listed are rest = record {
   listed = taken_length page n whole listed;
   short = omega (arith, length-take n page);
@@ -104,11 +109,16 @@ fills_case page n true later is whole listed are rest = record {
 }
 fills_case page n false later is whole listed are rest = rest
 
-fills_from : (page : List ℕ) (ns : List ℕ) → list_any (λ m. eqb (length page) m) lengths ≡ true → list_all (λ n. list_any (λ m. eqb n m) lengths) ns ≡ true → AreBytes page → Fills page (unwrap_or (find_from page ns) page)
+fills_from :
+    (page : List ℕ) (ns : List ℕ) → list_any (λ m. eqb (length page) m) lengths ≡ true → list_all (λ n. list_any (λ m. eqb n m) lengths) ns ≡ true
+    → AreBytes page
+    → Fills page (unwrap_or (find_from page ns) page)
 fills_from page [] whole all are = record {
   listed = whole;
   short = omega arith;
-  whole = ap (λ p. repeated (length page) p) (sym (take_all (length page) page (omega arith))) ∙ (bytes_eq-Decides _ _).0 (sym (repeats_whole page (length page) (omega arith)));
+  whole =
+      ap (λ p. repeated (length page) p) (sym (take_all (length page) page (omega arith)))
+      ∙ (bytes_eq-Decides _ _).0 (sym (repeats_whole page (length page) (omega arith)));
   bytes = are;
 }
 fills_from page (n ∷ ns) whole all are =

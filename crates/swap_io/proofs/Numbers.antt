@@ -42,7 +42,10 @@ refused_empty word empty =
 
 pub refused_plus : (word : List ℕ) → get_or word 0 0 ≡ 43 → 0 < length word → number word ≡ None
 refused_plus word plus some =
-    refused word (λ same small. not_in_digits own word 43 (let P : List ℕ → Type 0 = λ ds. all_ascii_digits ds ≡ true in subst P same (digits_decimal own (value word) small)) (λ range. omega arith) 0 some plus)
+    refused word
+    (λ same small.
+    not_in_digits own word 43 (let P : List ℕ → Type 0 = λ ds. all_ascii_digits ds ≡ true in subst P same (digits_decimal own (value word) small))
+    (λ range. omega arith) 0 some plus)
 
 pub refused_zero : (word : List ℕ) → get_or word 0 0 ≡ 48 → 1 < length word → number word ≡ None
 refused_zero word zero long =
@@ -58,10 +61,15 @@ refused_text word not =
     refused word (λ same small. not (subst IsUtf8 same (IsUtf8-from_ascii _ (IsAscii-decimal (value word) small))))
 
 -- what `parse` reads of a word without a sign and without a leading zero
-pub parsed : {E : Type 0} (word : List ℕ) (r : Result ℕ E) → ParsesUnsigned 64 10 word r → get_or word 0 0 ≢ 43 → (get_or word 0 0 ≡ 48 → length word ≤ 1) → 0 < length word → result_ok r ≡ number word
+pub parsed :
+    {E : Type 0} (word : List ℕ) (r : Result ℕ E) → ParsesUnsigned 64 10 word r → get_or word 0 0 ≢ 43 → (get_or word 0 0 ≡ 48 → length word ≤ 1)
+    → 0 < length word → result_ok r ≡ number word
 parsed {E} word (Ok n) parses plain no_zero some =
-    let read : ((all_ascii_digits word ≡ true) × (0 < length word) × (value word < 2 ^ 64)) × (n ≡ value word) = parse_plain own {E = E} 64 word (Ok n) parses plain in
+    let read : ((all_ascii_digits word ≡ true) × (0 < length word) × (value word < 2 ^ 64)) × (n ≡ value word) =
+    parse_plain own {E = E} 64 word (Ok n) parses plain in
     ap Some read.1 ∙ sym (accepted word (decimal-digits_value own word read.0.0 some (λ zero. omega (arith, no_zero zero)) read.0.2) read.0.2)
 parsed {E} word (Err e) parses plain no_zero some =
     let read = parse_plain own {E = E} 64 word (Err e) parses plain in
-    sym (refused word (λ same small. read (let P : List ℕ → Type 0 = λ ds. all_ascii_digits ds ≡ true in subst P same (digits_decimal own (value word) small), some, small)))
+    sym
+    (refused word
+    (λ same small. read (let P : List ℕ → Type 0 = λ ds. all_ascii_digits ds ≡ true in subst P same (digits_decimal own (value word) small), some, small)))

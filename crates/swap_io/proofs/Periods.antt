@@ -57,14 +57,17 @@ pub repeats_whole : (page : List ℕ) (len : ℕ) → length page ≤ len → tr
 repeats_whole page len long =
     sym ((bytes_eq-Decides _ _).1 (ap (λ r. repeated (length page) r) (take_all len page long) ∙ repeated_whole (length page) page refl))
 
-repeats_same : (page : List ℕ) (len : ℕ) → len < length page → bytes_eq (repeated (length page) (take len page)) page ≡ true → (length page / len * len ≡ length page)
+repeats_same :
+    (page : List ℕ) (len : ℕ) → len < length page → bytes_eq (repeated (length page) (take len page)) page ≡ true → (length page / len * len ≡ length page)
 repeats_same page len short same =
     let whole : length page / length (take len page) * length (take len page) ≡ length page =
-    sym (length-times (length page / length (take len page)) (take len page)) ∙ ap length ((bytes_eq-Decides (repeated (length page) (take len page)) page).0 same) in
+    sym (length-times (length page / length (take len page)) (take len page))
+    ∙ ap length ((bytes_eq-Decides (repeated (length page) (take len page)) page).0 same) in
     rw (length-take-le len page (omega arith)) at whole
 
 -- no piece fills a page whose length it doesn't divide
-pub repeats_not : (page : List ℕ) (len : ℕ) → len < length page → (len ≡ 0) ⊎ (length page % len ≡ 0 → ⊥) → false ≡ bytes_eq (repeated (length page) (take len page)) page
+pub repeats_not :
+    (page : List ℕ) (len : ℕ) → len < length page → (len ≡ 0) ⊎ (length page % len ≡ 0 → ⊥) → false ≡ bytes_eq (repeated (length page) (take len page)) page
 repeats_not page len short not =
     not_true _ (λ same. let whole = repeats_same page len short same in elim not [
       | inl none ↦ omega arith
@@ -75,18 +78,24 @@ shift_from_times : (n m : ℕ) (xs : List ℕ) → length xs ≡ n * m → 0 < n
 shift_from_times zero m xs len some front same = absurd (omega arith)
 shift_from_times (suc n) m xs len some front same =
     let rest : n * length (take m xs) ≡ length xs - m = ap (λ k. n * k) front ∙ omega arith in
-    ap (λ r. drop m r) (sym same) ∙ ap (λ k. drop k (times (suc n) (take m xs))) (sym front) ∙ shifted n (take m xs) ∙ ap (λ k. take k (times (suc n) (take m xs))) rest ∙ ap (λ r. take (length xs - m) r) same
+    ap (λ r. drop m r) (sym same) ∙ ap (λ k. drop k (times (suc n) (take m xs))) (sym front) ∙ shifted n (take m xs)
+    ∙ ap (λ k. take k (times (suc n) (take m xs))) rest ∙ ap (λ r. take (length xs - m) r) same
 
 positive_factor : (n m size : ℕ) → size ≡ n * m → 0 < size → 0 < n
 positive_factor zero m size e some = omega arith
 positive_factor (suc n) m size e some = omega arith
 
 -- and one whose length divides it does where the page is the same as itself one piece on
-pub repeats_shift : (page : List ℕ) (len : ℕ) → 0 < len → len < length page → length page % len ≡ 0 → bytes_eq (drop len page) (take (length page - len) page) ≡ bytes_eq (repeated (length page) (take len page)) page
+pub repeats_shift :
+    (page : List ℕ) (len : ℕ) → 0 < len → len < length page → length page % len ≡ 0
+    → bytes_eq (drop len page) (take (length page - len) page) ≡ bytes_eq (repeated (length page) (take len page)) page
 repeats_shift page len some short whole =
     let front : length (take len page) ≡ len = length-take-le len page (omega arith) in
     let size : length page ≡ length page / len * len = omega (arith, div-add-mod' (length page) len) in
     let positive : 0 < length page / len = positive_factor (length page / len) len (length page) size (omega arith) in
-    let unfold_count : repeated (length page) (take len page) ≡ times (length page / len) (take len page) = ap (λ k. times (length page / k) (take len page)) front in
-    same_from_decides {P = drop len page ≡ take (length page - len) page} _ _ (bytes_eq-Decides _ _)
-    (λ same. shift_from_times (length page / len) len page size positive front (sym unfold_count ∙ (bytes_eq-Decides _ _).0 same), λ shift. (bytes_eq-Decides _ _).1 (unfold_count ∙ times_from_shift (length page / len) len page size shift))
+    let unfold_count : repeated (length page) (take len page) ≡ times (length page / len) (take len page) =
+    ap (λ k. times (length page / k) (take len page)) front in
+    same_from_decides {P = drop len page ≡ take (length page - len) page} _ _ (bytes_eq-Decides _ _) (
+      λ same. shift_from_times (length page / len) len page size positive front (sym unfold_count ∙ (bytes_eq-Decides _ _).0 same),
+      λ shift. (bytes_eq-Decides _ _).1 (unfold_count ∙ times_from_shift (length page / len) len page size shift),
+    )

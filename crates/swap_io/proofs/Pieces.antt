@@ -17,7 +17,8 @@ length-pairs [] = refl
 length-pairs (a ∷ []) = refl
 length-pairs (a ∷ b ∷ rest) = omega (arith, length-pairs rest)
 
-pub get_or-pairs : (word : List ℕ) (i : ℕ) → 2 * i + 1 < length word → get_or (pairs word) i 0 ≡ 16 * hex_value (get_or word (2 * i) 0) + hex_value (get_or word (2 * i + 1) 0)
+pub get_or-pairs :
+    (word : List ℕ) (i : ℕ) → 2 * i + 1 < length word → get_or (pairs word) i 0 ≡ 16 * hex_value (get_or word (2 * i) 0) + hex_value (get_or word (2 * i + 1) 0)
 get_or-pairs [] i within = absurd (omega arith)
 get_or-pairs (a ∷ []) i within = absurd (omega arith)
 get_or-pairs (a ∷ b ∷ rest) zero within = refl
@@ -35,7 +36,9 @@ get_or-times zero piece i within = absurd (omega arith)
 get_or-times (suc n) piece i within =
     elim (cases_lt i (length piece)) [
       | inl below ↦ get_or_append_left piece (times n piece) 0 i below ∙ ap (λ k. get_or piece k 0) (sym (mod-eq_of_lt below))
-      | inr above ↦ get_or-append_right piece (times n piece) (length piece) i 0 refl above ∙ get_or-times n piece (i - length piece) (omega arith) ∙ ap (λ k. get_or piece k 0) (sym (mod-eq-sub-mod above))
+      | inr above ↦
+          get_or-append_right piece (times n piece) (length piece) i 0 refl above ∙ get_or-times n piece (i - length piece) (omega arith)
+          ∙ ap (λ k. get_or piece k 0) (sym (mod-eq-sub-mod above))
     ]
 
 -- what each listed number passes, a number passes that is in the list
@@ -89,7 +92,9 @@ filled_none : (size : ℕ) (b : Bool) (piece : List ℕ) → is_some (cond b (So
 filled_none size true piece h = cc
 filled_none size false piece h = refl
 
-filled_some : (size : ℕ) (b : Bool) (piece : List ℕ) → is_some (cond b (Some piece) None) ≡ true → filled size (cond b (Some piece) None) ≡ cond (is_piece size piece) (Some (repeated size piece)) None
+filled_some :
+    (size : ℕ) (b : Bool) (piece : List ℕ) → is_some (cond b (Some piece) None) ≡ true
+    → filled size (cond b (Some piece) None) ≡ cond (is_piece size piece) (Some (repeated size piece)) None
 filled_some size true piece h = refl
 filled_some size false piece h = cc
 
@@ -98,32 +103,55 @@ pub refused_word : (size : ℕ) (word : List ℕ) → is_some (piece_of word) �
 refused_word size word none = filled_none size _ (pairs word) none
 
 -- what a word of hex stands for
-pub pattern-hex : (size : ℕ) (word : List ℕ) → is_some (piece_of word) ≡ true → pattern size word ≡ cond (is_piece size (pairs word)) (Some (repeated size (pairs word))) None
+pub pattern-hex :
+    (size : ℕ) (word : List ℕ) → is_some (piece_of word) ≡ true → pattern size word ≡ cond (is_piece size (pairs word)) (Some (repeated size (pairs word))) None
 pattern-hex size word some = filled_some size _ (pairs word) some
 
 -- a word whose piece has another length, or is longer than the page
-pub refused_length : (size : ℕ) (word : List ℕ) → is_some (piece_of word) ≡ true → list_any (λ n. eqb n (length word / 2)) lengths ≡ false → pattern size word ≡ None
+pub refused_length :
+    (size : ℕ) (word : List ℕ) → is_some (piece_of word) ≡ true → list_any (λ n. eqb n (length word / 2)) lengths ≡ false → pattern size word ≡ None
 refused_length size word some other =
-    pattern-hex size word some ∙ cond_false (is_piece size (pairs word)) (Some (repeated size (pairs word))) None (λ piece. let listed = (and_parts (list_any (λ n. eqb (length (pairs word)) n) lengths) (leb (length (pairs word)) size) piece).0 in both_ways _ other (list_any_comm (length word / 2) lengths ∙ ap (λ k. list_any (λ n. eqb k n) lengths) (sym (length-pairs word)) ∙ listed))
+    pattern-hex size word some
+    ∙ cond_false (is_piece size (pairs word)) (Some (repeated size (pairs word))) None
+    (λ piece. let listed = (and_parts (list_any (λ n. eqb (length (pairs word)) n) lengths) (leb (length (pairs word)) size) piece).0 in
+    both_ways _ other (list_any_comm (length word / 2) lengths ∙ ap (λ k. list_any (λ n. eqb k n) lengths) (sym (length-pairs word)) ∙ listed))
 
 pub refused_long : (size : ℕ) (word : List ℕ) → is_some (piece_of word) ≡ true → size < length word / 2 → pattern size word ≡ None
 refused_long size word some long =
-    pattern-hex size word some ∙ cond_false (is_piece size (pairs word)) (Some (repeated size (pairs word))) None (λ piece. let short = leb-true (length (pairs word)) size (and_parts (list_any (λ n. eqb (length (pairs word)) n) lengths) (leb (length (pairs word)) size) piece).1 in omega (arith, length-pairs word))
+    pattern-hex size word some
+    ∙ cond_false (is_piece size (pairs word)) (Some (repeated size (pairs word))) None
+    (λ piece. let short =
+    leb-true (length (pairs word)) size (and_parts (list_any (λ n. eqb (length (pairs word)) n) lengths) (leb (length (pairs word)) size) piece).1 in
+    omega (arith, length-pairs word))
 
 -- a page that a piece fills, byte by byte
-pub repeated_page : (piece page : List ℕ) → list_any (λ n. eqb (length page) n) page_lengths ≡ true → list_any (λ n. eqb (length piece) n) lengths ≡ true → length piece ≤ length page → ((k : ℕ) → k < length page → get_or page k 0 ≡ get_or piece (k % length piece) 0) → page ≡ repeated (length page) piece
+pub repeated_page :
+    (piece page : List ℕ) → list_any (λ n. eqb (length page) n) page_lengths ≡ true → list_any (λ n. eqb (length piece) n) lengths ≡ true
+    → length piece ≤ length page → ((k : ℕ) → k < length page → get_or page k 0 ≡ get_or piece (k % length piece) 0) → page ≡ repeated (length page) piece
 repeated_page piece page is_page is_len small bytes =
     let whole : length page / length piece * length piece ≡ length page = divides (length page) (length piece) is_page is_len small in
-    ext_get_or 0 page (repeated (length page) piece) (sym whole ∙ sym (length-times (length page / length piece) piece)) (λ k within. bytes k within ∙ sym (get_or-times (length page / length piece) piece k (omega (arith, whole))))
+    ext_get_or 0 page (repeated (length page) piece) (sym whole ∙ sym (length-times (length page / length piece) piece))
+    (λ k within. bytes k within ∙ sym (get_or-times (length page / length piece) piece k (omega (arith, whole))))
 
 -- the page that a word of hex fills
-pub filled_page : (word page : List ℕ) → is_some (piece_of word) ≡ true → list_any (λ n. eqb (length page) n) page_lengths ≡ true → list_any (λ n. eqb n (length word / 2)) lengths ≡ true → length word / 2 ≤ length page → ((k : ℕ) → k < length page → get_or page k 0 ≡ get_or (pairs word) (k % (length word / 2)) 0) → Some page ≡ pattern (length page) word
+pub filled_page :
+    (word page : List ℕ) → is_some (piece_of word) ≡ true → list_any (λ n. eqb (length page) n) page_lengths ≡ true
+    → list_any (λ n. eqb n (length word / 2)) lengths ≡ true → length word / 2 ≤ length page
+    → ((k : ℕ) → k < length page → get_or page k 0 ≡ get_or (pairs word) (k % (length word / 2)) 0) → Some page ≡ pattern (length page) word
 filled_page word page some is_page listed small bytes =
     let len = length-pairs word in
-    let is_len : list_any (λ n. eqb (length (pairs word)) n) lengths ≡ true = ap (λ k. list_any (λ n. eqb k n) lengths) len ∙ sym (list_any_comm (length word / 2) lengths) ∙ listed in
-    let same : page ≡ repeated (length page) (pairs word) = repeated_page (pairs word) page is_page is_len (omega arith) (λ k within. bytes k within ∙ ap (λ m. get_or (pairs word) (k % m) 0) (sym len)) in
-    ap Some same ∙ sym (cond_true (is_piece (length page) (pairs word)) (Some (repeated (length page) (pairs word))) None (and_from _ _ is_len (le-leb _ _ (omega arith)))) ∙ sym (pattern-hex (length page) word some)
+    let is_len : list_any (λ n. eqb (length (pairs word)) n) lengths ≡ true =
+    ap (λ k. list_any (λ n. eqb k n) lengths) len ∙ sym (list_any_comm (length word / 2) lengths) ∙ listed in
+    let same : page ≡ repeated (length page) (pairs word) =
+    repeated_page (pairs word) page is_page is_len (omega arith) (λ k within. bytes k within ∙ ap (λ m. get_or (pairs word) (k % m) 0) (sym len)) in
+    ap Some same
+    ∙ sym (cond_true (is_piece (length page) (pairs word)) (Some (repeated (length page) (pairs word))) None (and_from _ _ is_len (le-leb _ _ (omega arith))))
+    ∙ sym (pattern-hex (length page) word some)
 
-pub filled_page-sized : (size : ℕ) (word page : List ℕ) → length page ≡ size → is_some (piece_of word) ≡ true → list_any (λ n. eqb size n) page_lengths ≡ true → list_any (λ n. eqb n (length word / 2)) lengths ≡ true → length word / 2 ≤ size → ((k : ℕ) → k < size → get_or page k 0 ≡ get_or (pairs word) (k % (length word / 2)) 0) → Some page ≡ pattern size word
+pub filled_page-sized :
+    (size : ℕ) (word page : List ℕ) → length page ≡ size → is_some (piece_of word) ≡ true → list_any (λ n. eqb size n) page_lengths ≡ true
+    → list_any (λ n. eqb n (length word / 2)) lengths ≡ true → length word / 2 ≤ size
+    → ((k : ℕ) → k < size → get_or page k 0 ≡ get_or (pairs word) (k % (length word / 2)) 0) → Some page ≡ pattern size word
 filled_page-sized size word page same some is_page listed small bytes =
-    filled_page word page some (ap (λ k. list_any (λ n. eqb k n) page_lengths) same ∙ is_page) listed (omega arith) (λ k within. bytes k (omega arith)) ∙ ap (λ k. pattern k word) same
+    filled_page word page some (ap (λ k. list_any (λ n. eqb k n) page_lengths) same ∙ is_page) listed (omega arith) (λ k within. bytes k (omega arith))
+    ∙ ap (λ k. pattern k word) same

@@ -30,7 +30,8 @@ is_listed failing call = list_any (λ n. n == call) failing
 -- one read with room for so many bytes: it fails where it is listed, and else gives as many as there are and fit
 abbrev pub after_read : Given → ℕ → Given
 after_read s room =
-    if is_listed s.failing s.calls then record s { calls = raised s.calls; faults = raised s.faults } else record s { left = drop room s.left; calls = raised s.calls }
+    if is_listed s.failing s.calls then record s { calls = raised s.calls; faults = raised s.faults }
+    else record s { left = drop room s.left; calls = raised s.calls }
 
 abbrev pub read_gives : Given → ℕ → Result ℕ ReadFailed
 read_gives s room = if is_listed s.failing s.calls then Err (record {}) else Ok (min room (length s.left))
@@ -42,7 +43,8 @@ write_fails s = is_listed s.failing s.calls || nat_le s.capacity (length s.taken
 -- one write of these bytes: else it takes as many as there are and fit
 abbrev pub after_write : Taken → List ℕ → Taken
 after_write s bytes =
-    if write_fails s then record s { calls = raised s.calls; faults = raised s.faults } else record s { taken = s.taken ++ take (s.capacity - length s.taken) bytes; calls = raised s.calls }
+    if write_fails s then record s { calls = raised s.calls; faults = raised s.faults }
+    else record s { taken = s.taken ++ take (s.capacity - length s.taken) bytes; calls = raised s.calls }
 
 abbrev pub write_gives : Taken → List ℕ → Result ℕ WriteFailed
 write_gives s bytes = if write_fails s then Err (record {}) else Ok (min (length bytes) (s.capacity - length s.taken))

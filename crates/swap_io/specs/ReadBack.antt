@@ -17,4 +17,6 @@ AreBytes bytes = (i : ℕ) → get_or bytes i 0 < 256
 
 -- a page of any length that a page may have is read from the hex of its shortest piece
 abbrev pub PagesAreReadBack : Type 0
-PagesAreReadBack = (page : List ℕ) → list_any (λ n. length page == n) page_lengths ≡ true → AreBytes page → pattern (length page) (shortest page) ≡ Some page
+PagesAreReadBack =
+    (page : List ℕ) → list_any (λ n. length page == n) page_lengths ≡ true → AreBytes page
+    → pattern (length page) (shortest page) ≡ Some page

@@ -12,9 +12,10 @@ use swap_base::NoMemory;
 /// How many bytes are gathered at most.
 pub const BLOCK_LENGTH: usize = 65_536;
 
-/// A sink that gathers in a block of 65,536 bytes what it takes. It hands the block on to another sink when a piece
-/// doesn't fit, and when it is told to: what it took is what the other sink took, and then what it holds. A failure of
-/// the other sink loses nothing of the block. After `make` no call takes memory.
+/// A sink that gathers in a block of 65,536 bytes what it takes. It hands the block on to another
+/// sink when a piece doesn't fit, and when it is told to: what it took is what the other sink took,
+/// and then what it holds. A failure of the other sink loses nothing of the block. After `make` no
+/// call takes memory.
 #[derive(Debug, Drop)]
 pub struct BlockSink<K: Sink + Drop> {
     sink: K,
@@ -28,16 +29,24 @@ impl<K: Sink + Drop> Model for BlockSink<K> {
 
     ghost Value = { Gathered };
 
-    ghost view = { λ s. record { handed = K.taken s.sink; held = drop s.at s.block.items; room = 65_536 - vec_len s.block; faults = K.faults s.sink } };
+    ghost view = { λ s.
+        record {
+          handed = K.taken s.sink;
+          held = drop s.at s.block.items;
+          room = 65_536 - vec_len s.block;
+          faults = K.faults s.sink;
+        } };
 
-    ghost invariant = { λ s. (s.at ≤ vec_len s.block) × (vec_len s.block ≤ 65_536) × (65_536 ≤ vec_capacity s.block) };
+    ghost invariant = { λ s. (s.at ≤ vec_len s.block) × (vec_len s.block ≤ 65_536)
+        × (65_536 ≤ vec_capacity s.block) };
 }
 
 /// Hands on what a block holds from `at` on, which goes on with what is taken.
 fn hand_on_from<K: Sink>(sink: &mut K, block: &[u8], at: &mut usize) -> Result<(), WriteFailed>
     requires { at.old ≤ length block.now }
     ensures within { at.new ≤ length block.now }
-    ensures kept { Keeps (append_known (K.taken sink.old) (drop at.old block.now)) (append_known (K.taken sink.new) (drop at.new block.now)) }
+    ensures kept { Keeps (append_known (K.taken sink.old) (drop at.old block.now))
+        (append_known (K.taken sink.new) (drop at.new block.now)) }
     ensures whole { OnOk result (at.new ≡ length block.now) }
     ensures cause { HasCause (K.faults sink.old) (K.faults sink.new) result }
 {
@@ -58,7 +67,14 @@ fn hand_on_from<K: Sink>(sink: &mut K, block: &[u8], at: &mut usize) -> Result<(
 impl<K: Sink + Drop> BlockSink<K> {
     /// A sink that holds nothing yet, before the other one.
     pub fn make(alloc: Global, sink: K) -> Result<BlockSink<K>, NoMemory>
-        ensures { IfOk result (λ s. s ≡ record { handed = K.taken sink; held = []; room = 65_536; faults = K.faults sink }) }
+        ensures { IfOk result
+            (λ s. s
+            ≡ record {
+              handed = K.taken sink;
+              held = [];
+              room = 65_536;
+              faults = K.faults sink;
+            }) }
     {
         let Ok(block) = Vec::with_capacity(alloc, BLOCK_LENGTH) else {
             return Err(NoMemory);

@@ -23,7 +23,8 @@ impl Model for LineBuf {
 
     ghost view = { λ line. line.bytes.items };
 
-    ghost invariant = { λ line. (vec_len line.bytes ≤ 10_000) × (10_000 ≤ vec_capacity line.bytes) };
+    ghost invariant = { λ line. (vec_len line.bytes ≤ 10_000)
+        × (10_000 ≤ vec_capacity line.bytes) };
 }
 
 impl LineBuf {
@@ -99,7 +100,9 @@ fn shortest_len(page: &[u8]) -> usize
 
 /// The first length of a piece that a page repeats.
 fn first_period(page: &[u8]) -> Option<usize>
-    ensures { result ≡ find (λ len. bytes_eq (repeated (length page.now) (take len page.now)) page.now) lengths }
+    ensures { result
+        ≡ find
+        (λ len. bytes_eq (repeated (length page.now) (take len page.now)) page.now) lengths }
 {
     PIECE_LENGTHS
         .iter()

@@ -25,14 +25,21 @@ impl Model for MemSource {
 
     ghost Value = { Given };
 
-    ghost view = { λ s. record { left = drop s.at s.bytes.items; failing = s.failing.items; calls = s.calls; faults = s.faults } };
+    ghost view = { λ s.
+        record {
+          left = drop s.at s.bytes.items;
+          failing = s.failing.items;
+          calls = s.calls;
+          faults = s.faults;
+        } };
 
     ghost invariant = { λ s. s.at ≤ vec_len s.bytes };
 }
 
 impl MemSource {
     pub fn make(bytes: Vec<u8>, failing: Vec<u32>) -> MemSource
-        ensures { result ≡ record { left = bytes.items; failing = failing.items; calls = 0; faults = 0 } }
+        ensures { result
+            ≡ record { left = bytes.items; failing = failing.items; calls = 0; faults = 0 } }
     {
         MemSource {
             bytes,
@@ -58,7 +65,8 @@ impl Source for MemSource {
         ensures unfailed { OnOk result (self.new.faults ≡ self.old.faults) }
         ensures result { result ≡ read_gives self.old (length buf.old) }
         ensures after { self.new ≡ after_read self.old (length buf.old) }
-        ensures given { IfOk result (λ n. (take n buf.new ≡ take n self.old.left) × (drop n buf.new ≡ drop n buf.old)) }
+        ensures given { IfOk result
+            (λ n. (take n buf.new ≡ take n self.old.left) × (drop n buf.new ≡ drop n buf.old)) }
     {
         let call = self.calls;
         self.calls = call.saturating_add(1);
@@ -74,7 +82,8 @@ impl Source for MemSource {
     }
 }
 
-/// A sink in memory, which fails at the calls whose numbers from 0 are listed, and where its capacity is used up.
+/// A sink in memory, which fails at the calls whose numbers from 0 are listed, and where its
+/// capacity is used up.
 #[derive(Debug, Drop)]
 pub struct MemSink {
     bytes: Vec<u8>,
@@ -90,7 +99,14 @@ impl Model for MemSink {
 
     ghost Value = { Taken };
 
-    ghost view = { λ s. record { taken = s.bytes.items; capacity = s.capacity; failing = s.failing.items; calls = s.calls; faults = s.faults } };
+    ghost view = { λ s.
+        record {
+          taken = s.bytes.items;
+          capacity = s.capacity;
+          failing = s.failing.items;
+          calls = s.calls;
+          faults = s.faults;
+        } };
 
     ghost invariant = { λ s. (vec_len s.bytes ≤ s.capacity) × (s.capacity ≤ vec_capacity s.bytes) };
 }
@@ -98,7 +114,15 @@ impl Model for MemSink {
 impl MemSink {
     /// A sink that may take `capacity` bytes, for which the memory is taken here.
     pub fn make(alloc: Global, capacity: usize, failing: Vec<u32>) -> Result<MemSink, NoMemory>
-        ensures { IfOk result (λ sink. sink ≡ record { taken = []; capacity = capacity; failing = failing.items; calls = 0; faults = 0 }) }
+        ensures { IfOk result
+            (λ sink. sink
+            ≡ record {
+              taken = [];
+              capacity = capacity;
+              failing = failing.items;
+              calls = 0;
+              faults = 0;
+            }) }
     {
         let Ok(bytes) = Vec::with_capacity(alloc, capacity) else {
             return Err(NoMemory);
@@ -126,8 +150,8 @@ impl Sink for MemSink {
 
     ghost faults = { λ s. s.faults };
 
-    /// Fails at exactly the listed calls and where the capacity is used up; every other one takes as many bytes as
-    /// there are and fit.
+    /// Fails at exactly the listed calls and where the capacity is used up; every other one takes
+    /// as many bytes as there are and fit.
     fn write(&mut self, bytes: &[u8]) -> Result<usize, WriteFailed>
         ensures bound { WritesAtMost result bytes.now }
         ensures some { IfOk result (λ n. 0 < length bytes.now → 0 < n) }

@@ -42,7 +42,8 @@ impl<R: Read + Drop> Source for StdSource<R> {
         ensures bytes { ReadConsumes self.old.bytes self.new.bytes result buf.new }
         ensures cause { HasCause self.old.faults self.new.faults result }
         ensures unfailed { OnOk result (self.new.faults ≡ self.old.faults) }
-        ensures count { self.new.faults ≡ (if is_ok result then self.old.faults else raised self.old.faults) }
+        ensures count { self.new.faults
+            ≡ (if is_ok result then self.old.faults else raised self.old.faults) }
     {
         let Ok(n) = self.reader.read(buf) else {
             self.faults = self.faults.saturating_add(1);
@@ -52,8 +53,8 @@ impl<R: Read + Drop> Source for StdSource<R> {
     }
 }
 
-/// A sink over std's writer: it passes on what the writer tells, and counts its errors. A write that takes nothing of a
-/// piece is an error too.
+/// A sink over std's writer: it passes on what the writer tells, and counts its errors. A write
+/// that takes nothing of a piece is an error too.
 #[derive(Debug, Drop)]
 pub struct StdSink<W: Write + Drop> {
     writer: W,
@@ -86,7 +87,8 @@ impl<W: Write + Drop> Sink for StdSink<W> {
         ensures some { IfOk result (λ n. 0 < length bytes.now → 0 < n) }
         ensures bytes { WriteAppends self.old.bytes self.new.bytes result bytes.now }
         ensures cause { HasCause self.old.faults self.new.faults result }
-        ensures count { self.new.faults ≡ (if is_ok result then self.old.faults else raised self.old.faults) }
+        ensures count { self.new.faults
+            ≡ (if is_ok result then self.old.faults else raised self.old.faults) }
     {
         let written = self.writer.write(bytes).unwrap_or(0);
         if written == 0 && !bytes.is_empty() {

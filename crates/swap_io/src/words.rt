@@ -34,8 +34,9 @@ pub fn is_hex(word: &[u8]) -> bool
     !word.is_empty() && word.len() % 2 == 0 && word.iter().all(|c| is_hex_digit(*c))
 }
 
-/// Fills a page with the piece that a word stands for, repeated: lower-case hex of 1, 2, 4, .. bytes, up to
-/// the page's length. False where the word is no such hex, and then the page stays as it was.
+/// Fills a page with the piece that a word stands for, repeated: lower-case hex of 1, 2, 4, ..
+/// bytes, up to the page's length. False where the word is no such hex, and then the page stays as
+/// it was.
 pub fn pattern(word: &[u8], page: &mut [u8]) -> bool
     requires { IsTrue (list_any (λ n. length page.old == n) page_lengths) }
     ensures page { (if result then Some page.new else None) ≡ pattern (length page.old) word.now }
@@ -66,7 +67,8 @@ fn fill_front(word: &[u8], page: &mut [u8], len: usize)
 fn repeat_front(page: &mut [u8], len: usize)
     requires some { 0 < len }
     requires within { len ≤ length page.old }
-    ensures { (k : ℕ) → k < length page.old → slice_index page.new k ≡ slice_index page.old (k % len) }
+    ensures { (k : ℕ) → k < length page.old
+        → slice_index page.new k ≡ slice_index page.old (k % len) }
 {
     let mut done = len;
     'filling: while done < page.len() {
@@ -74,12 +76,14 @@ fn repeat_front(page: &mut [u8], len: usize)
     }
 }
 
-/// Copies the first `done` bytes behind themselves, as many as the page has room for. How many are filled then.
+/// Copies the first `done` bytes behind themselves, as many as the page has room for. How many are
+/// filled then.
 fn double(page: &mut [u8], done: usize) -> usize
     requires { done ≤ length page.old }
     ensures filled { result ≡ min (done + done) (length page.old) }
     ensures front { (k : ℕ) → k < done → slice_index page.new k ≡ slice_index page.old k }
-    ensures copied { (k : ℕ) → k < result - done → slice_index page.new (done + k) ≡ slice_index page.old k }
+    ensures copied { (k : ℕ) → k < result - done
+        → slice_index page.new (done + k) ≡ slice_index page.old k }
 {
     let (front, rest) = page.split_at_mut(done);
     let count = front.len().min(rest.len());

@@ -14,7 +14,9 @@ pub take_of_take : {X : Type 0} (n m : ℕ) (xs : List X) → take n (take m xs)
 take_of_take n m xs = elim (cases_lt m n) [ inl h ↦ less h | inr h ↦ more h ]
   where
     less : m < n → take n (take m xs) ≡ take (min m n) xs
-    less h = let e : min m n ≡ m = omega arith in let le : length (take m xs) ≤ n = omega (arith, length-take m xs) in take_all n (take m xs) le ∙ ap (λ k. take k xs) (sym e)
+    less h =
+        let e : min m n ≡ m = omega arith in let le : length (take m xs) ≤ n = omega (arith, length-take m xs) in
+        take_all n (take m xs) le ∙ ap (λ k. take k xs) (sym e)
 
     more : n ≤ m → take n (take m xs) ≡ take (min m n) xs
     more h = let e : min m n ≡ n = omega arith in take-take n m xs h ∙ ap (λ k. take k xs) (sym e)
@@ -24,7 +26,9 @@ pub parcels-cut : (places : List Kept) (count n : ℕ) → parcels_in places (mi
 parcels-cut places count n = ap (λ ks. map parcel_in ks) (sym (take_of_take n count places)) ∙ sym (take-map parcel_in n (take count places))
 
 -- a lane whose first message is taken off, and its place goes to the back
-pub parcels-popped : (places turned : List Kept) (count : ℕ) → 0 < count → count ≤ length places → turned ≡ drop 1 places ++ take 1 places → (parcels_in turned (count - 1) ≡ rest (parcels_in places count)) × (length turned ≡ length places)
+pub parcels-popped :
+    (places turned : List Kept) (count : ℕ) → 0 < count → count ≤ length places → turned ≡ drop 1 places ++ take 1 places
+    → (parcels_in turned (count - 1) ≡ rest (parcels_in places count)) × (length turned ≡ length places)
 parcels-popped [] turned count some used e = absurd (omega (arith, some, used))
 parcels-popped (k ∷ ks) turned zero some used e = absurd (omega arith)
 parcels-popped (k ∷ ks) turned (suc n) some used e = (
@@ -36,7 +40,12 @@ parcels-popped (k ∷ ks) turned (suc n) some used e = (
     less = omega arith
 
 -- its pages
-pub parcels-fit : (places : List Kept) (count page_bytes : ℕ) → All (λ k. length k.page ≡ page_bytes) places → All (λ (p : Parcel). carries_page p.msg ≡ true → length p.page ≡ page_bytes) (parcels_in places count)
+pub parcels-fit :
+    (places : List Kept) (count page_bytes : ℕ) → All (λ k. length k.page ≡ page_bytes) places
+    → All (λ (p : Parcel). carries_page p.msg ≡ true → length p.page ≡ page_bytes) (parcels_in places count)
 parcels-fit places count page_bytes fit =
     let P : Parcel → Type 0 = λ p. carries_page p.msg ≡ true → length p.page ≡ page_bytes in
-    All-map P parcel_in (take count places) (All-weaker (λ (k : Kept). length k.page ≡ page_bytes) (λ k. P (parcel_in k)) (λ k e carries. ap length (cond-true (carries_page k.msg) k.page _ carries) ∙ e) (take count places) (All-take (λ (k : Kept). length k.page ≡ page_bytes) count places fit))
+    All-map P parcel_in (take count places)
+    (All-weaker (λ (k : Kept). length k.page ≡ page_bytes) (λ k. P (parcel_in k))
+    (λ k e carries. ap length (cond-true (carries_page k.msg) k.page _ carries) ∙ e) (take count places)
+    (All-take (λ (k : Kept). length k.page ≡ page_bytes) count places fit))

@@ -47,8 +47,11 @@ all-of P f (x ∷ xs) = All-cons P x xs (f x) (all-of P f xs)
 pub new-sizes : (s : Sizes) (specs : List LenderSpec) → All (λ (c : Channel). c.sizes ≡ s) (map (new_channel s) specs)
 new-sizes s specs = All-map (λ (c : Channel). c.sizes ≡ s) (new_channel s) specs (all-of (λ spec. (new_channel s spec).sizes ≡ s) (λ spec. refl) specs)
 
-pub new-fresh : (s : Sizes) (specs : List LenderSpec) → IsFresh (record { sizes = s; channels = map (new_channel s) specs }) (record { sizes = s; lenders = length specs })
+pub new-fresh :
+    (s : Sizes) (specs : List LenderSpec) → IsFresh (record { sizes = s; channels = map (new_channel s) specs }) (record { sizes = s; lenders = length specs })
 new-fresh s specs = record {
   is = ap (λ n. record { sizes = s; lenders = n }) (length-map specs (new_channel s));
-  channels = All-map (λ (c : Channel). c ≡ new_channel s c.lender.lending.spec) (new_channel s) specs (all-of (λ spec. new_channel s spec ≡ new_channel s spec) (λ spec. refl) specs);
+  channels =
+      All-map (λ (c : Channel). c ≡ new_channel s c.lender.lending.spec) (new_channel s) specs
+      (all-of (λ spec. new_channel s spec ≡ new_channel s spec) (λ spec. refl) specs);
 }

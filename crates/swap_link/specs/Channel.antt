@@ -26,13 +26,23 @@ pub record Channel : Type 0 where
 
 abbrev pub channel_in : Sizes → Lender → Link → Lane → Lane → Bool → Bool → Channel
 channel_in sizes lender number to_lender to_device device_gone lender_gone =
-    record { sizes = sizes; lender = lender; number = number; to_lender = to_lender; to_device = to_device; device_gone = device_gone; lender_gone = lender_gone }
+    record {
+      sizes = sizes;
+      lender = lender;
+      number = number;
+      to_lender = to_lender;
+      to_device = to_device;
+      device_gone = device_gone;
+      lender_gone = lender_gone;
+    }
 
 abbrev pub unconnected : Sizes → Lender → ℕ → Channel
 unconnected sizes lender room =
-    channel_in sizes lender (record { 0 = 0 }) (empty_lane true room sizes.page_bytes) (empty_lane true room sizes.page_bytes) true true
+    channel_in sizes lender (record { 0 = 0 }) (empty_lane true room sizes.page_bytes)
+    (empty_lane true room sizes.page_bytes) true true
 
--- connect: a link whose lender's end stands is gone for its lender; the new one has its number, and nothing is under way
+-- connect: a link whose lender's end stands is gone for its lender; the new one has its number, and nothing is under
+-- way
 abbrev pub let_go : Channel → Lender
 let_go c = if c.lender_gone then c.lender else (gone c.lender c.number).lender
 
@@ -86,12 +96,23 @@ reply_of (p ∷ ps) = if is_evict p.1.msg then None else Some p.1.msg
 -- the lender's end leaves: its slots are free, and what was under way to it is gone
 abbrev pub abandoned : Channel → Channel
 abandoned c =
-    record c { lender = (gone c.lender c.number).lender; to_lender = cut c.to_lender 0; to_device = ended c.to_device; lender_gone = true }
+    record c {
+      lender = (gone c.lender c.number).lender;
+      to_lender = cut c.to_lender 0;
+      to_device = ended c.to_device;
+      lender_gone = true;
+    }
 
--- give: the lender takes the first message and answers, or ends the link where it may not be sent; where there is none and the lane has ended, the lender's end leaves
+-- give: the lender takes the first message and answers, or ends the link where it may not be sent; where there is none
+-- and the lane has ended, the lender's end leaves
 abbrev pub served : Channel → Parcel → Gave × Channel
 served c p =
-    if may_send c.lender c.number p.msg then (gave_is.Got p.msg (reply_of (took c.lender c.number p.msg p.page).parcels) (took c.lender c.number p.msg p.page).evicted, delivered c (took c.lender c.number p.msg p.page))
+    if may_send c.lender c.number p.msg
+    then (
+      gave_is.Got p.msg (reply_of (took c.lender c.number p.msg p.page).parcels)
+          (took c.lender c.number p.msg p.page).evicted,
+      delivered c (took c.lender c.number p.msg p.page),
+    )
     else (gave_is.Ended p.msg, abandoned c)
 
 abbrev pub given_from : Channel → List Parcel → Gave × Channel
@@ -103,14 +124,17 @@ given c = if c.lender_gone then (gave_is.Nothing, c) else given_from c c.to_lend
 
 -- cut: both lanes end and keep their first messages; false where that changes nothing
 abbrev pub severed : Channel → ℕ → ℕ → Bool × Channel
-severed c to_lender to_device =
-    (not (is_cut c.to_lender to_lender && is_cut c.to_device to_device), record c { to_lender = cut c.to_lender to_lender; to_device = cut c.to_device to_device })
+severed c to_lender to_device = (
+  not (is_cut c.to_lender to_lender && is_cut c.to_device to_device),
+  record c { to_lender = cut c.to_lender to_lender; to_device = cut c.to_device to_device },
+)
 
 -- crash: the lender starts anew, and its end leaves
 abbrev pub crashed : Channel → Channel
 crashed c =
     if c.lender_gone then record c { lender = restart c.lender }
-    else record c { lender = restart c.lender; to_lender = cut c.to_lender 0; to_device = ended c.to_device; lender_gone = true }
+    else record c
+    { lender = restart c.lender; to_lender = cut c.to_lender 0; to_device = ended c.to_device; lender_gone = true }
 
 -- what a call of a channel answers, and the channel after it
 abbrev pub on_channel : Channel → (c : FabricCall) → FabricAnswer c × Channel

@@ -30,7 +30,8 @@ pub record IsSound (l : Lender) : Type 0 where
   pub slots : length l.contents ≡ length l.slots
   pub places : All (λ slab. length slab ≡ l.lending.pages_per_slab) l.contents
 
-pub record ChannelFits (sizes : Sizes) (lender : Lender) (number : Link) (to_lender to_device : Lane) (lender_gone : Bool) (outgoing : Outgoing) : Type 0 where
+pub record ChannelFits (sizes : Sizes) (lender : Lender) (number : Link) (to_lender to_device : Lane)
+    (lender_gone : Bool) (outgoing : Outgoing) : Type 0 where
   pub sound : IsSound lender
   pub alone : IsAlone number lender_gone lender.peers
   pub one : lender.lending.links ≡ 1

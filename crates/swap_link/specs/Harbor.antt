@@ -48,7 +48,10 @@ lender_of (Host lender used word) = lender
 
 -- what a harbor answers to a call, and the harbor after it: the call is its channel's
 abbrev pub ask : Harbor → (c : FabricCall) → FabricAnswer c × Harbor
-ask h c = ((on_channel (channel_of h (lender_of c)) c).0, with_channel h (lender_of c) (on_channel (channel_of h (lender_of c)) c).1)
+ask h c = (
+  (on_channel (channel_of h (lender_of c)) c).0,
+  with_channel h (lender_of c) (on_channel (channel_of h (lender_of c)) c).1,
+)
 
 -- a lender may be called: it is in range, and its channel is sound and of the harbor's sizes
 pub record IsAsked (h : Harbor) (l : Lender) : Type 0 where

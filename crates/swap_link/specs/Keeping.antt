@@ -28,9 +28,12 @@ abbrev pub left_after : Lease → ℕ → List Parcel → Option (List ℕ) → 
 left_after k i [] was = was
 left_after k i (p ∷ ps) was = left_after k i ps (left_by k i p.msg p.page was)
 
--- the lender will have these bytes once it has taken what is under way to it; any bytes where its end is gone, or where the lane to it has ended
+-- the lender will have these bytes once it has taken what is under way to it; any bytes where its end is gone, or where
+-- the lane to it has ended
 abbrev pub Keeps : Channel → Lease → ℕ → List ℕ → Type 0
-Keeps c k i bytes = Unless c.lender_gone (Unless c.to_lender.ended (left_after k i c.to_lender.parcels (slot_page c.lender c.number k i) ≡ Some bytes))
+Keeps c k i bytes =
+    Unless c.lender_gone
+    (Unless c.to_lender.ended (left_after k i c.to_lender.parcels (slot_page c.lender c.number k i) ≡ Some bytes))
 
 -- the pages under way to the device
 abbrev pub pages_in : List Parcel → List (List ℕ)
@@ -43,7 +46,8 @@ Begins [] Rest pages = Rest pages
 Begins (b ∷ bs) Rest [] = ⊥
 Begins (b ∷ bs) Rest (page ∷ pages) = (page ≡ b) × Begins bs Rest pages
 
--- the page that a read will be given, of what its place holds when it is read; a lease that was given and isn't held is given nothing, and any page will do; one that is still to be given is given zeros
+-- the page that a read will be given, of what its place holds when it is read; a lease that was given and isn't held is
+-- given nothing, and any page will do; one that is still to be given is given zeros
 abbrev pub GivenNone : Bool → List ℕ → List ℕ → Type 0
 GivenNone true zero page = Unit {0}
 GivenNone false zero page = page ≡ zero
@@ -62,18 +66,24 @@ abbrev pub AskedBy : (Lease → ℕ → List ℕ → Type 0) → (List (List ℕ
 AskedBy Given Rest (msg.Read lease place) pages = FirstIs (Given lease place) Rest pages
 AskedBy Given Rest _ pages = Rest pages
 
--- one page for each read under way to the lender, by what each place holds; any pages may follow where the lane has ended
+-- one page for each read under way to the lender, by what each place holds; any pages may follow where the lane has
+-- ended
 abbrev pub ReadsOwed : Bool → ℕ → List ℕ → (Lease → ℕ → Option (List ℕ)) → List Parcel → List (List ℕ) → Type 0
 ReadsOwed ended next_lease zero there [] pages = Unless ended (pages ≡ [])
 ReadsOwed ended next_lease zero there (p ∷ ps) pages =
-    AskedBy (λ k i page. IsGiven k.0 next_lease zero (there k i) page) (ReadsOwed ended next_lease zero (λ k i. left_by k i p.msg p.page (there k i)) ps) p.msg pages
+    AskedBy (λ k i page. IsGiven k.0 next_lease zero (there k i) page)
+    (ReadsOwed ended next_lease zero (λ k i. left_by k i p.msg p.page (there k i)) ps) p.msg pages
 
 abbrev pub zero_page : Lender → List ℕ
 zero_page l = replicate l.lending.page_bytes 0
 
 abbrev pub LaterOwed : Channel → List (List ℕ) → Type 0
-LaterOwed c pages = ReadsOwed c.to_lender.ended c.lender.next_lease (zero_page c.lender) (λ k i. slot_page c.lender c.number k i) c.to_lender.parcels pages
+LaterOwed c pages =
+    ReadsOwed c.to_lender.ended c.lender.next_lease (zero_page c.lender)
+    (λ k i. slot_page c.lender c.number k i) c.to_lender.parcels pages
 
 -- first the pages under way to the device, then, as long as they can come, those of the reads under way to the lender
 abbrev pub Owes : Channel → List (List ℕ) → Type 0
-Owes c pages = Begins (pages_in c.to_device.parcels) (λ later. Unless c.lender_gone (Unless c.to_device.ended (LaterOwed c later))) pages
+Owes c pages =
+    Begins (pages_in c.to_device.parcels)
+    (λ later. Unless c.lender_gone (Unless c.to_device.ended (LaterOwed c later))) pages

@@ -3,7 +3,8 @@ use Rattle.std.specs.Prelude.{◌≡◌, ℕ, ◌≤◌, Bool, true, false, nat_
 use Rattle.swap_wire.specs.declared.Msg.{Msg}
 use Rattle.swap_wire.specs.Fabric.{Parcel, carries_page, parcel_of}
 
--- the messages in the order in which they were appended, whether it has ended (nothing is appended any more), how many messages it has room for, and the length of a page
+-- the messages in the order in which they were appended, whether it has ended (nothing is appended any more), how many
+-- messages it has room for, and the length of a page
 pub record Lane : Type 0 where
   pub parcels : List Parcel
   pub ended : Bool

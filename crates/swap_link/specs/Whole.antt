@@ -49,8 +49,11 @@ IsHarbor h = All (IsOfHarbor h.sizes) h.channels
 
 -- every call of a lender in range keeps it, and is a move
 abbrev pub AskKeeps : Type 0
-AskKeeps = (h : Harbor) (c : FabricCall) → IsHarbor h → CallFits h.sizes.page_bytes c → (lender_of c).0 < length h.channels → IsHarbor (ask h c).1 × Moves h c (ask h c).0 (ask h c).1
+AskKeeps =
+    (h : Harbor) (c : FabricCall) → IsHarbor h → CallFits h.sizes.page_bytes c → (lender_of c).0 < length h.channels
+    → IsHarbor (ask h c).1 × Moves h c (ask h c).0 (ask h c).1
 
 -- a harbor as made is one
 abbrev pub NewIsHarbor : Type 0
-NewIsHarbor = (s : Sizes) (specs : List LenderSpec) → IsHarbor (record { sizes = s; channels = map (new_channel s) specs })
+NewIsHarbor =
+    (s : Sizes) (specs : List LenderSpec) → IsHarbor (record { sizes = s; channels = map (new_channel s) specs })

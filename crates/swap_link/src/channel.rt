@@ -33,9 +33,12 @@ impl Model for Channel {
 
     ghost Value = { Linked };
 
-    ghost view = { λ c. channel_in c.geometry c.lender c.number c.to_lender c.to_device c.device_gone c.lender_gone };
+    ghost view = { λ c.
+        channel_in c.geometry c.lender c.number c.to_lender c.to_device c.device_gone
+        c.lender_gone };
 
-    ghost invariant = { λ c. ChannelFits c.geometry c.lender c.number c.to_lender c.to_device c.lender_gone c.outbox };
+    ghost invariant = { λ c.
+        ChannelFits c.geometry c.lender c.number c.to_lender c.to_device c.lender_gone c.outbox };
 }
 
 /// A message goes on its way, where it is for this link.
@@ -92,16 +95,33 @@ fn discard(outbox: &mut Outbox, page: &mut [u8])
 }
 
 impl Channel {
-    /// A lender that lends nothing yet, and no link to it. Its lanes have room for the requests that may be under way
-    /// on a link, for a message about each slot, and for one more.
+    /// A lender that lends nothing yet, and no link to it. Its lanes have room for the requests
+    /// that may be under way on a link, for a message about each slot, and for one more.
     pub(crate) fn make(
         alloc: Global,
         geometry: &Geometry,
         spec: LenderSpec,
     ) -> Result<Channel, NoMemory>
-        requires limits { IsLending (record { spec = spec; page_bytes = geometry.now.page_bytes; pages_per_slab = geometry.now.pages_per_slab; links = 1 }) }
-        requires bytes { spec.slots * (geometry.now.pages_per_slab * geometry.now.page_bytes) < 2 ^ 64 }
-        ensures { IfOk result (λ c. c ≡ unconnected geometry.now (fresh (record { spec = spec; page_bytes = geometry.now.page_bytes; pages_per_slab = geometry.now.pages_per_slab; links = 1 })) (geometry.now.window + spec.slots + 1)) }
+        requires limits { IsLending
+            (record {
+              spec = spec;
+              page_bytes = geometry.now.page_bytes;
+              pages_per_slab = geometry.now.pages_per_slab;
+              links = 1;
+            }) }
+        requires bytes { spec.slots * (geometry.now.pages_per_slab * geometry.now.page_bytes)
+            < 2 ^ 64 }
+        ensures { IfOk result
+            (λ c. c
+            ≡ unconnected geometry.now
+            (fresh
+            (record {
+              spec = spec;
+              page_bytes = geometry.now.page_bytes;
+              pages_per_slab = geometry.now.pages_per_slab;
+              links = 1;
+            }))
+            (geometry.now.window + spec.slots + 1)) }
     {
         let page_bytes = geometry.page_bytes();
         let room = geometry.window() as usize + spec.slots as usize + 1;
@@ -177,7 +197,8 @@ impl Channel {
         Sent::Sent
     }
 
-    /// Takes the first message for the device. Lost exactly where there is none and the lane has ended.
+    /// Takes the first message for the device. Lost exactly where there is none and the lane has
+    /// ended.
     pub(crate) fn take(&mut self, page: &mut [u8]) -> Took
         requires { length page.old ≡ self.old.sizes.page_bytes }
         ensures { (handed result page.new, self.new) ≡ taken self.old }
@@ -241,7 +262,8 @@ impl Channel {
         }
     }
 
-    /// Lets the lender take its first message. `End` exactly where there is none and the lane has ended.
+    /// Lets the lender take its first message. `End` exactly where there is none and the lane has
+    /// ended.
     pub(crate) fn give(&mut self, page: &mut [u8]) -> Gave
         requires { length page.old ≡ self.old.sizes.page_bytes }
         ensures { (result, self.new) ≡ given self.old }

@@ -27,7 +27,8 @@ impl Model for Harbor {
 
     ghost view = { λ h. record { sizes = h.geometry; channels = h.channels.items } };
 
-    ghost invariant = { λ h. All (λ (c : Linked). c.sizes ≡ h.geometry) h.channels.items × (length h.page.items ≡ h.geometry.page_bytes) };
+    ghost invariant = { λ h. All (λ (c : Linked). c.sizes ≡ h.geometry) h.channels.items
+        × (length h.page.items ≡ h.geometry.page_bytes) };
 }
 
 impl Harbor {
@@ -38,8 +39,14 @@ impl Harbor {
         specs: &[LenderSpec],
     ) -> Result<Harbor, NoMemory>
         requires { All (λ spec. first_beyond (lender_limits spec) ≡ None) specs.now }
-        ensures harbor { IfOk result (λ h. h ≡ record { sizes = geometry.now; channels = map (λ spec. new_channel geometry.now spec) specs.now }) }
-        ensures fresh { IfOk result (λ h. IsFresh h (record { sizes = geometry.now; lenders = length specs.now })) }
+        ensures harbor { IfOk result
+            (λ h. h
+            ≡ record {
+              sizes = geometry.now;
+              channels = map (λ spec. new_channel geometry.now spec) specs.now;
+            }) }
+        ensures fresh { IfOk result
+            (λ h. IsFresh h (record { sizes = geometry.now; lenders = length specs.now })) }
     {
         geometry.limits();
         let mut channels = Vec::new(alloc);

@@ -78,7 +78,13 @@ impl Model for Lane {
 
     ghost Value = { Direction };
 
-    ghost view = { λ l. record { parcels = parcels_in l.places.items l.count; ended = l.ended; room = length l.places.items; page_bytes = l.page_bytes } };
+    ghost view = { λ l.
+        record {
+          parcels = parcels_in l.places.items l.count;
+          ended = l.ended;
+          room = length l.places.items;
+          page_bytes = l.page_bytes;
+        } };
 
     ghost invariant = { λ l. PlacesFit l.places.items l.count l.page_bytes };
 }

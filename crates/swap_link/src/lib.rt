@@ -1,4 +1,5 @@
-//! Lenders in memory, and a link to each: what is sent arrives in order, and a link that ends hands on a prefix.
+//! Lenders in memory, and a link to each: what is sent arrives in order, and a link that ends hands
+//! on a prefix.
 #![tactic(auto)]
 
 ghost use Rattle.swap_link.specs.Whole.{NewIsHarbor, AskKeeps};

@@ -114,8 +114,8 @@ where
     }
 }
 
-/// The queues and threads of one lender, without a link. In each direction there is a buffer for each request of a window,
-/// each slot and one more.
+/// The queues and threads of one lender, without a link. In each direction there is a buffer for
+/// each request of a window, each slot and one more.
 pub(crate) fn open_post<R>(
     rt: R,
     alloc: Global,

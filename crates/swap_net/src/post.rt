@@ -73,7 +73,8 @@ fn give_back<R: Wait + Copy>(rt: &R, pages: &mut End<Vec<u8>>, reader: &Worker<R
     reader.ring();
 }
 
-/// The device's end of the link to one lender, and its queues. Where it is dropped, its threads end the link and stop.
+/// The device's end of the link to one lender, and its queues. Where it is dropped, its threads end
+/// the link and stop.
 #[derive(Drop)]
 pub(crate) struct Post<R: Wait + Copy> {
     pub(crate) rt: R,
@@ -150,7 +151,8 @@ impl<R: Wait + Copy> Post<R> {
         Sent::Sent
     }
 
-    /// What arrived first, if something of the link that stands did. A message whose bytes don't fill the buffer ends the link.
+    /// What arrived first, if something of the link that stands did. A message whose bytes don't
+    /// fill the buffer ends the link.
     pub(crate) fn take(&mut self, page: &mut [u8]) -> Took
         ensures looked { Looked (length page.old) self.old (handed result page.new) self.new }
         ensures page { length page.new ≡ length page.old }

@@ -57,8 +57,8 @@ impl Paged {
     }
 }
 
-/// Reads one link after another, until it is told to stop. Each link that was connected, or couldn't be, ends with an item
-/// that says so.
+/// Reads one link after another, until it is told to stop. Each link that was connected, or
+/// couldn't be, ends with an item that says so.
 pub(crate) fn read<R: Wait>(rt: &R, mut desk: Desk, bell: &Bell) {
     for _ in rt.forever() {
         if bell.has_stopped() {
@@ -80,7 +80,8 @@ pub(crate) fn read<R: Wait>(rt: &R, mut desk: Desk, bell: &Bell) {
     unreachable!()
 }
 
-/// Tells the port what arrived; where the queue is full it waits until the port takes, or it is told to stop.
+/// Tells the port what arrived; where the queue is full it waits until the port takes, or it is
+/// told to stop.
 fn tell<R: Wait>(rt: &R, desk: &mut Desk, bell: &Bell, arrival: Arrival) {
     let mut kept = arrival;
     for _ in rt.forever() {

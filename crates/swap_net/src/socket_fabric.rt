@@ -11,11 +11,12 @@ use std::thread::Threads;
 use swap_base::{Geometry, Lender, Link};
 use swap_wire::{Fabric, Gave, Hosted, Msg, Sent, Took};
 
-/// Links to lenders over TCP, with two threads for each lender. Its calls push to and pop from queues, and take no memory;
-/// none waits for a peer. Where it is dropped its threads are told to stop and end the links, and the drop waits for their end.
+/// Links to lenders over TCP, with two threads for each lender. Its calls push to and pop from
+/// queues, and take no memory; none waits for a peer. Where it is dropped its threads are told to
+/// stop and end the links, and the drop waits for their end.
 ///
-/// It tells nothing of pages. A full queue to a peer and bytes that are no frame end the link. What arrived on an older link
-/// is dropped by the `take` that sees it.
+/// It tells nothing of pages. A full queue to a peer and bytes that are no frame end the link. What
+/// arrived on an older link is dropped by the `take` that sees it.
 pub struct SocketFabric<R: Wait + Copy> {
     geometry: Geometry,
     posts: Vec<Post<R>>,
@@ -27,7 +28,11 @@ impl<R: Wait + Copy> Model for SocketFabric<R> {
 
     ghost Value = { Mesh };
 
-    ghost view = { λ f. record { is_of = record { sizes = f.geometry; lenders = length f.posts.items }; posts = f.posts.items } };
+    ghost view = { λ f.
+        record {
+          is_of = record { sizes = f.geometry; lenders = length f.posts.items };
+          posts = f.posts.items;
+        } };
 
     ghost invariant = { λ f. Unit {0} };
 }
@@ -123,7 +128,8 @@ where
         addresses: &[SocketAddr],
         geometry: &Geometry,
     ) -> Result<SocketFabric<R>, NotOpened>
-        ensures { IfOk result (λ f. f.is_of ≡ record { sizes = geometry.now; lenders = length addresses.now }) }
+        ensures { IfOk result
+            (λ f. f.is_of ≡ record { sizes = geometry.now; lenders = length addresses.now }) }
     {
         let Ok(mut posts) = Vec::with_capacity(alloc, addresses.len()) else {
             return Err(NotOpened::NoMemory);

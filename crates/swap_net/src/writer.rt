@@ -74,7 +74,8 @@ fn hand_over<R: Wait>(rt: &R, desk: &mut Desk, bell: &Bell, opened: Opened) {
     desk.reader.ring();
 }
 
-/// Writes a frame of the link that is open. A write that fails shuts it, so that its reader comes to the end.
+/// Writes a frame of the link that is open. A write that fails shuts it, so that its reader comes
+/// to the end.
 fn write_frame(open: &mut Option<(Link, TcpStream)>, link: Link, frame: &FrameBuf) {
     if let Some((standing, stream)) = open {
         if standing.0 == link.0 && stream.write_all(frame.bytes()).is_err() {

@@ -6,7 +6,7 @@ use Rattle.swap_base.specs.declared.geometry.LenderSpec.{LenderSpec}
 use Rattle.swap_base.specs.Sizes.{Sizes}
 use Rattle.swap_wire.specs.Input.{Input}
 use Rattle.swap_wire.specs.Fabric.{FabricOf}
-use Rattle.swap_disk.specs.Follows as drives
+use Rattle.swap_disk.specs.lemmas.Follows as drives
 use Rattle.swap_slabs.specs.declared.TheConstants.{MOST_LENDERS}
 use Rattle.swap_link.specs.Channel.{Channel}
 use Rattle.swap_link.specs.Harbor as harbor

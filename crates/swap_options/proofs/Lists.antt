@@ -13,14 +13,19 @@ put_none None = refl
 put_none (Some rest) = refl
 
 -- a part that is none, and one that is an address
-pub unread : (list : List Address) (read : Option Address) (rest all : Option (List Address)) → all ≡ put_all list (put_before read rest) → read ≡ None → all ≡ None
+pub unread :
+    (list : List Address) (read : Option Address) (rest all : Option (List Address)) → all ≡ put_all list (put_before read rest) → read ≡ None → all ≡ None
 unread list read rest all e none = e ∙ ap (λ r. put_all list (put_before r rest)) none
 
-joined : (list : List Address) (address : Address) (rest : Option (List Address)) → put_all list (put_before (Some address) rest) ≡ put_all (list ++ address ∷ []) rest
+joined :
+    (list : List Address) (address : Address) (rest : Option (List Address))
+    → put_all list (put_before (Some address) rest) ≡ put_all (list ++ address ∷ []) rest
 joined list address None = refl
 joined list address (Some rest) = ap Some (sym (append_assoc list (address ∷ []) rest))
 
-pub one_more : (list : List Address) (address : Address) (read : Option Address) (rest all : Option (List Address)) → all ≡ put_all list (put_before read rest) → read ≡ Some address → all ≡ put_all (list ++ address ∷ []) rest
+pub one_more :
+    (list : List Address) (address : Address) (read : Option Address) (rest all : Option (List Address)) → all ≡ put_all list (put_before read rest)
+    → read ≡ Some address → all ≡ put_all (list ++ address ∷ []) rest
 one_more list address read rest all e some = e ∙ ap (λ r. put_all list (put_before r rest)) some ∙ joined list address rest
 
 pub pushed : {T E : Type 0} (r : Result T E) (more less : List Address) → is_err r ≡ false → (if is_ok r then more else less) ≡ more

@@ -65,7 +65,9 @@ lend-refuses a words e h = fault-refuses (lend_faults words) (limited (options_i
 pub play-refuses : (a : App) (words : List Text) → a ≡ play_command → IsAtFault (fault_of a words) → play_options words ≡ None
 play-refuses a words e h = fault-refuses (play_faults words) (play.options_in (play_rows words)) (subst IsAtFault (play-faults-are a words e) h)
 
-pub given : (words : List Text) (rows : List Row) (options : Option LendOptions) → lend_faults words ≡ [] → rows ≡ lend_rows words → options ≡ options_in rows → lend_options words ≡ limited options
+pub given :
+    (words : List Text) (rows : List Row) (options : Option LendOptions) → lend_faults words ≡ [] → rows ≡ lend_rows words → options ≡ options_in rows
+    → lend_options words ≡ limited options
 given words rows options none is e = ap (λ ks. unless_at_fault ks (limited (options_in (lend_rows words)))) none ∙ ap limited (ap options_in (sym is) ∙ sym e)
 
 pub played : (words : List Text) (rows : List Row) → play_faults words ≡ [] → rows ≡ play_rows words → play_options words ≡ play.options_in rows

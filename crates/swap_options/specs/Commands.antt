@@ -12,7 +12,8 @@ defaulted name value = record (option_rule name) { defaults = value ∷ [] }
 
 -- a command of which all words are arguments, without a flag for help
 abbrev pub bare_command : Text → App
-bare_command name = record (new_app name) { top = record (new_app name).top { no_binary_name = true; disable_help_flag = true } }
+bare_command name =
+    record (new_app name) { top = record (new_app name).top { no_binary_name = true; disable_help_flag = true } }
 
 abbrev pub IsAtFault : Kinds → Type 0
 IsAtFault [] = ⊥

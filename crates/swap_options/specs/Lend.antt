@@ -49,11 +49,21 @@ spec_of None headroom extra = None
 
 -- what a lender's slots, headroom and extra are given as
 abbrev pub spec_in : List Row → Option LenderSpec
-spec_in rows = spec_of (number_at (codes "slots") rows) (number_at (codes "headroom") rows) (number_at (codes "extra") rows)
+spec_in rows =
+    spec_of (number_at (codes "slots") rows) (number_at (codes "headroom") rows) (number_at (codes "extra") rows)
 
-abbrev pub options_of : Option Address → Option LenderSpec → Option ℕ → Option ℕ → Option ℕ → Option ℕ → Option LendOptions
+abbrev pub options_of :
+    Option Address → Option LenderSpec → Option ℕ → Option ℕ → Option ℕ → Option ℕ → Option LendOptions
 options_of (Some listen) (Some spec) (Some page_bytes) (Some pages_per_slab) (Some links) (Some used) =
-    Some (record { listen = listen; spec = spec; page_bytes = page_bytes; pages_per_slab = pages_per_slab; links = links; used = used })
+    Some
+    (record {
+      listen = listen;
+      spec = spec;
+      page_bytes = page_bytes;
+      pages_per_slab = pages_per_slab;
+      links = links;
+      used = used;
+    })
 options_of (Some listen) (Some spec) (Some page_bytes) (Some pages_per_slab) (Some links) None = None
 options_of (Some listen) (Some spec) (Some page_bytes) (Some pages_per_slab) None used = None
 options_of (Some listen) (Some spec) (Some page_bytes) None links used = None
@@ -64,7 +74,9 @@ options_of None spec page_bytes pages_per_slab links used = None
 -- the options that the values spell, whatever their limits
 abbrev pub options_in : List Row → Option LendOptions
 options_in rows =
-    options_of (option_and_then address_in (first_of (codes "listen") rows)) (spec_in rows) (number_at (codes "page-bytes") rows) (number_at (codes "pages-per-slab") rows) (number_at (codes "links") rows) (number_at (codes "used") rows)
+    options_of (option_and_then address_in (first_of (codes "listen") rows)) (spec_in rows)
+    (number_at (codes "page-bytes") rows) (number_at (codes "pages-per-slab") rows) (number_at (codes "links") rows)
+    (number_at (codes "used") rows)
 
 -- the limits of a lender, of a device's pages, of what all slots hold and of the links
 abbrev pub keeps_limits : LendOptions → Bool

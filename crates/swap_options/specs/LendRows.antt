@@ -21,8 +21,14 @@ listening rest = codes "--listen" ∷ codes "127.0.0.1:7070" ∷ rest
 abbrev pub LendRows : Type 0
 LendRows =
     (lend_options (listening []) ≡ lends 16 2 2 4096 1024 1 0) × (lend_options [] ≡ None)
-    × (lend_options (listening (codes "--slots" ∷ codes "4" ∷ codes "--headroom" ∷ codes "0" ∷ codes "--page-bytes=8" ∷ [])) ≡ lends 4 0 2 8 1024 1 0)
-    × (lend_options (listening (codes "--extra" ∷ codes "64" ∷ codes "--pages-per-slab" ∷ codes "7" ∷ codes "--links" ∷ codes "64" ∷ codes "--used" ∷ codes "4294967295" ∷ [])) ≡ lends 16 2 64 4096 7 64 4294967295)
+    × (lend_options
+    (listening (codes "--slots" ∷ codes "4" ∷ codes "--headroom" ∷ codes "0" ∷ codes "--page-bytes=8" ∷ []))
+    ≡ lends 4 0 2 8 1024 1 0)
+    × (lend_options
+    (listening
+    (codes "--extra" ∷ codes "64" ∷ codes "--pages-per-slab" ∷ codes "7" ∷ codes "--links" ∷ codes "64"
+    ∷ codes "--used" ∷ codes "4294967295" ∷ []))
+    ≡ lends 16 2 64 4096 7 64 4294967295)
     × (lend_options (listening (codes "--slots" ∷ codes "65" ∷ [])) ≡ None)
     × (lend_options (listening (codes "--slots" ∷ codes "04" ∷ [])) ≡ None)
     × (lend_options (listening (codes "--slots" ∷ [])) ≡ None)

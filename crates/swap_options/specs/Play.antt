@@ -16,12 +16,20 @@ pub record Play : Type 0 where
   pub tcp : Option (List Address)
 
 abbrev pub asked : PlayOptions → Play
-asked o = record { number = o.number; disk = option_map (λ text. text.now) o.disk; tcp = option_map (λ list. list.items) o.tcp }
+asked o =
+    record {
+      number = o.number;
+      disk = option_map (λ text. text.now) o.disk;
+      tcp = option_map (λ list. list.items) o.tcp;
+    }
 
 -- the command behind `play`
 abbrev pub play_command : App
 play_command =
-    with_rule (with_rule (with_rule (bare_command (codes "play")) (defaulted (codes "number") (codes "1"))) (option_rule (codes "disk"))) (option_rule (codes "tcp"))
+    with_rule
+    (with_rule (with_rule (bare_command (codes "play")) (defaulted (codes "number") (codes "1")))
+    (option_rule (codes "disk")))
+    (option_rule (codes "tcp"))
 
 abbrev pub comma : ℕ
 comma = 44
@@ -56,7 +64,9 @@ options_of None disk tcp = None
 
 -- the options that the values spell
 abbrev pub options_in : List Row → Option Play
-options_in rows = options_of (option_and_then number (first_of (codes "number") rows)) (first_of (codes "disk") rows) (addresses_given (first_of (codes "tcp") rows))
+options_in rows =
+    options_of (option_and_then number (first_of (codes "number") rows)) (first_of (codes "disk") rows)
+    (addresses_given (first_of (codes "tcp") rows))
 
 -- what the command finds at fault in the words, and what it makes of them
 unfoldable pub play_faults : List Text → Kinds

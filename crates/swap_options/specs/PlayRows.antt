@@ -13,8 +13,10 @@ at port = record { a = 127; b = 0; c = 0; d = 1; port = port }
 abbrev pub PlayRows : Type 0
 PlayRows =
     (play_options [] ≡ plays 1 None None)
-    × (play_options (codes "--number" ∷ codes "18446744073709551615" ∷ codes "--disk" ∷ codes "a b" ∷ []) ≡ plays 18446744073709551615 (Some (codes "a b")) None)
-    × (play_options (codes "--tcp" ∷ codes "127.0.0.1:1,127.0.0.1:65535" ∷ codes "--number=0" ∷ []) ≡ plays 0 None (Some (at 1 ∷ at 65535 ∷ [])))
+    × (play_options (codes "--number" ∷ codes "18446744073709551615" ∷ codes "--disk" ∷ codes "a b" ∷ [])
+    ≡ plays 18446744073709551615 (Some (codes "a b")) None)
+    × (play_options (codes "--tcp" ∷ codes "127.0.0.1:1,127.0.0.1:65535" ∷ codes "--number=0" ∷ [])
+    ≡ plays 0 None (Some (at 1 ∷ at 65535 ∷ [])))
     × (play_options (codes "--number" ∷ codes "18446744073709551616" ∷ []) ≡ None)
     × (play_options (codes "--number" ∷ codes "01" ∷ []) ≡ None)
     × (play_options (codes "--number" ∷ codes "1" ∷ codes "--number" ∷ codes "1" ∷ []) ≡ None)

@@ -10,8 +10,8 @@ use swap_base::LenderSpec;
 use swap_io::number;
 use swap_sock::Address;
 
-/// Where a lender listens, and what it lends: its slots, how many bytes a page and how many pages a slab has, how many
-/// links it serves, and how many slots its host uses itself.
+/// Where a lender listens, and what it lends: its slots, how many bytes a page and how many pages a
+/// slab has, how many links it serves, and how many slots its host uses itself.
 #[derive(Clone, Copy, Debug, PartialEq, Eq)]
 pub struct LendOptions {
     pub listen: Address,
@@ -22,17 +22,22 @@ pub struct LendOptions {
     pub used: u32,
 }
 
-/// Reads the words behind `lend`: `--listen ADDRESS` and, each once and with its number in decimal without leading
-/// zeros, `--slots`, `--headroom`, `--extra`, `--page-bytes`, `--pages-per-slab`, `--links` and `--used`.
+/// Reads the words behind `lend`: `--listen ADDRESS` and, each once and with its number in decimal
+/// without leading zeros, `--slots`, `--headroom`, `--extra`, `--page-bytes`, `--pages-per-slab`,
+/// `--links` and `--used`.
 ///
-/// There are 1 to 64 slots, up to 64 of headroom and up to 64 extra; a page has a power of two of 8 to 4,096 bytes, a
-/// slab 1 to 65,536 pages, and all slots hold at most 536,870,912 bytes; up to 64 links are served. `Usage` comes only
-/// where the words give no options; want of memory has no further cause.
+/// There are 1 to 64 slots, up to 64 of headroom and up to 64 extra; a page has a power of two of 8
+/// to 4,096 bytes, a slab 1 to 65,536 pages, and all slots hold at most 536,870,912 bytes; up to 64
+/// links are served. `Usage` comes only where the words give no options; want of memory has no
+/// further cause.
 #[tactic(auto, using(crate::proofs::Reading::given))]
 pub fn read_lend(alloc: Global, words: &[&str]) -> Result<LendOptions, OptionsRefused>
-    ensures options { IfOk result (λ options. lend_options (map (λ word. word.now) words.now) ≡ Some options) }
+    ensures options { IfOk result
+        (λ options. lend_options (map (λ word. word.now) words.now) ≡ Some options) }
     ensures limits { IfOk result (λ options. keeps_limits options ≡ true) }
-    ensures usage { IfErr result (λ why. why ≡ OptionsRefused.Usage → lend_options (map (λ word. word.now) words.now) ≡ None) }
+    ensures usage { IfErr result
+        (λ why. why ≡ OptionsRefused.Usage
+        → lend_options (map (λ word. word.now) words.now) ≡ None) }
 {
     let matches = lend_matches(alloc, words)?;
     match options_in(&matches) {
@@ -44,8 +49,11 @@ pub fn read_lend(alloc: Global, words: &[&str]) -> Result<LendOptions, OptionsRe
 /// What the command behind `lend` makes of the words.
 fn lend_matches<'a>(alloc: Global, words: &'a [&'a str]) -> Result<ArgMatches<'a>, OptionsRefused>
     ensures faultless { IfOk result (λ m. lend_faults (map (λ word. word.now) words.now) ≡ []) }
-    ensures matches { IfOk result (λ m. rows_of (found_of m) ≡ lend_rows (map (λ word. word.now) words.now)) }
-    ensures usage { IfErr result (λ why. why ≡ OptionsRefused.Usage → lend_options (map (λ word. word.now) words.now) ≡ None) }
+    ensures matches { IfOk result
+        (λ m. rows_of (found_of m) ≡ lend_rows (map (λ word. word.now) words.now)) }
+    ensures usage { IfErr result
+        (λ why. why ≡ OptionsRefused.Usage
+        → lend_options (map (λ word. word.now) words.now) ≡ None) }
 {
     match lend_command(alloc) {
         Ok(command) => parsed(command, words),

@@ -1,5 +1,5 @@
-//! The words behind `lend` and `play`: which of them give what a lender lends and where it listens, and what a trace is
-//! played with.
+//! The words behind `lend` and `play`: which of them give what a lender lends and where it listens,
+//! and what a trace is played with.
 #![tactic(auto)]
 
 ghost use Rattle.swap_options.specs.LendRows.{LendRows};
@@ -14,7 +14,8 @@ pub use lend::{LendOptions, read_lend};
 pub use parsing::OptionsRefused;
 pub use play::{PlayOptions, read_play};
 
-/// What keeps the limits may be lent: a lender may be made of it, and all its slots' bytes can be counted.
+/// What keeps the limits may be lent: a lender may be made of it, and all its slots' bytes can be
+/// counted.
 pub fn limits_let_lend()
     ensures { LimitsLetLend }
 {}

@@ -45,9 +45,14 @@ pub(crate) fn parsed<'a>(
 ) -> Result<ArgMatches<'a>, OptionsRefused>
     requires simple { is_simple (app_of command) ≡ true }
     requires free { is_simple_and_free (app_of command) ≡ true }
-    ensures faultless { IfOk result (λ m. fault_of (app_of command.entry) (map (λ word. word.now) words.now) ≡ []) }
-    ensures matches { IfOk result (λ m. rows_of (found_of m) ≡ matches_of (app_of command.entry) (map (λ word. word.now) words.now)) }
-    ensures usage { IfErr result (λ why. why ≡ OptionsRefused.Usage → IsAtFault (fault_of (app_of command.entry) (map (λ word. word.now) words.now))) }
+    ensures faultless { IfOk result
+        (λ m. fault_of (app_of command.entry) (map (λ word. word.now) words.now) ≡ []) }
+    ensures matches { IfOk result
+        (λ m. rows_of (found_of m)
+        ≡ matches_of (app_of command.entry) (map (λ word. word.now) words.now)) }
+    ensures usage { IfErr result
+        (λ why. why ≡ OptionsRefused.Usage
+        → IsAtFault (fault_of (app_of command.entry) (map (λ word. word.now) words.now))) }
 {
     match command.try_get_matches_from(words) {
         Ok(matches) => Ok(matches),
@@ -60,7 +65,8 @@ pub(crate) fn parsed<'a>(
 
 /// The value of an option.
 pub(crate) fn text_at<'a>(matches: &ArgMatches<'a>, name: &str) -> Option<&'a str>
-    ensures { option_map (λ text. text.now) result ≡ first_of name.now (rows_of (found_of matches.now)) }
+    ensures { option_map (λ text. text.now) result
+        ≡ first_of name.now (rows_of (found_of matches.now)) }
 {
     matches.get_str(name)
 }

@@ -10,8 +10,8 @@ use std::alloc::{AllocError, Global};
 use swap_io::number;
 use swap_sock::Address;
 
-/// What a trace is played with: the number that its draws come from, the path of the disk's file, and the lenders'
-/// addresses, where they are given.
+/// What a trace is played with: the number that its draws come from, the path of the disk's file,
+/// and the lenders' addresses, where they are given.
 #[derive(Debug, Drop)]
 pub struct PlayOptions<'a> {
     pub number: u64,
@@ -19,14 +19,21 @@ pub struct PlayOptions<'a> {
     pub tcp: Option<Vec<Address>>,
 }
 
-/// Reads the words behind `play`, each option at most once: `--number` with a number in decimal without leading zeros,
-/// `--disk` with any text, and `--tcp` with 1 to 8 addresses parted by commas.
+/// Reads the words behind `play`, each option at most once: `--number` with a number in decimal
+/// without leading zeros, `--disk` with any text, and `--tcp` with 1 to 8 addresses parted by
+/// commas.
 ///
 /// `Usage` comes only where the words give no options; want of memory has no further cause.
 pub fn read_play<'a>(alloc: Global, words: &'a [&'a str]) -> Result<PlayOptions<'a>, OptionsRefused>
-    ensures options { IfOk result (λ options. play_options (map (λ word. word.now) words.now) ≡ Some (asked options)) }
-    ensures lenders { IfOk result (λ options. IfSome options.tcp (λ lenders. (1 ≤ length lenders.items) × (length lenders.items ≤ 8))) }
-    ensures usage { IfErr result (λ why. why ≡ OptionsRefused.Usage → play_options (map (λ word. word.now) words.now) ≡ None) }
+    ensures options { IfOk result
+        (λ options. play_options (map (λ word. word.now) words.now) ≡ Some (asked options)) }
+    ensures lenders { IfOk result
+        (λ options.
+        IfSome options.tcp
+        (λ lenders. (1 ≤ length lenders.items) × (length lenders.items ≤ 8))) }
+    ensures usage { IfErr result
+        (λ why. why ≡ OptionsRefused.Usage
+        → play_options (map (λ word. word.now) words.now) ≡ None) }
 {
     let matches = play_matches(alloc, words)?;
     options_in(alloc, &matches)
@@ -37,9 +44,14 @@ fn options_in<'a>(
     alloc: Global,
     matches: &ArgMatches<'a>,
 ) -> Result<PlayOptions<'a>, OptionsRefused>
-    ensures options { IfOk result (λ options. options_in (rows_of (found_of matches.now)) ≡ Some (asked options)) }
-    ensures lenders { IfOk result (λ options. IfSome options.tcp (λ lenders. (1 ≤ length lenders.items) × (length lenders.items ≤ 8))) }
-    ensures usage { IfErr result (λ why. why ≡ OptionsRefused.Usage → options_in (rows_of (found_of matches.now)) ≡ None) }
+    ensures options { IfOk result
+        (λ options. options_in (rows_of (found_of matches.now)) ≡ Some (asked options)) }
+    ensures lenders { IfOk result
+        (λ options.
+        IfSome options.tcp
+        (λ lenders. (1 ≤ length lenders.items) × (length lenders.items ≤ 8))) }
+    ensures usage { IfErr result
+        (λ why. why ≡ OptionsRefused.Usage → options_in (rows_of (found_of matches.now)) ≡ None) }
 {
     let Some(number) = number_of(text_at(matches, "number")) else {
         return Err(OptionsRefused::Usage);
@@ -55,8 +67,11 @@ fn options_in<'a>(
 /// What the command behind `play` makes of the words.
 fn play_matches<'a>(alloc: Global, words: &'a [&'a str]) -> Result<ArgMatches<'a>, OptionsRefused>
     ensures faultless { IfOk result (λ m. play_faults (map (λ word. word.now) words.now) ≡ []) }
-    ensures matches { IfOk result (λ m. rows_of (found_of m) ≡ play_rows (map (λ word. word.now) words.now)) }
-    ensures usage { IfErr result (λ why. why ≡ OptionsRefused.Usage → play_options (map (λ word. word.now) words.now) ≡ None) }
+    ensures matches { IfOk result
+        (λ m. rows_of (found_of m) ≡ play_rows (map (λ word. word.now) words.now)) }
+    ensures usage { IfErr result
+        (λ why. why ≡ OptionsRefused.Usage
+        → play_options (map (λ word. word.now) words.now) ≡ None) }
 {
     match play_command(alloc) {
         Ok(command) => parsed(command, words),
@@ -85,9 +100,14 @@ fn addresses_given(
     alloc: Global,
     text: Option<&str>,
 ) -> Result<Option<Vec<Address>>, OptionsRefused>
-    ensures lists { IfOk result (λ given. addresses_given (option_map (λ text. text.now) text.entry) ≡ Some (option_map (λ list. list.items) given)) }
-    ensures few { IfOk result (λ given. IfSome given (λ list. (1 ≤ length list.items) × (length list.items ≤ 8))) }
-    ensures usage { IfErr result (λ why. why ≡ OptionsRefused.Usage → addresses_given (option_map (λ text. text.now) text.entry) ≡ None) }
+    ensures lists { IfOk result
+        (λ given. addresses_given (option_map (λ text. text.now) text.entry)
+        ≡ Some (option_map (λ list. list.items) given)) }
+    ensures few { IfOk result
+        (λ given. IfSome given (λ list. (1 ≤ length list.items) × (length list.items ≤ 8))) }
+    ensures usage { IfErr result
+        (λ why. why ≡ OptionsRefused.Usage
+        → addresses_given (option_map (λ text. text.now) text.entry) ≡ None) }
 {
     match text {
         None => Ok(None),
@@ -102,7 +122,8 @@ fn addresses_given(
 fn addresses_in(alloc: Global, text: &str) -> Result<Vec<Address>, OptionsRefused>
     ensures list { IfOk result (λ list. addresses_in text.now ≡ Some list.items) }
     ensures few { IfOk result (λ list. (1 ≤ length list.items) × (length list.items ≤ 8)) }
-    ensures usage { IfErr result (λ why. why ≡ OptionsRefused.Usage → addresses_in text.now ≡ None) }
+    ensures usage { IfErr result
+        (λ why. why ≡ OptionsRefused.Usage → addresses_in text.now ≡ None) }
 {
     let Ok(parts) = parts_of(alloc, text) else {
         return Err(OptionsRefused::NoMemory);
@@ -114,16 +135,20 @@ fn addresses_in(alloc: Global, text: &str) -> Result<Vec<Address>, OptionsRefuse
 }
 
 fn parts_of(alloc: Global, text: &str) -> Result<Vec<&str>, AllocError>
-    ensures parts { IfOk result (λ parts. map (λ part. part.now) parts.items ≡ slice_split (λ b. b == comma) text.now) }
+    ensures parts { IfOk result
+        (λ parts. map (λ part. part.now) parts.items ≡ slice_split (λ b. b == comma) text.now) }
     ensures some { IfOk result (λ parts. 1 ≤ length parts.items) }
 {
     text.split(',').collect(alloc)
 }
 
 fn addresses_of(alloc: Global, parts: &[&str]) -> Result<Vec<Address>, OptionsRefused>
-    ensures list { IfOk result (λ list. addresses_of (map (λ part. part.now) parts.now) ≡ Some list.items) }
+    ensures list { IfOk result
+        (λ list. addresses_of (map (λ part. part.now) parts.now) ≡ Some list.items) }
     ensures number { IfOk result (λ list. length list.items ≡ length parts.now) }
-    ensures usage { IfErr result (λ why. why ≡ OptionsRefused.Usage → addresses_of (map (λ part. part.now) parts.now) ≡ None) }
+    ensures usage { IfErr result
+        (λ why. why ≡ OptionsRefused.Usage
+        → addresses_of (map (λ part. part.now) parts.now) ≡ None) }
 {
     let mut list = Vec::new(alloc);
     'parts: for part in parts {

@@ -7,24 +7,29 @@ use Rattle.swap_places.proofs.Lines.{none_left, none_right}
 -- the walk along a chain gives its numbers
 pub walk_along : (after before : ℕ → ℕ) (start : ℕ) (xs : List ℕ) (end : ℕ) → IsChain after before start xs end → walk after (length xs) (after start) ≡ xs
 walk_along after before start [] end chain = refl
-walk_along after before start (x ∷ xs) end chain = ap (λ k. k ∷ walk after (length xs) (after k)) chain.0 ∙ ap (λ ys. x ∷ ys) (walk_along after before x xs end chain.2)
+walk_along after before start (x ∷ xs) end chain =
+    ap (λ k. k ∷ walk after (length xs) (after k)) chain.0 ∙ ap (λ ys. x ∷ ys) (walk_along after before x xs end chain.2)
 
 pub length-walk : (after : ℕ → ℕ) (count k : ℕ) → length (walk after count k) ≡ count
 length-walk after zero k = refl
 length-walk after (suc count) k = ap suc (length-walk after count (after k))
 
-pub chain_parts : (after before : ℕ → ℕ) (start : ℕ) (xs : List ℕ) (k : ℕ) (ys : List ℕ) (end : ℕ) → IsChain after before start (xs ++ k ∷ ys) end → IsChain after before start xs k × IsChain after before k ys end
+pub chain_parts :
+    (after before : ℕ → ℕ) (start : ℕ) (xs : List ℕ) (k : ℕ) (ys : List ℕ) (end : ℕ) → IsChain after before start (xs ++ k ∷ ys) end
+    → IsChain after before start xs k × IsChain after before k ys end
 chain_parts after before start [] k ys end chain = ((chain.0, chain.1), chain.2)
 chain_parts after before start (x ∷ xs) k ys end chain =
     let rest : IsChain after before x xs k × IsChain after before k ys end = chain_parts after before x xs k ys end chain.2 in
     ((chain.0, chain.1, rest.0), rest.1)
 
 -- the one before the end is of the chain, and so is the one after the start, unless it is the end
-pub apart_from_last : (after before : ℕ → ℕ) (start : ℕ) (xs : List ℕ) (end j : ℕ) → IsChain after before start xs end → j ≢ start → IsNoneOf j xs → j ≢ before end
+pub apart_from_last :
+    (after before : ℕ → ℕ) (start : ℕ) (xs : List ℕ) (end j : ℕ) → IsChain after before start xs end → j ≢ start → IsNoneOf j xs → j ≢ before end
 apart_from_last after before start [] end j chain ne none = λ e. ne (e ∙ chain.1)
 apart_from_last after before start (x ∷ xs) end j chain ne none = apart_from_last after before x xs end j chain.2 none.0 none.1
 
-pub apart_from_first : (after before : ℕ → ℕ) (start : ℕ) (xs : List ℕ) (end j : ℕ) → IsChain after before start xs end → j ≢ end → IsNoneOf j xs → j ≢ after start
+pub apart_from_first :
+    (after before : ℕ → ℕ) (start : ℕ) (xs : List ℕ) (end j : ℕ) → IsChain after before start xs end → j ≢ end → IsNoneOf j xs → j ≢ after start
 apart_from_first after before start [] end j chain ne none = λ e. ne (e ∙ chain.0)
 apart_from_first after before start (x ∷ xs) end j chain ne none = λ e. none.0 (e ∙ chain.0)
 
@@ -71,7 +76,9 @@ chain_closed after before after' before' start k (y ∷ ys) end to from chain sa
       own.0 none.0 own.1 none.1 once.0 (λ e. far.0 (sym e)) apart,
 )
 
-pub chain_left : (after before after' before' : ℕ → ℕ) (start : ℕ) (xs : List ℕ) (k : ℕ) (ys : List ℕ) (end : ℕ) → IsChain after before start xs k → IsChain after before k ys end
+pub chain_left :
+    (after before after' before' : ℕ → ℕ) (start : ℕ) (xs : List ℕ) (k : ℕ) (ys : List ℕ) (end : ℕ) → IsChain after before start xs k
+    → IsChain after before k ys end
     → ((j : ℕ) → j ≢ before k → j ≢ k → after' j ≡ after j) → ((j : ℕ) → j ≢ after k → j ≢ k → before' j ≡ before j)
     → after' (before k) ≡ after k → before' (after k) ≡ before k
     → IsNoneOf start (xs ++ k ∷ ys) → AreOnce (xs ++ k ∷ ys) → IsNoneOf end (xs ++ k ∷ ys) → IsChain after' before' start (xs ++ ys) end
@@ -79,6 +86,7 @@ chain_left after before after' before' start [] k ys end front back' same same' 
     chain_closed after before after' before' start k ys end front.0 front.1 back' same same' over back own.1 once.1 once.0 far.1 (λ e. far.0 (sym e))
 chain_left after before after' before' start (x ∷ xs) k ys end front back' same same' over back own once far = (
   same start (apart_from_last after before x xs k start front.2 own.0 (none_left start xs (k ∷ ys) own.1)) (none_right start xs (k ∷ ys) own.1).0 ∙ front.0,
-  same' x (apart_from_first after before k ys end x back' (λ e. far.0 (sym e)) (none_right x xs (k ∷ ys) once.0).1) (none_right x xs (k ∷ ys) once.0).0 ∙ front.1,
+  same' x (apart_from_first after before k ys end x back' (λ e. far.0 (sym e)) (none_right x xs (k ∷ ys) once.0).1) (none_right x xs (k ∷ ys) once.0).0
+      ∙ front.1,
   chain_left after before after' before' x xs k ys end front.2 back' same same' over back once.0 once.1 far.1,
 )

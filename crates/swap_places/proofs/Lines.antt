@@ -87,7 +87,8 @@ once_without k [] once = tt
 once_without k (x ∷ xs) once =
     ⊎_elim
     (λ (e : x == k ≡ true). subst (λ ys. AreOnce ys) (sym (cond-true (x == k) xs (x ∷ without k xs) e)) once.1)
-    (λ (e : x == k ≡ false). subst (λ ys. AreOnce ys) (sym (cond-false (x == k) xs (x ∷ without k xs) e)) (none_without x k xs once.0, once_without k xs once.1))
+    (λ (e : x == k ≡ false).
+    subst (λ ys. AreOnce ys) (sym (cond-false (x == k) xs (x ∷ without k xs) e)) (none_without x k xs once.0, once_without k xs once.1))
     (cases_Bool (x == k))
 
 pub below_without : (bound k : ℕ) (xs : List ℕ) → AreBelow bound xs → AreBelow bound (without k xs)
@@ -105,7 +106,8 @@ left_out k (x ∷ xs) once =
     ⊎_elim
     (λ (e : x ≡ k). ap (λ ys. stands ys k) (cond-true (x == k) xs (x ∷ without k xs) (eq-eqb x k e)) ∙ out_of k xs (subst (λ y. IsNoneOf y xs) e once.0))
     (λ (ne : x ≢ k).
-    ap (λ ys. stands ys k) (cond-false (x == k) xs (x ∷ without k xs) (ne_eqb x k ne)) ∙ ap (λ b. b || stands (without k xs) k) (ne_eqb x k ne) ∙ left_out k xs once.1)
+    ap (λ ys. stands ys k) (cond-false (x == k) xs (x ∷ without k xs) (ne_eqb x k ne)) ∙ ap (λ b. b || stands (without k xs) k) (ne_eqb x k ne)
+    ∙ left_out k xs once.1)
     (cases_eq x k)
 
 pub others_stand : (j k : ℕ) (xs : List ℕ) → j ≢ k → stands (without k xs) j ≡ stands xs j
@@ -148,7 +150,8 @@ no_more (suc bound) xs once below =
     ⊎_elim
     (λ (e : stands xs bound ≡ true).
     let rest : length (without bound xs) ≤ bound =
-    no_more bound (without bound xs) (once_without bound xs once) (below_less bound (without bound xs) (below_without (suc bound) bound xs below) (none_of bound (without bound xs) (left_out bound xs once))) in
+    no_more bound (without bound xs) (once_without bound xs once)
+    (below_less bound (without bound xs) (below_without (suc bound) bound xs below) (none_of bound (without bound xs) (left_out bound xs once))) in
     omega (arith, length-without bound xs e))
     (λ (e : stands xs bound ≡ false). let rest : length xs ≤ bound = no_more bound xs once (below_less bound xs below (none_of bound xs e)) in omega arith)
     (cases_Bool (stands xs bound))
@@ -173,11 +176,14 @@ next_stands (x ∷ xs) k j read =
 -- ---- the line after each call
 
 pub enters_one : EntersOne
-enters_one [] k j = ⊎_elim (λ (e : k == j ≡ true). ap (λ b. b || false) e ∙ sym (cond-true (k == j) true false e)) (λ (e : k == j ≡ false). ap (λ b. b || false) e ∙ sym (cond-false (k == j) true false e)) (cases_Bool (k == j))
+enters_one [] k j =
+    ⊎_elim (λ (e : k == j ≡ true). ap (λ b. b || false) e ∙ sym (cond-true (k == j) true false e))
+    (λ (e : k == j ≡ false). ap (λ b. b || false) e ∙ sym (cond-false (k == j) true false e)) (cases_Bool (k == j))
 enters_one (x ∷ xs) k j =
     ⊎_elim
     (λ (e : k == j ≡ true).
-    ap (λ b. x == j || b) (enters_one xs k j ∙ cond-true (k == j) true (stands xs j) e) ∙ or_true (x == j) ∙ sym (cond-true (k == j) true (x == j || stands xs j) e))
+    ap (λ b. x == j || b) (enters_one xs k j ∙ cond-true (k == j) true (stands xs j) e) ∙ or_true (x == j)
+    ∙ sym (cond-true (k == j) true (x == j || stands xs j) e))
     (λ (e : k == j ≡ false).
     ap (λ b. x == j || b) (enters_one xs k j ∙ cond-false (k == j) true (stands xs j) e) ∙ sym (cond-false (k == j) true (x == j || stands xs j) e))
     (cases_Bool (k == j))

@@ -18,10 +18,14 @@ pub record Makes (after before : List ℕ) (bound count : ℕ) (numbers : List �
   pub linked : IsLinked after before bound count
   pub line : numbers_in after bound count ≡ numbers
 
-makes : (after before : List ℕ) (bound count : ℕ) (numbers : List ℕ) → length numbers ≡ count → IsChain (at after) (at before) bound numbers bound → AreOnce numbers → AreBelow bound numbers
-    → ((k : ℕ) → k < bound → stands numbers k ≡ false → at after k ≡ k) → length after ≡ bound + 1 → length before ≡ bound + 1 → Makes after before bound count numbers
+makes :
+    (after before : List ℕ) (bound count : ℕ) (numbers : List ℕ) → length numbers ≡ count → IsChain (at after) (at before) bound numbers bound → AreOnce numbers
+    → AreBelow bound numbers
+    → ((k : ℕ) → k < bound → stands numbers k ≡ false → at after k ≡ k) → length after ≡ bound + 1 → length before ≡ bound + 1
+    → Makes after before bound count numbers
 makes after before bound count numbers long chain once below out fits fits' =
-    let line : numbers_in after bound count ≡ numbers = ap (λ n. walk (at after) n (at after bound)) (sym long) ∙ walk_along (at after) (at before) bound numbers bound chain in
+    let line : numbers_in after bound count ≡ numbers =
+    ap (λ n. walk (at after) n (at after bound)) (sym long) ∙ walk_along (at after) (at before) bound numbers bound chain in
     record {
       linked =
           record {
@@ -36,11 +40,15 @@ makes after before bound count numbers long chain once below out fits fits' =
     }
 
 -- the last of a chain is its start or one of its numbers
-last_below : (after before : ℕ → ℕ) (start : ℕ) (xs : List ℕ) (end bound : ℕ) → IsChain after before start xs end → start ≤ bound → AreBelow bound xs → before end ≤ bound
+last_below :
+    (after before : ℕ → ℕ) (start : ℕ) (xs : List ℕ) (end bound : ℕ) → IsChain after before start xs end → start ≤ bound → AreBelow bound xs
+    → before end ≤ bound
 last_below after before start [] end bound chain le below = subst (λ k. k ≤ bound) (sym chain.1) le
-last_below after before start (x ∷ xs) end bound chain le below = let lt : x < bound = below.0 in last_below after before x xs end bound chain.2 (omega arith) below.1
+last_below after before start (x ∷ xs) end bound chain le below =
+    let lt : x < bound = below.0 in last_below after before x xs end bound chain.2 (omega arith) below.1
 
-first_below : (after before : ℕ → ℕ) (start : ℕ) (xs : List ℕ) (end bound : ℕ) → IsChain after before start xs end → end ≤ bound → AreBelow bound xs → after start ≤ bound
+first_below :
+    (after before : ℕ → ℕ) (start : ℕ) (xs : List ℕ) (end bound : ℕ) → IsChain after before start xs end → end ≤ bound → AreBelow bound xs → after start ≤ bound
 first_below after before start [] end bound chain le below = subst (λ k. k ≤ bound) (sym chain.0) le
 first_below after before start (x ∷ xs) end bound chain le below = let lt : x < bound = below.0 in subst (λ k. k ≤ bound) (sym chain.0) (omega arith)
 
@@ -58,7 +66,9 @@ set_first links p v k w ne lt = get_or-set_other (set links p v) k p w 0 ne ∙ 
 set_second : (links : List ℕ) (p v k w : ℕ) → k < length links → at (set (set links p v) k w) k ≡ w
 set_second links p v k w lt = get_or-set_same (set links p v) k w 0 (omega (arith, length-set links p v))
 
-pub entered : (after before : List ℕ) (bound count k last : ℕ) → IsLinked after before bound count → k < bound → stands (numbers_in after bound count) k ≡ false → last ≡ at before bound
+pub entered :
+    (after before : List ℕ) (bound count k last : ℕ) → IsLinked after before bound count → k < bound → stands (numbers_in after bound count) k ≡ false
+    → last ≡ at before bound
     → Makes (set (set after last k) k bound) (set (set before k last) bound k) bound (count + 1) (numbers_in after bound count ++ k ∷ [])
 entered after before bound count k last is lt out last_is =
     let numbers : List ℕ = numbers_in after bound count in
@@ -76,7 +86,8 @@ entered after before bound count k last is lt out last_is =
     let to_last : at (set (set after last k) k bound) last ≡ k = set_first after last k k bound (λ e. k_last (sym e)) within in
     makes (set (set after last k) k bound) (set (set before k last) bound k) bound (count + 1) (numbers_in after bound count ++ k ∷ [])
     (length-append (numbers_in after bound count) (k ∷ []) ∙ ap (λ n. n + 1) (length-numbers after bound count))
-    (chain_entered (at after) (at before) (at (set (set after last k) k bound)) (at (set (set before k last) bound k)) bound (numbers_in after bound count) bound k is.chain
+    (chain_entered (at after) (at before) (at (set (set after last k) k bound)) (at (set (set before k last) bound k)) bound
+    (numbers_in after bound count) bound k is.chain
     (λ j ne ne'. set_twice after last k k bound j (λ e. ne (e ∙ last_is)) ne')
     (λ j ne ne'. set_twice before k last bound k j ne' ne)
     (ap (at (set (set after last k) k bound)) (sym last_is) ∙ to_last)
@@ -89,7 +100,10 @@ entered after before bound count k last is lt out last_is =
     (λ j below gone.
     let still : (stands (numbers_in after bound count) j ≡ false) × (j ≢ k) = stands_push j k (numbers_in after bound count) gone in
     let bound_j : j ≢ bound = λ e. absurd (omega arith) in
-    let j_last : j ≢ last = λ e. apart_from_last (at after) (at before) bound (numbers_in after bound count) bound j is.chain bound_j (none_of j (numbers_in after bound count) still.0) (e ∙ last_is) in
+    let j_last : j ≢ last =
+    λ e.
+    apart_from_last (at after) (at before) bound (numbers_in after bound count) bound j is.chain bound_j (none_of j (numbers_in after bound count) still.0)
+    (e ∙ last_is) in
     set_twice after last k k bound j j_last still.1 ∙ is.out j below still.0)
     (length-set (set after last k) k bound ∙ length-set after last k ∙ fits)
     (length-set (set before k last) bound k ∙ length-set before k last ∙ fits')
@@ -119,11 +133,15 @@ below_left : (bound : ℕ) (xs ys : List ℕ) → AreBelow bound (xs ++ ys) → 
 below_left bound [] ys below = tt
 below_left bound (x ∷ xs) ys below = (below.0, below_left bound xs ys below.1)
 
-pub stood : (after before : List ℕ) (bound count k : ℕ) → IsLinked after before bound count → stands (numbers_in after bound count) k ≡ true → Stood after before bound count k
+pub stood :
+    (after before : List ℕ) (bound count k : ℕ) → IsLinked after before bound count → stands (numbers_in after bound count) k ≡ true
+    → Stood after before bound count k
 stood after before bound count k is in' =
     let parts : Parts (numbers_in after bound count) k = parts_at (numbers_in after bound count) k in' in
-    let chain : IsChain (at after) (at before) bound (parts.front ++ k ∷ parts.back) bound = subst (λ zs. IsChain (at after) (at before) bound zs bound) parts.whole is.chain in
-    let both : IsChain (at after) (at before) bound parts.front k × IsChain (at after) (at before) k parts.back bound = chain_parts (at after) (at before) bound parts.front k parts.back bound chain in
+    let chain : IsChain (at after) (at before) bound (parts.front ++ k ∷ parts.back) bound =
+    subst (λ zs. IsChain (at after) (at before) bound zs bound) parts.whole is.chain in
+    let both : IsChain (at after) (at before) bound parts.front k × IsChain (at after) (at before) k parts.back bound =
+    chain_parts (at after) (at before) bound parts.front k parts.back bound chain in
     let once : AreOnce (parts.front ++ k ∷ parts.back) = subst (λ zs. AreOnce zs) parts.whole is.once in
     record {
       xs = parts.front;
@@ -147,7 +165,9 @@ links_below after before bound count k s = (
   last_below (at after) (at before) bound s.xs k bound s.front (omega arith) (below_left bound s.xs (k ∷ s.ys) s.below),
 )
 
-pub left : (after before : List ℕ) (bound count k p q : ℕ) → IsLinked after before bound count → stands (numbers_in after bound count) k ≡ true → p ≡ at before k → q ≡ at after k
+pub left :
+    (after before : List ℕ) (bound count k p q : ℕ) → IsLinked after before bound count → stands (numbers_in after bound count) k ≡ true → p ≡ at before k
+    → q ≡ at after k
     → Makes (set (set after p q) k k) (set before q p) bound (count - 1) (without k (numbers_in after bound count))
 left after before bound count k p q is in' p_is q_is =
     let s : Stood after before bound count k = stood after before bound count k is in' in
@@ -189,7 +209,9 @@ left after before bound count k p q is in' p_is q_is =
 -- ---- what is read of the links
 
 -- who stands has another one after it
-pub stands_by : (after before : List ℕ) (bound count k : ℕ) → IsLinked after before bound count → k < bound → not (at after k == k) ≡ stands (numbers_in after bound count) k
+pub stands_by :
+    (after before : List ℕ) (bound count k : ℕ) → IsLinked after before bound count → k < bound
+    → not (at after k == k) ≡ stands (numbers_in after bound count) k
 stands_by after before bound count k is lt =
     ⊎_elim
     (λ (e : stands (numbers_in after bound count) k ≡ true).
@@ -201,9 +223,11 @@ stands_by after before bound count k is lt =
 
 behind_at : (xs ys : List ℕ) (k : ℕ) → IsNoneOf k xs → behind k (xs ++ k ∷ ys) ≡ slice_get ys 0
 behind_at [] ys k none = cond-true (k == k) (slice_get ys 0) (behind k ys) (eq-eqb k k refl)
-behind_at (x ∷ xs) ys k none = cond-false (x == k) (slice_get (xs ++ k ∷ ys) 0) (behind k (xs ++ k ∷ ys)) (ne_eqb x k (λ e. none.0 (sym e))) ∙ behind_at xs ys k none.1
+behind_at (x ∷ xs) ys k none =
+    cond-false (x == k) (slice_get (xs ++ k ∷ ys) 0) (behind k (xs ++ k ∷ ys)) (ne_eqb x k (λ e. none.0 (sym e))) ∙ behind_at xs ys k none.1
 
-last_none : (after before : ℕ → ℕ) (k : ℕ) (ys : List ℕ) (bound : ℕ) → IsChain after before k ys bound → AreBelow bound ys → after k ≡ bound → slice_get ys 0 ≡ None
+last_none :
+    (after before : ℕ → ℕ) (k : ℕ) (ys : List ℕ) (bound : ℕ) → IsChain after before k ys bound → AreBelow bound ys → after k ≡ bound → slice_get ys 0 ≡ None
 last_none after before k [] bound chain below e = refl
 last_none after before k (y ∷ ys) bound chain below e = absurd (let lt : y < bound = below.0 in let same : after k ≡ y = chain.0 in omega arith)
 
@@ -211,12 +235,17 @@ next_some : (after before : ℕ → ℕ) (k : ℕ) (ys : List ℕ) (bound : ℕ)
 next_some after before k [] bound chain ne = absurd (ne chain.0)
 next_some after before k (y ∷ ys) bound chain ne = ap Some (sym chain.0)
 
-pub none_next : (after before : List ℕ) (bound count k : ℕ) → IsLinked after before bound count → stands (numbers_in after bound count) k ≡ true → at after k ≡ bound → behind k (numbers_in after bound count) ≡ None
+pub none_next :
+    (after before : List ℕ) (bound count k : ℕ) → IsLinked after before bound count → stands (numbers_in after bound count) k ≡ true → at after k ≡ bound
+    → behind k (numbers_in after bound count) ≡ None
 none_next after before bound count k is in' e =
     let s : Stood after before bound count k = stood after before bound count k is in' in
-    ap (behind k) s.whole ∙ behind_at s.xs s.ys k s.none_front ∙ last_none (at after) (at before) k s.ys bound s.back (below_right bound s.xs (k ∷ s.ys) s.below).1 e
+    ap (behind k) s.whole ∙ behind_at s.xs s.ys k s.none_front
+    ∙ last_none (at after) (at before) k s.ys bound s.back (below_right bound s.xs (k ∷ s.ys) s.below).1 e
 
-pub some_next : (after before : List ℕ) (bound count k : ℕ) → IsLinked after before bound count → stands (numbers_in after bound count) k ≡ true → at after k ≢ bound → behind k (numbers_in after bound count) ≡ Some (at after k)
+pub some_next :
+    (after before : List ℕ) (bound count k : ℕ) → IsLinked after before bound count → stands (numbers_in after bound count) k ≡ true → at after k ≢ bound
+    → behind k (numbers_in after bound count) ≡ Some (at after k)
 some_next after before bound count k is in' ne =
     let s : Stood after before bound count k = stood after before bound count k is in' in
     ap (behind k) s.whole ∙ behind_at s.xs s.ys k s.none_front ∙ next_some (at after) (at before) k s.ys bound s.back ne
@@ -227,7 +256,9 @@ some_next after before bound count k is in' ne =
 pub link_read : (links : List ℕ) (bound k r : ℕ) → length links ≡ bound + 1 → k ≤ bound → r ≡ get_or links k r → r ≡ at links k
 link_read links bound k r fits le read = read ∙ get_or_default links k r 0 (omega arith)
 
-pub enters : (after before : List ℕ) (bound count k r : ℕ) (numbers : List ℕ) → IsLinked after before bound count → numbers_in after bound count ≡ numbers → k < bound → stands numbers k ≡ false → r ≡ get_or before bound r
+pub enters :
+    (after before : List ℕ) (bound count k r : ℕ) (numbers : List ℕ) → IsLinked after before bound count → numbers_in after bound count ≡ numbers → k < bound
+    → stands numbers k ≡ false → r ≡ get_or before bound r
     → Makes (set (set after r k) k bound) (set (set before k r) bound k) bound (count + 1) (numbers ++ k ∷ [])
 enters after before bound count k r numbers is line lt out read =
     subst (λ xs. Makes (set (set after r k) k bound) (set (set before k r) bound k) bound (count + 1) (xs ++ k ∷ [])) line
@@ -241,28 +272,40 @@ last_fits after before bound count r is read =
     omega arith
 
 -- one more number still fits
-pub one_fits : (after before : List ℕ) (bound count k : ℕ) (numbers : List ℕ) → IsLinked after before bound count → numbers_in after bound count ≡ numbers → k < bound → stands numbers k ≡ false → count + 1 ≤ bound
+pub one_fits :
+    (after before : List ℕ) (bound count k : ℕ) (numbers : List ℕ) → IsLinked after before bound count → numbers_in after bound count ≡ numbers → k < bound
+    → stands numbers k ≡ false → count + 1 ≤ bound
 one_fits after before bound count k numbers is line lt out =
     let out' : stands (numbers_in after bound count) k ≡ false = ap (λ xs. stands xs k) line ∙ out in
     let all : length (numbers_in after bound count ++ k ∷ []) ≤ bound =
-    no_more bound (numbers_in after bound count ++ k ∷ []) (once_push (numbers_in after bound count) k is.once (none_of k (numbers_in after bound count) out')) (below_push bound (numbers_in after bound count) k is.below lt) in
+    no_more bound (numbers_in after bound count ++ k ∷ []) (once_push (numbers_in after bound count) k is.once (none_of k (numbers_in after bound count) out'))
+    (below_push bound (numbers_in after bound count) k is.below lt) in
     omega (arith, length-append (numbers_in after bound count) (k ∷ []), length-numbers after bound count)
 
-pub within : (after before : List ℕ) (bound count k : ℕ) (numbers : List ℕ) → IsLinked after before bound count → numbers_in after bound count ≡ numbers → stands numbers k ≡ true → k < bound
-within after before bound count k numbers is line in' = stood_below after before bound count k (stood after before bound count k is (ap (λ xs. stands xs k) line ∙ in'))
+pub within :
+    (after before : List ℕ) (bound count k : ℕ) (numbers : List ℕ) → IsLinked after before bound count → numbers_in after bound count ≡ numbers
+    → stands numbers k ≡ true → k < bound
+within after before bound count k numbers is line in' =
+    stood_below after before bound count k (stood after before bound count k is (ap (λ xs. stands xs k) line ∙ in'))
 
-pub leaves : (after before : List ℕ) (bound count k p q : ℕ) (numbers : List ℕ) → IsLinked after before bound count → numbers_in after bound count ≡ numbers → stands numbers k ≡ true → p ≡ get_or before k p → q ≡ get_or after k q
+pub leaves :
+    (after before : List ℕ) (bound count k p q : ℕ) (numbers : List ℕ) → IsLinked after before bound count → numbers_in after bound count ≡ numbers
+    → stands numbers k ≡ true → p ≡ get_or before k p → q ≡ get_or after k q
     → Makes (set (set after p q) k k) (set before q p) bound (count - 1) (without k numbers)
 leaves after before bound count k p q numbers is line in' read read' =
     let lt : k < bound = within after before bound count k numbers is line in' in
     subst (λ xs. Makes (set (set after p q) k k) (set before q p) bound (count - 1) (without k xs)) line
-    (left after before bound count k p q is (ap (λ xs. stands xs k) line ∙ in') (link_read before bound k p is.before_fits (omega arith) read) (link_read after bound k q is.after_fits (omega arith) read'))
+    (left after before bound count k p q is (ap (λ xs. stands xs k) line ∙ in') (link_read before bound k p is.before_fits (omega arith) read)
+    (link_read after bound k q is.after_fits (omega arith) read'))
 
-pub links_fit : (after before : List ℕ) (bound count k p q : ℕ) (numbers : List ℕ) → IsLinked after before bound count → numbers_in after bound count ≡ numbers → stands numbers k ≡ true → p ≡ get_or before k p → q ≡ get_or after k q
+pub links_fit :
+    (after before : List ℕ) (bound count k p q : ℕ) (numbers : List ℕ) → IsLinked after before bound count → numbers_in after bound count ≡ numbers
+    → stands numbers k ≡ true → p ≡ get_or before k p → q ≡ get_or after k q
     → (p < length after) × (q < length before)
 links_fit after before bound count k p q numbers is line in' read read' =
     let lt : k < bound = within after before bound count k numbers is line in' in
-    let near : (at after k ≤ bound) × (at before k ≤ bound) = links_below after before bound count k (stood after before bound count k is (ap (λ xs. stands xs k) line ∙ in')) in
+    let near : (at after k ≤ bound) × (at before k ≤ bound) =
+    links_below after before bound count k (stood after before bound count k is (ap (λ xs. stands xs k) line ∙ in')) in
     let p_is : p ≡ at before k = link_read before bound k p is.before_fits (omega arith) read in
     let q_is : q ≡ at after k = link_read after bound k q is.after_fits (omega arith) read' in
     let fits : length after ≡ bound + 1 = is.after_fits in

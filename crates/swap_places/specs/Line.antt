@@ -46,7 +46,11 @@ abbrev pub EntersOne : Type 0
 EntersOne = (numbers : List ℕ) (k j : ℕ) → stands (numbers ++ k ∷ []) j ≡ (if k == j then true else stands numbers j)
 
 abbrev pub LeavesOne : Type 0
-LeavesOne = (numbers : List ℕ) (k j : ℕ) → AreOnce numbers → stands (without k numbers) j ≡ (if k == j then false else stands numbers j)
+LeavesOne =
+    (numbers : List ℕ) (k j : ℕ) → AreOnce numbers
+    → stands (without k numbers) j ≡ (if k == j then false else stands numbers j)
 
 abbrev pub KeepsOnce : Type 0
-KeepsOnce = (numbers : List ℕ) (k : ℕ) → AreOnce numbers → AreOnce (without k numbers) × (stands numbers k ≡ false → AreOnce (numbers ++ k ∷ []))
+KeepsOnce =
+    (numbers : List ℕ) (k : ℕ) → AreOnce numbers
+    → AreOnce (without k numbers) × (stands numbers k ≡ false → AreOnce (numbers ++ k ∷ []))

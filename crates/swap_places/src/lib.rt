@@ -1,5 +1,5 @@
-//! A line of numbers in the order in which they entered. To enter, to leave from any place and to ask who is first
-//! or next takes the same time however long the line is.
+//! A line of numbers in the order in which they entered. To enter, to leave from any place and to
+//! ask who is first or next takes the same time however long the line is.
 #![tactic(auto)]
 
 ghost use Rattle.std.specs.Prelude.{◌≡◌, ℕ, ◌+◌, ◌<◌, ◌≤◌, ◌∷◌, ◌++◌, [], true, false, length, slice_get, vec_len, IfOk, IfSome};
@@ -25,7 +25,8 @@ impl Model for Line {
 
     ghost Value = { Numbers };
 
-    ghost view = { λ l. record { bound = l.bound; numbers = numbers_in l.after.items l.bound l.count } };
+    ghost view = { λ l.
+        record { bound = l.bound; numbers = numbers_in l.after.items l.bound l.count } };
 
     ghost invariant = { λ l. IsLinked l.after.items l.before.items l.bound l.count };
 }

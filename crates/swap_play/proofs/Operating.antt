@@ -37,18 +37,28 @@ is_theirs (Some n) (event.Tick word) of is = absurd of
 is_theirs (Some n) (event.Give l) of is = absurd of
 is_theirs (Some n) (event.Take l) of is = absurd of
 
-one_more : (tcp : Option ℕ) (s : Sizes) (lenders : ℕ) (i : Input) (rest : List Input) (b : Bool) → is_operators i.event ≡ b → IsInRange s lenders i.event → IsOfTrace tcp i.event → AreOperators s lenders (events_of rest) → AreOperators s lenders (events_of (cond b (i ∷ rest) rest))
+one_more :
+    (tcp : Option ℕ) (s : Sizes) (lenders : ℕ) (i : Input) (rest : List Input) (b : Bool) → is_operators i.event ≡ b → IsInRange s lenders i.event
+    → IsOfTrace tcp i.event → AreOperators s lenders (events_of rest) → AreOperators s lenders (events_of (cond b (i ∷ rest) rest))
 one_more tcp s lenders i rest true is range of all = ((is_theirs tcp i.event of is, range), all)
 one_more tcp s lenders i rest false is range of all = all
 
-each_theirs : (tcp : Option ℕ) (s : Sizes) (lenders : ℕ) (is : List Input) → AllByRecursion (λ (i : Input). IsInRange s lenders i.event) is → AllByRecursion (λ (i : Input). IsOfTrace tcp i.event) is → AreOperators s lenders (events_of (filter (λ (i : Input). is_operators i.event) is))
+each_theirs :
+    (tcp : Option ℕ) (s : Sizes) (lenders : ℕ) (is : List Input) → AllByRecursion (λ (i : Input). IsInRange s lenders i.event) is
+    → AllByRecursion (λ (i : Input). IsOfTrace tcp i.event) is → AreOperators s lenders (events_of (filter (λ (i : Input). is_operators i.event) is))
 each_theirs tcp s lenders [] range of = tt
-each_theirs tcp s lenders (i ∷ is) range of = one_more tcp s lenders i (filter (λ (x : Input). is_operators x.event) is) (is_operators i.event) refl range.0 of.0 (each_theirs tcp s lenders is range.1 of.1)
+each_theirs tcp s lenders (i ∷ is) range of =
+    one_more tcp s lenders i (filter (λ (x : Input). is_operators x.event) is) (is_operators i.event) refl range.0 of.0
+    (each_theirs tcp s lenders is range.1 of.1)
 
 -- what is left of a walk at its end
 pub taken_all : (items whole : List Event) (is : List Input) → first_event is ≡ None → items ++ events_of is ≡ whole → items ≡ whole
 taken_all items whole [] none all = sym (append-nil items) ∙ all
 taken_all items whole (i ∷ is) none all = cc
 
-pub all_theirs : (t : Script) (es : List Event) → IsTrace t → AreInRange → HoldTraceEvents → es ≡ events_of (operators_in t).inputs → AreOperators t.sizes (length t.lenders) es
-all_theirs t es of range kinds is = subst (AreOperators t.sizes (length t.lenders)) (sym is) (each_theirs of.tcp t.sizes (length t.lenders) t.inputs (range of.tcp of.text t of.is) (kinds of.tcp of.text t of.is))
+pub all_theirs :
+    (t : Script) (es : List Event) → IsTrace t → AreInRange → HoldTraceEvents → es ≡ events_of (operators_in t).inputs
+    → AreOperators t.sizes (length t.lenders) es
+all_theirs t es of range kinds is =
+    subst (AreOperators t.sizes (length t.lenders)) (sym is)
+    (each_theirs of.tcp t.sizes (length t.lenders) t.inputs (range of.tcp of.text t of.is) (kinds of.tcp of.text t of.is))

@@ -21,9 +21,12 @@ number_at a (suc n) zero d less = let none : a ≡ a + 0 = omega arith in none
 number_at a (suc n) (suc i) d less = let later = number_at (suc a) n i d (omega (arith, less)) in let same : suc a + i ≡ a + suc i = omega arith in later ∙ same
 
 pub seat_count : (lock : LockId) (s : Sizes) (lenders : ℕ) (ps : List Standing) → AreSeats lock s lenders ps → length ps ≡ s.callers + lenders + 2
-seat_count lock s lenders ps seats = ap length seats.newcomers ∙ length-map (numbers_from 0 (s.callers + lenders + 2)) (newcomer lock []) ∙ length_numbers 0 (s.callers + lenders + 2)
+seat_count lock s lenders ps seats =
+    ap length seats.newcomers ∙ length-map (numbers_from 0 (s.callers + lenders + 2)) (newcomer lock []) ∙ length_numbers 0 (s.callers + lenders + 2)
 
-pub seat_at : (lock : LockId) (s : Sizes) (lenders : ℕ) (ps : List Standing) (i : ℕ) (d : Standing) → AreSeats lock s lenders ps → i < s.callers + lenders + 2 → slice_index_or ps i d ≡ newcomer lock [] i
+pub seat_at :
+    (lock : LockId) (s : Sizes) (lenders : ℕ) (ps : List Standing) (i : ℕ) (d : Standing) → AreSeats lock s lenders ps → i < s.callers + lenders + 2
+    → slice_index_or ps i d ≡ newcomer lock [] i
 seat_at lock s lenders ps i d seats less =
     let count = s.callers + lenders + 2 in
     let len : length (numbers_from 0 count) ≡ count = length_numbers 0 count in
@@ -33,7 +36,9 @@ seat_at lock s lenders ps i d seats less =
     ∙ ap (newcomer lock []) (number_at 0 count i 0 less ∙ zero_more)
 
 -- each seat has a number of its own below their count
-pub seats_in : (lock : LockId) (s : Sizes) (lenders : ℕ) (ps : List Standing) → AreSeats lock s lenders ps → All (λ (p : Standing). IsFreeOf lock p × (p.number < s.callers + lenders + 2)) ps
+pub seats_in :
+    (lock : LockId) (s : Sizes) (lenders : ℕ) (ps : List Standing) → AreSeats lock s lenders ps
+    → All (λ (p : Standing). IsFreeOf lock p × (p.number < s.callers + lenders + 2)) ps
 seats_in lock s lenders ps seats k d less =
     let len = seat_count lock s lenders ps seats in
     let below : k < s.callers + lenders + 2 = omega (arith, less, len) in
@@ -42,11 +47,16 @@ seats_in lock s lenders ps seats k d less =
 abbrev pub Each : LockId → Script → List Standing → List (Standing × Bool) → Type 0
 Each lock t ps overs = (i : ℕ) (d : Standing × Bool) (e : Standing) → i < length ps → IsOver lock t (slice_index_or ps i e) (slice_index_or overs i d)
 
-pub backs_free : (lock : LockId) (t : Script) (ps : List Standing) (overs : List (Standing × Bool)) → length overs ≡ length ps → Each lock t ps overs → All (IsFreeOf lock) (map (λ (o : Standing × Bool). o.0) overs)
+pub backs_free :
+    (lock : LockId) (t : Script) (ps : List Standing) (overs : List (Standing × Bool)) → length overs ≡ length ps → Each lock t ps overs
+    → All (IsFreeOf lock) (map (λ (o : Standing × Bool). o.0) overs)
 backs_free lock t ps overs len each = All-map (IsFreeOf lock) (λ (o : Standing × Bool). o.0) overs (λ k d less. (each k d d.0 (omega (arith, less, len))).free)
 
-pub have_played : (lock : LockId) (s : Sizes) (lenders : ℕ) (t : Script) (ps : List Standing) (overs : List (Standing × Bool)) (H : History) → t.sizes ≡ s → AreSeats lock s lenders ps → length overs ≡ length ps → Each lock t ps overs
-    → All (λ (o : Standing × Bool). o.1 ≡ true) overs → All (λ (p : Standing). p.mine ≡ entries_of p.number H) (map (λ (o : Standing × Bool). o.0) overs) → HavePlayed t H
+pub have_played :
+    (lock : LockId) (s : Sizes) (lenders : ℕ) (t : Script) (ps : List Standing) (overs : List (Standing × Bool)) (H : History) → t.sizes ≡ s
+    → AreSeats lock s lenders ps → length overs ≡ length ps → Each lock t ps overs
+    → All (λ (o : Standing × Bool). o.1 ≡ true) overs → All (λ (p : Standing). p.mine ≡ entries_of p.number H) (map (λ (o : Standing × Bool). o.0) overs)
+    → HavePlayed t H
 have_played lock s lenders t ps overs H same seats len each done mine c within =
     let e : Standing = newcomer lock [] 0 in
     let d : Standing × Bool = (e, true) in
@@ -61,7 +71,8 @@ have_played lock s lenders t ps overs H same seats len each done mine c within =
     let is : p ≡ newcomer lock [] c.0 = seat_at lock s lenders ps c.0 e seats below in
     let number : p.number ≡ c.0 = ap (λ (x : Standing). x.number) is in
     let none : p.mine ≡ [] = ap (λ (x : Standing). x.mine) is in
-    let plays : Plays (calls_in (caller p.number) t).inputs p.mine o.0.mine = over.plays (done c.0 d back) (subst (λ n. n < t.sizes.callers) (sym number) within) in
+    let plays : Plays (calls_in (caller p.number) t).inputs p.mine o.0.mine =
+    over.plays (done c.0 d back) (subst (λ n. n < t.sizes.callers) (sym number) within) in
     let long : c.0 < length (map (λ (x : Standing × Bool). x.0) overs) = let l = length-map overs (λ (x : Standing × Bool). x.0) in omega (arith, back, l) in
     let at : slice_index_or (map (λ (x : Standing × Bool). x.0) overs) c.0 e ≡ o.0 = get_or-map (λ (x : Standing × Bool). x.0) overs c.0 d e back in
     let P : Standing → Type 0 = λ x. x.mine ≡ entries_of x.number H in

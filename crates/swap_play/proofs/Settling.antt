@@ -29,7 +29,9 @@ module _ {D F : Type 0} (disk_moves : D → (c : DiskCall) → DiskAnswer c → 
     still : has_effect e seen ≡ false
     makes : Makes disk_moves moves (Made Player (record { event = e; page = page }) seen ∷ []) w w'
 
-  still_by : (e : Event) (w w' : WorldOf D F) (acts : List Act) (page : List ℕ) (s : Seen) → acts ≡ Made Player (record { event = e; page = page }) s ∷ [] → moved.Nothing ≡ moved_by (lines_of acts) → Makes disk_moves moves acts w w' → Still e w w'
+  still_by :
+      (e : Event) (w w' : WorldOf D F) (acts : List Act) (page : List ℕ) (s : Seen) → acts ≡ Made Player (record { event = e; page = page }) s ∷ []
+      → moved.Nothing ≡ moved_by (lines_of acts) → Makes disk_moves moves acts w w' → Still e w w'
   still_by e w w' acts page s is says makes = record {
     page = page;
     seen = s;
@@ -37,13 +39,17 @@ module _ {D F : Type 0} (disk_moves : D → (c : DiskCall) → DiskAnswer c → 
     makes = subst (λ l. Makes disk_moves moves l w w') is makes;
   }
 
-  still_give : (means : D → Port) (l : Lender) (w w' : WorldOf D F) → PumpsAs disk_moves moves means (point.Give l) moved.Nothing w w' → Still (event.Give l) w w'
+  still_give :
+      (means : D → Port) (l : Lender) (w w' : WorldOf D F) → PumpsAs disk_moves moves means (point.Give l) moved.Nothing w w' → Still (event.Give l) w w'
   still_give means l w w' pumps = still_by (event.Give l) w w' pumps.acts pumps.at_point.0 pumps.at_point.1 pumps.at_point.2 pumps.says pumps.works.makes
 
-  still_get : (means : D → Port) (l : Lender) (w w' : WorldOf D F) → PumpsAs disk_moves moves means (point.Take l) moved.Nothing w w' → Still (event.Take l) w w'
+  still_get :
+      (means : D → Port) (l : Lender) (w w' : WorldOf D F) → PumpsAs disk_moves moves means (point.Take l) moved.Nothing w w' → Still (event.Take l) w w'
   still_get means l w w' pumps = still_by (event.Take l) w w' pumps.acts pumps.at_point.0 pumps.at_point.1 pumps.at_point.2 pumps.says pumps.works.makes
 
-  pub quiet_one : (means : D → Port) (l : Lender) (w w1 w' : WorldOf D F) → PumpsAs disk_moves moves means (point.Give l) moved.Nothing w w1 → PumpsAs disk_moves moves means (point.Take l) moved.Nothing w1 w' → LinkIsQuiet disk_moves moves l.0 w w'
+  pub quiet_one :
+      (means : D → Port) (l : Lender) (w w1 w' : WorldOf D F) → PumpsAs disk_moves moves means (point.Give l) moved.Nothing w w1
+      → PumpsAs disk_moves moves means (point.Take l) moved.Nothing w1 w' → LinkIsQuiet disk_moves moves l.0 w w'
   quiet_one means l w w1 w' gave took =
       let g = still_give means l w w1 gave in
       let t = still_get means l w1 w' took in
@@ -60,7 +66,8 @@ module _ {D F : Type 0} (disk_moves : D → (c : DiskCall) → DiskAnswer c → 
   pub quiet_none : (w : WorldOf D F) → LinksAreQuiet disk_moves moves 0 w
   quiet_none w = record { before = w; acts = []; are = none; makes = makes_none disk_moves moves w w refl refl refl refl }
 
-  pub quiet_more : (n : ℕ) (w w' : WorldOf D F) → LinksAreQuiet disk_moves moves n w → LinkIsQuiet disk_moves moves n w w' → LinksAreQuiet disk_moves moves (n + 1) w'
+  pub quiet_more :
+      (n : ℕ) (w w' : WorldOf D F) → LinksAreQuiet disk_moves moves n w → LinkIsQuiet disk_moves moves n w w' → LinksAreQuiet disk_moves moves (n + 1) w'
   quiet_more n w w' was one = record {
     before = was.before;
     acts = get n one.page' one.took ∷ give n one.page one.gave ∷ was.acts;
@@ -68,12 +75,15 @@ module _ {D F : Type 0} (disk_moves : D → (c : DiskCall) → DiskAnswer c → 
     makes = makes_on disk_moves moves was.before w w' was.acts (get n one.page' one.took ∷ give n one.page one.gave ∷ []) was.makes one.makes;
   }
 
-  history_kept : (means : D → Port) (p : _) (m : Moved) (w w' : WorldOf D F) → PumpsAs disk_moves moves means p m w w' → w'.core.device.history ≡ w.core.device.history
+  history_kept :
+      (means : D → Port) (p : _) (m : Moved) (w w' : WorldOf D F) → PumpsAs disk_moves moves means p m w w' → w'.core.device.history ≡ w.core.device.history
   history_kept means p moved.Did w w' pumps = pumps.works.history
   history_kept means p moved.Nothing w w' pumps = pumps.works.history
   history_kept means p moved.NoMemory w w' same = ap (λ (d : Device). d.history) same.device
 
-  pub pump_keeps : (means : D → Port) (p : _) (m : Moved) (b b' : BoardOf D F) → PumpsAs disk_moves moves means p m b.world b'.world → b' ≡ record b { world = b'.world } → KeepsHistory b b'
+  pub pump_keeps :
+      (means : D → Port) (p : _) (m : Moved) (b b' : BoardOf D F) → PumpsAs disk_moves moves means p m b.world b'.world → b' ≡ record b { world = b'.world }
+      → KeepsHistory b b'
   pump_keeps means p m b b' pumps rest = record { rest = rest; history = history_kept means p m b.world b'.world pumps }
 
 module _ {D F : Type 0} where

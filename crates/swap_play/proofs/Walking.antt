@@ -22,7 +22,9 @@ abbrev Own : Caller → List Input → Type 0
 Own c is = AllByRecursion (λ (i : Input). reading.is_call_of c i.event ≡ true) is
 
 -- the next call is the caller's
-pub next_own : (s : Sizes) (lenders : ℕ) (c : Caller) (left : Script) (e : Event) → AreCallsOf s lenders c left → first_event left.inputs ≡ Some e → reading.is_call_of c e ≡ true
+pub next_own :
+    (s : Sizes) (lenders : ℕ) (c : Caller) (left : Script) (e : Event) → AreCallsOf s lenders c left → first_event left.inputs ≡ Some e
+    → reading.is_call_of c e ≡ true
 next_own s lenders c left e are is = go left.inputs are.own is
   where
     go : (is : List Input) → Own c is → first_event is ≡ Some e → reading.is_call_of c e ≡ true
@@ -44,7 +46,9 @@ next_fewer left e is = go left.inputs is
     go (i ∷ is) same = omega arith
 
 -- a call that was answered stands in front of those that are left
-pub next_plays : (left : Script) (e : Event) (page page' : List ℕ) (before now end : History) → first_event left.inputs ≡ Some e → page' ≡ page_after left.inputs page → PlaysOne e page' before now → Plays (later left).inputs now end → Plays left.inputs before end
+pub next_plays :
+    (left : Script) (e : Event) (page page' : List ℕ) (before now end : History) → first_event left.inputs ≡ Some e → page' ≡ page_after left.inputs page
+    → PlaysOne e page' before now → Plays (later left).inputs now end → Plays left.inputs before end
 next_plays left e page page' before now end is handed one more = go left.inputs is handed more
   where
     go : (is : List Input) → first_event is ≡ Some e → page' ≡ page_after is page → Plays (drop 1 is) now end → Plays is before end

@@ -43,11 +43,13 @@ pub record AreCallsOf (s : Sizes) (lenders : ℕ) (c : Caller) (left : Script) :
 abbrev pub caller : ℕ → Caller
 caller n = record { 0 = n }
 
--- What a thread leaves: its pass, without a turn; and where it is a caller's and says so, each of its calls has its entry.
+-- What a thread leaves: its pass, without a turn; and where it is a caller's and says so, each of its calls has its
+-- entry.
 pub record IsOver (lock : LockId) (t : Script) (p : Standing) (over : Standing × Bool) : Type 0 where
   pub free : IsFreeOf lock over.0
   pub number : over.0.number ≡ p.number
-  pub plays : over.1 ≡ true → p.number < t.sizes.callers → Plays (calls_in (caller p.number) t).inputs p.mine over.0.mine
+  pub plays :
+      over.1 ≡ true → p.number < t.sizes.callers → Plays (calls_in (caller p.number) t).inputs p.mine over.0.mine
 
 -- the events of a list, and of a log those that are a caller's calls
 abbrev pub events_of : List Input → List Event
@@ -57,7 +59,8 @@ abbrev pub calls_logged : Caller → List (Event × Seen) → List Event
 calls_logged c [] = []
 calls_logged c ((e, s) ∷ log) = if is_call_of c e then e ∷ calls_logged c log else calls_logged c log
 
--- the passes of all seats, as they are given over an empty history: of the callers, the operator, the disk and each lender
+-- the passes of all seats, as they are given over an empty history: of the callers, the operator, the disk and each
+-- lender
 pub record AreSeats (lock : LockId) (s : Sizes) (lenders : ℕ) (ps : List Standing) : Type 0 where
   pub free : All (IsFreeOf lock) ps
   pub newcomers : ps ≡ map (newcomer lock []) (numbers_from 0 (s.callers + lenders + 2))

@@ -15,16 +15,20 @@ connect n page s = Made Operator (record { event = event.Connect (record { 0 = n
 -- a Connect of each of the first so many lenders, ascending, each with an effect; the newest stands first
 pub data AreConnects : ℕ → List Act → Type 0 where
   none : AreConnects 0 []
-  more : {n : ℕ} {acts : List Act} (page : List ℕ) (s : Seen) → AreConnects n acts → has_effect (event.Connect (record { 0 = n })) s ≡ true → AreConnects (n + 1) (connect n page s ∷ acts)
+  more :
+      {n : ℕ} {acts : List Act} (page : List ℕ) (s : Seen) → AreConnects n acts
+      → has_effect (event.Connect (record { 0 = n })) s ≡ true → AreConnects (n + 1) (connect n page s ∷ acts)
 
 -- the first so many lenders were connected, and nothing else was done
-pub record Connects {D F : Type 0} (disk_moves : D → (c : DiskCall) → DiskAnswer c → D → Type 0) (moves : F → (c : FabricCall) → FabricAnswer c → F → Type 0) (n : ℕ) (first w : WorldOf D F) : Type 0 where
+pub record Connects {D F : Type 0} (disk_moves : D → (c : DiskCall) → DiskAnswer c → D → Type 0)
+    (moves : F → (c : FabricCall) → FabricAnswer c → F → Type 0) (n : ℕ) (first w : WorldOf D F) : Type 0 where
   pub acts : List Act
   pub are : AreConnects n acts
   pub works : Works disk_moves moves acts first w
 
 -- so of one lender
-pub record ConnectsOne {D F : Type 0} (disk_moves : D → (c : DiskCall) → DiskAnswer c → D → Type 0) (moves : F → (c : FabricCall) → FabricAnswer c → F → Type 0) (n : ℕ) (w w' : WorldOf D F) : Type 0 where
+pub record ConnectsOne {D F : Type 0} (disk_moves : D → (c : DiskCall) → DiskAnswer c → D → Type 0)
+    (moves : F → (c : FabricCall) → FabricAnswer c → F → Type 0) (n : ℕ) (w w' : WorldOf D F) : Type 0 where
   pub page : List ℕ
   pub seen : Seen
   pub has : has_effect (event.Connect (record { 0 = n })) seen ≡ true

@@ -34,10 +34,14 @@ AreIdle w = (c : Caller) → c.0 < w.core.device.sizes.callers → is_idle (stat
 
 -- in a world whose log has an idle caller's calls, they are those that its entries answer
 abbrev pub LogTells : {D F : Type 0} → WorldOf D F → Type 0
-LogTells w = (c : Caller) (is : List Input) → c.0 < w.core.device.sizes.callers → is_idle (state_of w.core.device.calls c) ≡ true → AllByRecursion (λ (i : Input). reading.is_call_of c i.event ≡ true) is → Plays is [] (entries_of c.0 w.core.device.history) → calls_logged c w.log ≡ events_of is
+LogTells w =
+    (c : Caller) (is : List Input) → c.0 < w.core.device.sizes.callers → is_idle (state_of w.core.device.calls c) ≡ true
+    → AllByRecursion (λ (i : Input). reading.is_call_of c i.event ≡ true) is
+    → Plays is [] (entries_of c.0 w.core.device.history) → calls_logged c w.log ≡ events_of is
 
 -- a board's world at the end: all of the operator's events were made, every caller is idle, and all is settled
-pub record IsEnded {D F : Type 0} (disk_moves : D → (c : DiskCall) → DiskAnswer c → D → Type 0) (moves : F → (c : FabricCall) → FabricAnswer c → F → Type 0) (n : Named D F) (w : WorldOf D F) : Type 0 where
+pub record IsEnded {D F : Type 0} (disk_moves : D → (c : DiskCall) → DiskAnswer c → D → Type 0)
+    (moves : F → (c : FabricCall) → FabricAnswer c → F → Type 0) (n : Named D F) (w : WorldOf D F) : Type 0 where
   pub board : BoardOf D F
   pub world : w ≡ board.world
   pub played : WasPlayed disk_moves moves n board
@@ -47,15 +51,20 @@ pub record IsEnded {D F : Type 0} (disk_moves : D → (c : DiskCall) → DiskAns
 
 -- Acts of callers, pumps, calls that pace themselves and the operator led from one world to another. The operator's are
 -- those of the trace, in order, and a Round with the next word of the number's generator stands between any 257 calls.
-pub record IsActedOut {D F : Type 0} (disk_moves : D → (c : DiskCall) → DiskAnswer c → D → Type 0) (moves : F → (c : FabricCall) → FabricAnswer c → F → Type 0) (t : Script) (number : ℕ) (connected w : WorldOf D F) : Type 0 where
+pub record IsActedOut {D F : Type 0} (disk_moves : D → (c : DiskCall) → DiskAnswer c → D → Type 0)
+    (moves : F → (c : FabricCall) → FabricAnswer c → F → Type 0) (t : Script) (number : ℕ)
+    (connected w : WorldOf D F) : Type 0 where
   pub acts : List Act
   pub makes : Makes disk_moves moves acts connected w
   pub made : AreMade (seed_of number) acts
   pub operated : operated acts ≡ events_of (operators_in t).inputs
 
--- Each caller's calls stand in the log and have their entries, one by one and in order, and nothing else of its does. At the
+-- Each caller's calls stand in the log and have their entries, one by one and in order, and nothing else of its does.
+-- At the
 -- end every caller is idle, and all is settled.
-pub record IsCarriedOut {D F : Type 0} (disk_moves : D → (c : DiskCall) → DiskAnswer c → D → Type 0) (moves : F → (c : FabricCall) → FabricAnswer c → F → Type 0) (t : Script) (number : ℕ) (connected w : WorldOf D F) : Type 0 where
+pub record IsCarriedOut {D F : Type 0} (disk_moves : D → (c : DiskCall) → DiskAnswer c → D → Type 0)
+    (moves : F → (c : FabricCall) → FabricAnswer c → F → Type 0) (t : Script) (number : ℕ)
+    (connected w : WorldOf D F) : Type 0 where
   pub acted : IsActedOut disk_moves moves t number connected w
   pub answered : HavePlayed t w.core.device.history
   pub called : (c : Caller) → c.0 < t.sizes.callers → calls_logged c w.log ≡ events_of (calls_in c t).inputs
@@ -63,7 +72,9 @@ pub record IsCarriedOut {D F : Type 0} (disk_moves : D → (c : DiskCall) → Di
   pub settles : Settles disk_moves moves (length t.lenders) w
 
 -- A trace was played from one world to another: each lender was connected, and then the trace was carried out.
-pub record IsPlayedOut {D F : Type 0} (disk_moves : D → (c : DiskCall) → DiskAnswer c → D → Type 0) (moves : F → (c : FabricCall) → FabricAnswer c → F → Type 0) (t : Script) (number : ℕ) (first w : WorldOf D F) : Type 0 where
+pub record IsPlayedOut {D F : Type 0} (disk_moves : D → (c : DiskCall) → DiskAnswer c → D → Type 0)
+    (moves : F → (c : FabricCall) → FabricAnswer c → F → Type 0) (t : Script) (number : ℕ)
+    (first w : WorldOf D F) : Type 0 where
   pub connected : WorldOf D F
   pub connects : Connects disk_moves moves (length t.lenders) first connected
   pub carried : IsCarriedOut disk_moves moves t number connected w

@@ -14,7 +14,9 @@ use Rattle.swap_world.specs.Laws.{Began}
 use Rattle.swap_board.specs.Acts.{Act, IsActed, lines_of}
 
 -- events that had an effect, a Round by its parts, led from one device and its ports to another, and left these lines
-pub record RunsTo {D F : Type 0} (disk_moves : D → (c : DiskCall) → DiskAnswer c → D → Type 0) (moves : F → (c : FabricCall) → FabricAnswer c → F → Type 0) (first : Device) (disk : D) (fabric : F) (log : List (Event × Seen)) (d : Device) (k : D) (f : F) : Type 0 where
+pub record RunsTo {D F : Type 0} (disk_moves : D → (c : DiskCall) → DiskAnswer c → D → Type 0)
+    (moves : F → (c : FabricCall) → FabricAnswer c → F → Type 0) (first : Device) (disk : D) (fabric : F)
+    (log : List (Event × Seen)) (d : Device) (k : D) (f : F) : Type 0 where
   pub written : List Written
   pub parts : AllByRecursion HasParts written
   pub run : IsRun disk_moves moves first disk fabric (made_of written) d k f
@@ -23,5 +25,9 @@ pub record RunsTo {D F : Type 0} (disk_moves : D → (c : DiskCall) → DiskAnsw
 -- what is made behind a run is a run, with its lines behind those of the first
 abbrev pub ActsAreRuns : {D F : Type 0} → DiskMeaning D → FabricMeaning F → Type 0
 ActsAreRuns {D} {F} disk fabric =
-    (s : Sizes) (n : ℕ) (first : D) (first_fabric : F) (log : List (Event × Seen)) (d : Device) (k : D) (f : F) (acts : List Act) (d' : Device) (k' : D) (f' : F) → Began disk fabric s n first first_fabric
-    → RunsTo disk.moves fabric.moves (new s n) first first_fabric log d k f → IsActed disk.moves fabric.moves d k f acts d' k' f' → RunsTo disk.moves fabric.moves (new s n) first first_fabric (log ++ lines_of acts) d' k' f'
+    (s : Sizes) (n : ℕ) (first : D) (first_fabric : F) (log : List (Event × Seen)) (d : Device) (k : D) (f : F)
+    (acts : List Act) (d' : Device) (k' : D) (f' : F)
+    → Began disk fabric s n first first_fabric
+    → RunsTo disk.moves fabric.moves (new s n) first first_fabric log d k f
+    → IsActed disk.moves fabric.moves d k f acts d' k' f'
+    → RunsTo disk.moves fabric.moves (new s n) first first_fabric (log ++ lines_of acts) d' k' f'

@@ -22,17 +22,21 @@ get n page s = Made Player (record { event = event.Take (record { 0 = n }); page
 pub data AreQuiet : ℕ → List Act → Type 0 where
   none : AreQuiet 0 []
   more : {n : ℕ} {acts : List Act} (page : List ℕ) (gave : Seen) (page' : List ℕ) (took : Seen)
-      → AreQuiet n acts → has_effect (event.Give (record { 0 = n })) gave ≡ false → has_effect (event.Take (record { 0 = n })) took ≡ false → AreQuiet (n + 1) (get n page' took ∷ give n page gave ∷ acts)
+      → AreQuiet n acts → has_effect (event.Give (record { 0 = n })) gave ≡ false
+      → has_effect (event.Take (record { 0 = n })) took ≡ false
+      → AreQuiet (n + 1) (get n page' took ∷ give n page gave ∷ acts)
 
 -- a world was left so by the last that was made: each lender, and then the device, found nothing on its link
-pub record LinksAreQuiet {D F : Type 0} (disk_moves : D → (c : DiskCall) → DiskAnswer c → D → Type 0) (moves : F → (c : FabricCall) → FabricAnswer c → F → Type 0) (lenders : ℕ) (w : WorldOf D F) : Type 0 where
+pub record LinksAreQuiet {D F : Type 0} (disk_moves : D → (c : DiskCall) → DiskAnswer c → D → Type 0)
+    (moves : F → (c : FabricCall) → FabricAnswer c → F → Type 0) (lenders : ℕ) (w : WorldOf D F) : Type 0 where
   pub before : WorldOf D F
   pub acts : List Act
   pub are : AreQuiet lenders acts
   pub makes : Makes disk_moves moves acts before w
 
 -- so of one lender
-pub record LinkIsQuiet {D F : Type 0} (disk_moves : D → (c : DiskCall) → DiskAnswer c → D → Type 0) (moves : F → (c : FabricCall) → FabricAnswer c → F → Type 0) (n : ℕ) (before w : WorldOf D F) : Type 0 where
+pub record LinkIsQuiet {D F : Type 0} (disk_moves : D → (c : DiskCall) → DiskAnswer c → D → Type 0)
+    (moves : F → (c : FabricCall) → FabricAnswer c → F → Type 0) (n : ℕ) (before w : WorldOf D F) : Type 0 where
   pub page : List ℕ
   pub gave : Seen
   pub gave_nothing : has_effect (event.Give (record { 0 = n })) gave ≡ false
@@ -49,8 +53,11 @@ pub record WriteFailed (log : List (Event × Seen)) : Type 0 where
   pub failed : is_write_failed line.1 ≡ true
 
 -- the queue is empty and the links are quiet, or a disk write failed
-abbrev pub Settles : {D F : Type 0} → (D → (c : DiskCall) → DiskAnswer c → D → Type 0) → (F → (c : FabricCall) → FabricAnswer c → F → Type 0) → ℕ → WorldOf D F → Type 0
-Settles disk_moves moves lenders w = ((copies w.core.device.queue ≡ 0) × LinksAreQuiet disk_moves moves lenders w) ⊎ WriteFailed w.log
+abbrev pub Settles :
+    {D F : Type 0} → (D → (c : DiskCall) → DiskAnswer c → D → Type 0)
+    → (F → (c : FabricCall) → FabricAnswer c → F → Type 0) → ℕ → WorldOf D F → Type 0
+Settles disk_moves moves lenders w =
+    ((copies w.core.device.queue ≡ 0) × LinksAreQuiet disk_moves moves lenders w) ⊎ WriteFailed w.log
 
 -- a board whose world went on with its history as it was, and of which nothing else changed
 pub record KeepsHistory {D F : Type 0} (b b' : BoardOf D F) : Type 0 where

@@ -96,7 +96,8 @@ fn play_caller<D: DiskPort + Drop, F: Fabric + Drop, N: Naming<D, F>, G: Gate, R
     requires pass { IsFreeOf swap.now pass.old }
     requires caller { pass.old.number < N.named.sizes.callers }
     ensures pass { IsFreeOf swap.now pass.new × (pass.new.number ≡ pass.old.number) }
-    ensures plays { result ≡ true → Plays (calls_in (caller pass.old.number) trace.now).inputs pass.old.mine pass.new.mine }
+    ensures plays { result ≡ true
+        → Plays (calls_in (caller pass.old.number) trace.now).inputs pass.old.mine pass.new.mine }
 {
     let page_bytes = trace.script().geometry().page_bytes();
     let Ok(mut page) = vec![in alloc; 0u8; page_bytes as usize] else {
@@ -125,7 +126,8 @@ fn operate_all<D: DiskPort + Drop, F: Fabric + Drop, N: Naming<D, F>, R: Wait>(
     unreachable!()
 }
 
-// A pump's thread at the disk, or at a lender's link: it works until no caller, and no operator, is busy.
+// A pump's thread at the disk, or at a lender's link: it works until no caller, and no operator, is
+// busy.
 fn pump_while_busy<D: DiskPort + Drop, F: Fabric + Drop, N: Naming<D, F>, G: Gate, R: Wait>(
     rt: &R,
     swap: &Swap<D, F, N>,
@@ -149,9 +151,11 @@ fn pump_while_busy<D: DiskPort + Drop, F: Fabric + Drop, N: Naming<D, F>, G: Gat
     unreachable!()
 }
 
-// Where the pump of a seat stands: the first behind the callers and the operator at the disk, and the others at a lender's link.
+// Where the pump of a seat stands: the first behind the callers and the operator at the disk, and
+// the others at a lender's link.
 fn points_of(seat: u32) -> (Point, Point)
-    ensures { (lenders : ℕ) → seat < lenders + 1 → IsPoint lenders result.0 × IsPoint lenders result.1 }
+    ensures { (lenders : ℕ) → seat < lenders + 1
+        → IsPoint lenders result.0 × IsPoint lenders result.1 }
 {
     if seat == 0 {
         (Point::Disk, Point::Disk)
@@ -161,8 +165,8 @@ fn points_of(seat: u32) -> (Point, Point)
     }
 }
 
-// A seat's thread. The seats of the callers come first, then the operator's, the disk's and each lender's. The answer tells
-// whether all that the seat is for was made.
+// A seat's thread. The seats of the callers come first, then the operator's, the disk's and each
+// lender's. The answer tells whether all that the seat is for was made.
 fn play_seat<D: DiskPort + Drop, F: Fabric + Drop, N: Naming<D, F>, G: Gate, R: Wait>(
     rt: &R,
     alloc: Global,
@@ -199,8 +203,8 @@ fn play_seat<D: DiskPort + Drop, F: Fabric + Drop, N: Naming<D, F>, G: Gate, R: 
     (pass, true)
 }
 
-// What a seat counts as while it is under way to its thread, and there: busy, where it is a caller's or the operator's. So
-// a pump waits for no seat that is let go for want of memory.
+// What a seat counts as while it is under way to its thread, and there: busy, where it is a
+// caller's or the operator's. So a pump waits for no seat that is let go for want of memory.
 struct Ticket<'a> {
     busy: Option<&'a AtomicU32>,
 }
@@ -253,9 +257,14 @@ pub(crate) fn play_seats<
 ) -> Option<Vec<(Pass, bool)>>
     requires sizes { trace.now.sizes ≡ N.named.sizes }
     requires lenders { length trace.now.lenders ≡ N.named.lenders }
-    requires passes { All (λ p. IsFreeOf swap.now p × (p.number < N.named.sizes.callers + N.named.lenders + 2)) passes.items }
+    requires passes { All
+        (λ p. IsFreeOf swap.now p × (p.number < N.named.sizes.callers + N.named.lenders + 2))
+        passes.items }
     ensures len { IfSome result (λ v. vec_len v ≡ vec_len passes) }
-    ensures each { IfSome result (λ v. (i : ℕ) (d : _) (e : _) → i < vec_len passes → IsOver swap.now trace.now (slice_index_or passes.items i e) (slice_index_or v.items i d)) }
+    ensures each { IfSome result
+        (λ v. (i : ℕ) (d : _) (e : _) → i < vec_len passes
+        → IsOver swap.now trace.now (slice_index_or passes.items i e)
+        (slice_index_or v.items i d)) }
 {
     let callers = trace.script().geometry().callers();
     let busy = AtomicU32::new(callers + 1);
@@ -266,7 +275,10 @@ pub(crate) fn play_seats<
         rt,
         seats,
         &|seat: (Pass, Ticket<'_>)| -> (Pass, bool)
-            requires { IsFreeOf swap.now seat.0 × (seat.0.number < N.named.sizes.callers + N.named.lenders + 2) × (trace.now.sizes ≡ N.named.sizes) × (length trace.now.lenders ≡ N.named.lenders) }
+            requires { IsFreeOf swap.now seat.0
+                × (seat.0.number < N.named.sizes.callers + N.named.lenders + 2)
+                × (trace.now.sizes ≡ N.named.sizes)
+                × (length trace.now.lenders ≡ N.named.lenders) }
             ensures { IsOver swap.entry.now trace.entry.now seat.entry.0 result }
         {
             let (pass, ticket) = seat;

@@ -32,7 +32,8 @@ pub(crate) fn connect_all<D: DiskPort, F: Fabric>(
     page: &mut [u8],
 ) -> Result<(), NoMemory>
     requires page { length page.old ≡ world.old.core.device.sizes.page_bytes }
-    ensures { OnOk result (Connects D.moves F.moves world.old.core.device.lenders world.old world.new) }
+    ensures { OnOk result
+        (Connects D.moves F.moves world.old.core.device.lenders world.old world.new) }
 {
     let lenders = world.lenders();
     'links: for lender in 0..lenders {

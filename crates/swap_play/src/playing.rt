@@ -37,7 +37,8 @@ fn operators_of(alloc: Global, trace: &Trace<'_>, page: &mut [u8]) -> Result<Vec
     requires trace { IsTrace trace.now }
     requires page { length page.old ≡ trace.now.sizes.page_bytes }
     ensures events { IfOk result (λ v. v.items ≡ events_of (operators_in trace.now).inputs) }
-    ensures theirs { IfOk result (λ v. AreOperators trace.now.sizes (length trace.now.lenders) v.items) }
+    ensures theirs { IfOk result
+        (λ v. AreOperators trace.now.sizes (length trace.now.lenders) v.items) }
 {
     traces_are_whole();
     let mut walk = trace.operator();
@@ -83,7 +84,8 @@ fn log_tells<D: DiskPort, F: Fabric>(world: &World<D, F>)
 
 // Whether all of the operator's events were made; else the next is made.
 fn has_ended<D: DiskPort, F: Fabric, N: Naming<D, F>>(board: &mut Board<D, F, N>) -> bool
-    ensures ended { result ≡ true → (board.old.made ≡ length N.named.operator) × (board.new ≡ board.old) }
+    ensures ended { result ≡ true
+        → (board.old.made ≡ length N.named.operator) × (board.new ≡ board.old) }
     ensures history { board.new.world.core.device.history ≡ board.old.world.core.device.history }
 {
     match board.operate() {
@@ -92,8 +94,8 @@ fn has_ended<D: DiskPort, F: Fabric, N: Naming<D, F>>(board: &mut Board<D, F, N>
     }
 }
 
-// Ends a board whose threads have all come back. Where something is left that had to be made, which no code leads to, that
-// counts as want of memory.
+// Ends a board whose threads have all come back. Where something is left that had to be made, which
+// no code leads to, that counts as want of memory.
 fn end_board<D: DiskPort + Drop, F: Fabric + Drop, N: Naming<D, F>, R: Wait>(
     rt: &R,
     mut board: Board<D, F, N>,
@@ -159,7 +161,15 @@ fn play_named<
     number: u64,
     gate: &G,
 ) -> Result<World<D, F>, NoMemory>
-    requires named { N.named ≡ record { opening = Some world; sizes = world.core.device.sizes; lenders = world.core.device.lenders; operator = operator.items; calls = calls_of trace.now.inputs; number = number } }
+    requires named { N.named
+        ≡ record {
+          opening = Some world;
+          sizes = world.core.device.sizes;
+          lenders = world.core.device.lenders;
+          operator = operator.items;
+          calls = calls_of trace.now.inputs;
+          number = number;
+        } }
     requires idle { busy_callers world.core.device ≡ 0 }
     requires empty { world.core.device.history ≡ [] }
     requires sizes { world.core.device.sizes ≡ trace.now.sizes }
@@ -178,9 +188,10 @@ fn play_named<
     end_board(rt, board)
 }
 
-/// Plays a trace in a world that nothing happened in. Each lender is connected; then each caller runs in a thread of its
-/// own, beside a pump at the disk, one at each lender's link and the operator, as far as threads can be made; and at last
-/// the queue and the links are emptied, or a disk write failed. The Rounds that pace the calls are drawn from `number`.
+/// Plays a trace in a world that nothing happened in. Each lender is connected; then each caller
+/// runs in a thread of its own, beside a pump at the disk, one at each lender's link and the
+/// operator, as far as threads can be made; and at last the queue and the links are emptied, or a
+/// disk write failed. The Rounds that pace the calls are drawn from `number`.
 ///
 /// It waits: its promise holds if it returns.
 pub fn play<D: DiskPort + Drop + Send, F: Fabric + Drop + Send, G: Gate, R: Threads + Wait + Sync>(

@@ -1,4 +1,5 @@
-// How a trace ends, when its threads have: what is left in the queue and on the links goes where it has to.
+// How a trace ends, when its threads have: what is left in the queue and on the links goes where it
+// has to.
 ghost use Rattle.std.specs.Prelude.{◌≡◌, ◌<◌, Ok, OnOk, false, true};
 ghost use Rattle.swap_board.specs.Boards.{BoardOf};
 ghost use Rattle.swap_board.specs.Works.{IsPoint, PumpsAs};
@@ -43,7 +44,8 @@ fn work<D: DiskPort, F: Fabric, N: Naming<D, F>>(
 ) -> Result<bool, NoMemory>
     requires { IsPoint N.named.lenders point }
     ensures keeps { KeepsHistory board.old board.new }
-    ensures nothing { result ≡ Ok false → PumpsAs D.moves F.moves D.means point Moved.Nothing board.old.world board.new.world }
+    ensures nothing { result ≡ Ok false
+        → PumpsAs D.moves F.moves D.means point Moved.Nothing board.old.world board.new.world }
 {
     match board.pump(point) {
         Moved::Did => Ok(true),
@@ -59,7 +61,8 @@ fn is_quiet_at<D: DiskPort, F: Fabric, N: Naming<D, F>>(
 ) -> Result<bool, NoMemory>
     requires { lender.0 < N.named.lenders }
     ensures keeps { KeepsHistory board.old board.new }
-    ensures quiet { result ≡ Ok true → LinkIsQuiet D.moves F.moves lender.0 board.old.world board.new.world }
+    ensures quiet { result ≡ Ok true
+        → LinkIsQuiet D.moves F.moves lender.0 board.old.world board.new.world }
 {
     let gave = work(board, Point::Give(lender))?;
     let took = work(board, Point::Take(lender))?;
@@ -71,7 +74,8 @@ fn are_quiet<D: DiskPort, F: Fabric, N: Naming<D, F>>(
     board: &mut Board<D, F, N>,
 ) -> Result<bool, NoMemory>
     ensures keeps { KeepsHistory board.old board.new }
-    ensures quiet { result ≡ Ok true → LinksAreQuiet D.moves F.moves N.named.lenders board.new.world }
+    ensures quiet { result ≡ Ok true
+        → LinksAreQuiet D.moves F.moves N.named.lenders board.new.world }
 {
     board.is_named();
     let lenders = board.world().lenders();
@@ -83,7 +87,8 @@ fn are_quiet<D: DiskPort, F: Fabric, N: Naming<D, F>>(
     Ok(quiet)
 }
 
-/// Works at the disk and at each link until the queue is empty and the links are quiet, or a disk write failed.
+/// Works at the disk and at each link until the queue is empty and the links are quiet, or a disk
+/// write failed.
 pub(crate) fn settle<D: DiskPort, F: Fabric, N: Naming<D, F>, R: Wait>(
     rt: &R,
     board: &mut Board<D, F, N>,

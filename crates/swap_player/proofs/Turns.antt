@@ -24,15 +24,23 @@ answers_own e page row a = absurd a
 
 one_extends : (e : Event) (page : List ℕ) (ended : Ended) (H now : History) → AddsOne e page ended H now → Extends (caller_of e).0 H now
 one_extends e page ended H now a =
-    record { added = a.row ∷ []; whole = sym a.grown; own = All-cons (λ (row : Row). row.entry.caller.0 ≡ (caller_of e).0) a.row [] (ap (λ (x : Caller). x.0) (answers_own e page a.row a.answers)) (All-nil _) }
+    record {
+      added = a.row ∷ [];
+      whole = sym a.grown;
+      own = All-cons (λ (row : Row). row.entry.caller.0 ≡ (caller_of e).0) a.row [] (ap (λ (x : Caller). x.0) (answers_own e page a.row a.answers)) (All-nil _);
+    }
 
-by_extends : (calls callers : ℕ) (e : Event) (page : List ℕ) (ended : Ended) (answer : Result EntryNo SwapFault) (H now : History) → EndsBy calls callers e page ended answer H now → Extends (caller_of e).0 H now
+by_extends :
+    (calls callers : ℕ) (e : Event) (page : List ℕ) (ended : Ended) (answer : Result EntryNo SwapFault) (H now : History)
+    → EndsBy calls callers e page ended answer H now → Extends (caller_of e).0 H now
 by_extends calls callers e page ended (Ok k) H now a = one_extends e page ended H now a
 by_extends calls callers e page ended (Err (fault.Disk k since at)) H now a = one_extends e page ended H now a
 by_extends calls callers e page ended (Err fault.Spent) H now a = none_extends (caller_of e).0 H now a.0
 by_extends calls callers e page ended (Err fault.NoMemory) H now a = none_extends (caller_of e).0 H now a
 
-pub ends_extends : (calls callers : ℕ) (e : Event) (page : List ℕ) (ended : Option Ended) (H now : History) → Ends calls callers e page ended H now → Extends (caller_of e).0 H now
+pub ends_extends :
+    (calls callers : ℕ) (e : Event) (page : List ℕ) (ended : Option Ended) (H now : History) → Ends calls callers e page ended H now
+    → Extends (caller_of e).0 H now
 ends_extends calls callers e page None H now same = none_extends (caller_of e).0 H now same
 ends_extends calls callers e page (Some ended) H now ends = by_extends calls callers e page ended ended.answer H now ends
 
@@ -42,7 +50,9 @@ added_one n row H = let one : suc n - n ≡ 1 = omega arith in ap (λ m. take m 
 added_none : (n : ℕ) (H : History) → take (n - n) H ≡ []
 added_none n H = let none : n - n ≡ 0 = omega arith in ap (λ m. take m H) none
 
-one_turned : (e : Event) (page : List ℕ) (ended : Ended) (p h q : Standing) (now : History) → IsEarlier p.seen h.seen → h.mine ≡ p.mine → q ≡ after_turn h now → AddsOne e page ended h.seen now → Answered e page ended p q
+one_turned :
+    (e : Event) (page : List ℕ) (ended : Ended) (p h q : Standing) (now : History) → IsEarlier p.seen h.seen → h.mine ≡ p.mine → q ≡ after_turn h now
+    → AddsOne e page ended h.seen now → Answered e page ended p q
 one_turned e page ended p h q now earlier mine is a = record {
   row = a.row;
   earlier = h.seen;
@@ -63,19 +73,25 @@ none_turned p h q now earlier mine is same =
       ap (λ (x : Standing). x.mine) is ∙ ap (λ l. l ++ h.mine) added ∙ mine,
     )
 
-by_turned : (calls callers : ℕ) (e : Event) (page : List ℕ) (ended : Ended) (answer : Result EntryNo SwapFault) (p h q : Standing) (now : History) → IsEarlier p.seen h.seen → h.mine ≡ p.mine → q ≡ after_turn h now → EndsBy calls callers e page ended answer h.seen now
+by_turned :
+    (calls callers : ℕ) (e : Event) (page : List ℕ) (ended : Ended) (answer : Result EntryNo SwapFault) (p h q : Standing) (now : History)
+    → IsEarlier p.seen h.seen → h.mine ≡ p.mine → q ≡ after_turn h now → EndsBy calls callers e page ended answer h.seen now
     → PagesBy calls callers e page ended answer p q
 by_turned calls callers e page ended (Ok k) p h q now earlier mine is a = one_turned e page ended p h q now earlier mine is a
 by_turned calls callers e page ended (Err (fault.Disk k since at)) p h q now earlier mine is a = one_turned e page ended p h q now earlier mine is a
-by_turned calls callers e page ended (Err fault.Spent) p h q now earlier mine is a = (none_turned p h q now earlier mine is a.0, subst (IsSpent calls callers) (sym (ap (λ (x : Standing). x.seen) is)) a.1)
+by_turned calls callers e page ended (Err fault.Spent) p h q now earlier mine is a =
+    (none_turned p h q now earlier mine is a.0, subst (IsSpent calls callers) (sym (ap (λ (x : Standing). x.seen) is)) a.1)
 by_turned calls callers e page ended (Err fault.NoMemory) p h q now earlier mine is a = none_turned p h q now earlier mine is a
 
-pub turns : (calls callers : ℕ) (e : Event) (page : List ℕ) (ended : Option Ended) (p h q : Standing) (now : History) → IsEarlier p.seen h.seen → h.mine ≡ p.mine → q ≡ after_turn h now → Ends calls callers e page ended h.seen now → Turns calls callers e page ended p q
+pub turns :
+    (calls callers : ℕ) (e : Event) (page : List ℕ) (ended : Option Ended) (p h q : Standing) (now : History) → IsEarlier p.seen h.seen → h.mine ≡ p.mine
+    → q ≡ after_turn h now → Ends calls callers e page ended h.seen now → Turns calls callers e page ended p q
 turns calls callers e page None p h q now earlier mine is same = none_turned p h q now earlier mine is same
 turns calls callers e page (Some ended) p h q now earlier mine is ends = by_turned calls callers e page ended ended.answer p h q now earlier mine is ends
 
 earlier_still : (before now later : History) → IsEarlier before now → IsEarlier now later → IsEarlier before later
-earlier_still before now later a b = record { later = b.later ++ a.later; whole = append_assoc b.later a.later before ∙ ap (λ l. b.later ++ l) a.whole ∙ b.whole }
+earlier_still before now later a b =
+    record { later = b.later ++ a.later; whole = append_assoc b.later a.later before ∙ ap (λ l. b.later ++ l) a.whole ∙ b.whole }
 
 pub looked_still : (p q r : Standing) → Looked p q → Looked q r → Looked p r
 looked_still p q r first later = (earlier_still p.seen q.seen r.seen first.0 later.0, later.1 ∙ first.1)
@@ -94,12 +110,16 @@ answered_after e page ended p q r first a = record {
   mine = a.mine ∙ ap (λ l. a.row ∷ l) first.1;
 }
 
-pages_after : (calls callers : ℕ) (e : Event) (page : List ℕ) (ended : Ended) (answer : Result EntryNo SwapFault) (p q r : Standing) → Looked p q → PagesBy calls callers e page ended answer q r → PagesBy calls callers e page ended answer p r
+pages_after :
+    (calls callers : ℕ) (e : Event) (page : List ℕ) (ended : Ended) (answer : Result EntryNo SwapFault) (p q r : Standing) → Looked p q
+    → PagesBy calls callers e page ended answer q r → PagesBy calls callers e page ended answer p r
 pages_after calls callers e page ended (Ok k) p q r first a = answered_after e page ended p q r first a
 pages_after calls callers e page ended (Err (fault.Disk k since at)) p q r first a = answered_after e page ended p q r first a
 pages_after calls callers e page ended (Err fault.Spent) p q r first a = (looked_still p q r first a.0, a.1)
 pages_after calls callers e page ended (Err fault.NoMemory) p q r first a = looked_still p q r first a
 
-pub turns_after : (calls callers : ℕ) (e : Event) (page : List ℕ) (ended : Option Ended) (p q r : Standing) → Looked p q → Turns calls callers e page ended q r → Turns calls callers e page ended p r
+pub turns_after :
+    (calls callers : ℕ) (e : Event) (page : List ℕ) (ended : Option Ended) (p q r : Standing) → Looked p q → Turns calls callers e page ended q r
+    → Turns calls callers e page ended p r
 turns_after calls callers e page None p q r first a = looked_still p q r first a
 turns_after calls callers e page (Some ended) p q r first a = pages_after calls callers e page ended ended.answer p q r first a

@@ -25,7 +25,8 @@ pub record PumpedBy {D F : Type 0} (disk_moves : D → (c : DiskCall) → DiskAn
 
 -- so by its answer; where the gate held it there was no turn, and the pass is as it was
 abbrev pub PumpedAs : {D F T : Type 0} → (D → (c : DiskCall) → DiskAnswer c → D → Type 0)
-    → (F → (c : FabricCall) → FabricAnswer c → F → Type 0) → (D → Port) → Point → Pumped T → Standing → Standing → Type 0
+    → (F → (c : FabricCall) → FabricAnswer c → F → Type 0) → (D → Port) → Point → Pumped T → Standing → Standing
+    → Type 0
 PumpedAs disk_moves moves means point pumped.Did p q = PumpedBy disk_moves moves means point moved.Did q
 PumpedAs disk_moves moves means point pumped.Nothing p q = PumpedBy disk_moves moves means point moved.Nothing q
 PumpedAs disk_moves moves means point (pumped.Held why) p q = q ≡ p

@@ -40,7 +40,9 @@ ended_without why = record { answer = Err why; number = 0 }
 
 -- how a call ended, by what was seen of its step
 abbrev pub IsEnded : History → Seen → Option Ended → Type 0
-IsEnded H s ended = MatchOption (entry_seen s) (ended ≡ None) (λ (k : EntryNo). (row : Row) × (named H k.0 ≡ Some row) × (ended ≡ Some (ended_of k row.entry)))
+IsEnded H s ended =
+    MatchOption (entry_seen s) (ended ≡ None)
+    (λ (k : EntryNo). (row : Row) × (named H k.0 ≡ Some row) × (ended ≡ Some (ended_of k row.entry)))
 
 -- the caller of a call
 abbrev pub caller_of : Event → Caller
@@ -51,7 +53,10 @@ caller_of _ = record { 0 = 0 }
 -- a call that waits is this one: a page-out of this page with these bytes, or a page-in of this page
 abbrev pub IsOpen : Event → List ℕ → Call → Type 0
 IsOpen (event.PageOut c p) page call = (since : ℕ) × (call.state ≡ Room p since) × (call.bytes ≡ page)
-IsOpen (event.PageIn c p) page call = (newest : EntryNo) × ((via : Via) × ((how : Arrived) × ((newer : Bool) × ((since : ℕ) × (call.state ≡ Reading p newest via how newer since)))))
+IsOpen (event.PageIn c p) page call =
+    (newest : EntryNo)
+    × ((via : Via)
+    × ((how : Arrived) × ((newer : Bool) × ((since : ℕ) × (call.state ≡ Reading p newest via how newer since)))))
 IsOpen _ page call = ⊥
 
 -- the history has this call's entry more, which the answer names
@@ -66,7 +71,8 @@ abbrev pub IsSpent : ℕ → ℕ → History → Type 0
 IsSpent calls callers H = calls < length H + callers
 
 abbrev pub IsSpentAs : ℕ → ℕ → History → Ended → Type 0
-IsSpentAs calls callers H ended = (ended ≡ ended_without fault.NoMemory) ⊎ ((ended ≡ ended_without fault.Spent) × IsSpent calls callers H)
+IsSpentAs calls callers H ended =
+    (ended ≡ ended_without fault.NoMemory) ⊎ ((ended ≡ ended_without fault.Spent) × IsSpent calls callers H)
 
 -- what a turn of a call does to the history
 abbrev pub EndsBy : ℕ → ℕ → Event → List ℕ → Ended → Result EntryNo SwapFault → History → History → Type 0
@@ -104,7 +110,8 @@ abbrev pub Pages : ℕ → ℕ → Event → List ℕ → Ended → Standing →
 Pages calls callers e page ended p q = PagesBy calls callers e page ended ended.answer p q
 
 -- so of its answer alone
-pub record PagesAs (calls callers : ℕ) (e : Event) (page : List ℕ) (answer : Result EntryNo SwapFault) (p q : Standing) : Type 0 where
+pub record PagesAs (calls callers : ℕ) (e : Event) (page : List ℕ) (answer : Result EntryNo SwapFault)
+    (p q : Standing) : Type 0 where
   pub ended : Ended
   pub is : answer ≡ ended.answer
   pub pages : Pages calls callers e page ended p q
@@ -124,7 +131,8 @@ Gives None H before given = given ≡ before
 Gives (Some ended) H before given = GivesBy ended.answer H before given
 
 -- a world that was under the lock: acts led to it from the one that was handed in
-pub record IsPlayed {D F : Type 0} (disk_moves : D → (c : DiskCall) → DiskAnswer c → D → Type 0) (moves : F → (c : FabricCall) → FabricAnswer c → F → Type 0) (n : Named D F) (w : WorldOf D F) : Type 0 where
+pub record IsPlayed {D F : Type 0} (disk_moves : D → (c : DiskCall) → DiskAnswer c → D → Type 0)
+    (moves : F → (c : FabricCall) → FabricAnswer c → F → Type 0) (n : Named D F) (w : WorldOf D F) : Type 0 where
   pub board : BoardOf D F
   pub world : w ≡ board.world
   pub played : WasPlayed disk_moves moves n board

@@ -100,7 +100,8 @@ fn caller_of(event: &Event) -> Caller
 fn is_open<D: DiskPort, F: Fabric>(device: &DeviceCore<D, F>, event: &Event, page: &[u8]) -> bool
     requires call { IsCall event.now }
     requires caller { (caller_of event.now).0 < device.now.device.sizes.callers }
-    ensures { result ≡ true → IsOpen event.now page.now (call_of device.now.device.calls (caller_of event.now)) }
+    ensures { result ≡ true
+        → IsOpen event.now page.now (call_of device.now.device.calls (caller_of event.now)) }
 {
     let caller = caller_of(event);
     match (*event, device.state(caller)) {
@@ -116,7 +117,8 @@ fn is_open<D: DiskPort, F: Fabric>(device: &DeviceCore<D, F>, event: &Event, pag
 
 // All calls were begun before: each but those under way has its entry.
 fn spent<D: DiskPort, F: Fabric, N: Naming<D, F>>(board: &Board<D, F, N>) -> Ended
-    ensures { IsSpentAs N.named.calls N.named.sizes.callers board.now.world.core.device.history result }
+    ensures { IsSpentAs N.named.calls N.named.sizes.callers board.now.world.core.device.history
+        result }
 {
     board.is_named();
     let device = board.world().device();
@@ -138,7 +140,8 @@ fn begin<D: DiskPort, F: Fabric, N: Naming<D, F>>(
     requires call { IsCall event.now }
     requires range { IsInRange N.named.sizes N.named.lenders event.now }
     requires page { length page.old ≡ N.named.sizes.page_bytes }
-    ensures ends { Ends N.named.calls N.named.sizes.callers event.now page.old result board.old.world.core.device.history board.new.world.core.device.history }
+    ensures ends { Ends N.named.calls N.named.sizes.callers event.now page.old result
+        board.old.world.core.device.history board.new.world.core.device.history }
     ensures gives { Gives result board.new.world.core.device.history page.old page.new }
 {
     board.is_named();
@@ -152,7 +155,8 @@ fn begin<D: DiskPort, F: Fabric, N: Naming<D, F>>(
     }
 }
 
-// A later step of a call. Where its caller's call is another one, which no other code makes, the answer is `NoMemory`.
+// A later step of a call. Where its caller's call is another one, which no other code makes, the
+// answer is `NoMemory`.
 fn go_on<D: DiskPort, F: Fabric, N: Naming<D, F>>(
     board: &mut Board<D, F, N>,
     event: &Event,
@@ -161,7 +165,8 @@ fn go_on<D: DiskPort, F: Fabric, N: Naming<D, F>>(
     requires call { IsCall event.now }
     requires range { IsInRange N.named.sizes N.named.lenders event.now }
     requires page { length page.old ≡ N.named.sizes.page_bytes }
-    ensures ends { Ends N.named.calls N.named.sizes.callers event.now page.old result board.old.world.core.device.history board.new.world.core.device.history }
+    ensures ends { Ends N.named.calls N.named.sizes.callers event.now page.old result
+        board.old.world.core.device.history board.new.world.core.device.history }
     ensures gives { Gives result board.new.world.core.device.history page.old page.new }
 {
     board.is_named();
@@ -184,7 +189,8 @@ fn step<D: DiskPort, F: Fabric, N: Naming<D, F>>(
     requires call { IsCall event.now }
     requires range { IsInRange N.named.sizes N.named.lenders event.now }
     requires page { length page.old ≡ N.named.sizes.page_bytes }
-    ensures ends { Ends N.named.calls N.named.sizes.callers event.now page.old result board.old.world.core.device.history board.new.world.core.device.history }
+    ensures ends { Ends N.named.calls N.named.sizes.callers event.now page.old result
+        board.old.world.core.device.history board.new.world.core.device.history }
     ensures gives { Gives result board.new.world.core.device.history page.old page.new }
 {
     if is_first {
@@ -214,7 +220,8 @@ fn take_step<D: DiskPort, F: Fabric, N: Naming<D, F>>(
     requires call { IsCall event.now }
     requires range { IsInRange N.named.sizes N.named.lenders event.now }
     requires page { length page.old ≡ N.named.sizes.page_bytes }
-    ensures ends { Ends N.named.calls N.named.sizes.callers event.now page.old result board.old.world.core.device.history board.new.world.core.device.history }
+    ensures ends { Ends N.named.calls N.named.sizes.callers event.now page.old result
+        board.old.world.core.device.history board.new.world.core.device.history }
     ensures gives { Gives result board.new.world.core.device.history page.old page.new }
     ensures well { IsWell D.DiskPort F.Fabric N.named.sizes board.new.world.core.device.history }
 {
@@ -238,7 +245,8 @@ pub(crate) fn turn<D: DiskPort + Drop, F: Fabric + Drop, N: Naming<D, F>, R: Wai
     requires range { IsInRange N.named.sizes N.named.lenders event.now }
     requires page { length page.old ≡ N.named.sizes.page_bytes }
     ensures pass { IsFreeOf lock.now pass.new × (pass.new.number ≡ pass.old.number) }
-    ensures turns { Turns N.named.calls N.named.sizes.callers event.now page.old result pass.old pass.new }
+    ensures turns { Turns N.named.calls N.named.sizes.callers event.now page.old result pass.old
+        pass.new }
     ensures gives { Gives result pass.new.seen page.old page.new }
     ensures well { IsWell D.DiskPort F.Fabric N.named.sizes pass.new.seen }
 {

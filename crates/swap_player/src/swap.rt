@@ -75,7 +75,8 @@ impl<D: DiskPort + Drop, F: Fabric + Drop, N: Naming<D, F>> Swap<D, F, N> {
         moved
     }
 
-    /// One turn of a pump, where the gate lets it pass. `Held` has the gate's own `No`, and the pass is as it was then.
+    /// One turn of a pump, where the gate lets it pass. `Held` has the gate's own `No`, and the
+    /// pass is as it was then.
     /// `Nothing` comes exactly where the point had no effect on the world in that turn.
     pub fn pump<G: Gate, R: Wait>(
         &self,
@@ -100,8 +101,8 @@ impl<D: DiskPort + Drop, F: Fabric + Drop, N: Naming<D, F>> Swap<D, F, N> {
         }
     }
 
-    /// The operator's next event, in a turn. `Ended` comes exactly where all were made before that turn, `Nothing` exactly
-    /// where the event had no effect; it counts as made then too.
+    /// The operator's next event, in a turn. `Ended` comes exactly where all were made before that
+    /// turn, `Nothing` exactly where the event had no effect; it counts as made then too.
     pub fn operate<R: Wait>(&self, rt: &R, pass: &mut Pass) -> Operated
         requires pass { IsFreeOf self.now pass.old }
         ensures pass { IsFreeOf self.now pass.new × (pass.new.number ≡ pass.old.number) }
@@ -143,7 +144,8 @@ impl<D: DiskPort + Drop, F: Fabric + Drop, N: Naming<D, F>> Swap<D, F, N> {
         requires range { IsInRange N.named.sizes N.named.lenders event.now }
         requires page { length page.old ≡ N.named.sizes.page_bytes }
         ensures pass { IsFreeOf self.now pass.new × (pass.new.number ≡ pass.old.number) }
-        ensures pages { Pages N.named.calls N.named.sizes.callers event.now page.old result pass.old pass.new }
+        ensures pages { Pages N.named.calls N.named.sizes.callers event.now page.old result
+            pass.old pass.new }
         ensures gives { GivesBy result.answer pass.new.seen page.old page.new }
         ensures well { IsWellBy D.DiskPort F.Fabric N.named.sizes result.answer pass.new.seen }
     {
@@ -159,7 +161,8 @@ impl<D: DiskPort + Drop, F: Fabric + Drop, N: Naming<D, F>> Swap<D, F, N> {
         unreachable!()
     }
 
-    /// Pages in. On `Ok`, and on `Disk`, the pass has this call's entry more, the last that it has seen.
+    /// Pages in. On `Ok`, and on `Disk`, the pass has this call's entry more, the last that it has
+    /// seen.
     pub fn page_in<G: Gate, R: Wait>(
         &self,
         rt: &R,
@@ -173,7 +176,8 @@ impl<D: DiskPort + Drop, F: Fabric + Drop, N: Naming<D, F>> Swap<D, F, N> {
         requires page { page.0 < pages_of N.named.sizes }
         requires buf { length buf.old ≡ N.named.sizes.page_bytes }
         ensures pass { IsFreeOf self.now pass.new × (pass.new.number ≡ pass.old.number) }
-        ensures pages { PagesAs N.named.calls N.named.sizes.callers (Event.PageIn (record { 0 = pass.old.number }) page) buf.old result pass.old pass.new }
+        ensures pages { PagesAs N.named.calls N.named.sizes.callers
+            (Event.PageIn (record { 0 = pass.old.number }) page) buf.old result pass.old pass.new }
         ensures gives { GivesBy result pass.new.seen buf.old buf.new }
         ensures well { IsWellBy D.DiskPort F.Fabric N.named.sizes result pass.new.seen }
     {
@@ -183,8 +187,8 @@ impl<D: DiskPort + Drop, F: Fabric + Drop, N: Naming<D, F>> Swap<D, F, N> {
         ended.answer
     }
 
-    /// Pages out. On `Ok`, and on `Disk`, the pass has this call's entry more, the last that it has seen, with these
-    /// bytes.
+    /// Pages out. On `Ok`, and on `Disk`, the pass has this call's entry more, the last that it has
+    /// seen, with these bytes.
     pub fn page_out<G: Gate, R: Wait>(
         &self,
         rt: &R,
@@ -199,7 +203,9 @@ impl<D: DiskPort + Drop, F: Fabric + Drop, N: Naming<D, F>> Swap<D, F, N> {
         requires page { page.0 < pages_of N.named.sizes }
         requires bytes { length bytes.now ≡ N.named.sizes.page_bytes }
         ensures pass { IsFreeOf self.now pass.new × (pass.new.number ≡ pass.old.number) }
-        ensures pages { PagesAs N.named.calls N.named.sizes.callers (Event.PageOut (record { 0 = pass.old.number }) page) bytes.now result pass.old pass.new }
+        ensures pages { PagesAs N.named.calls N.named.sizes.callers
+            (Event.PageOut (record { 0 = pass.old.number }) page) bytes.now result pass.old
+            pass.new }
         ensures well { IsWellBy D.DiskPort F.Fabric N.named.sizes result pass.new.seen }
     {
         let Ok(mut buf) = bytes.to_vec(alloc) else {
@@ -224,8 +230,8 @@ impl<D: DiskPort + Drop, F: Fabric + Drop, N: Naming<D, F>> Swap<D, F, N> {
     ghost use Rattle.swap_player.specs.Seen.{IsWellBy};
     ghost use Rattle.swap_player.specs.Turns.{IsPlayed};
 
-    /// A world under its lock, in which every caller is idle, and a pass for each number below `seats`, ascending. Pass c
-    /// below the number of callers is caller c's.
+    /// A world under its lock, in which every caller is idle, and a pass for each number below
+    /// `seats`, ascending. Pass c below the number of callers is caller c's.
     pub fn make(
         alloc: Global,
         world: World<D, F>,
@@ -234,14 +240,26 @@ impl<D: DiskPort + Drop, F: Fabric + Drop, N: Naming<D, F>> Swap<D, F, N> {
         seats: u32,
         number: u64,
     ) -> Result<(Swap<D, F, N>, Vec<Pass>), NoMemory>
-        requires named { N.named ≡ record { opening = Some world; sizes = world.core.device.sizes; lenders = world.core.device.lenders; operator = operator.items; calls = calls; number = number } }
+        requires named { N.named
+            ≡ record {
+              opening = Some world;
+              sizes = world.core.device.sizes;
+              lenders = world.core.device.lenders;
+              operator = operator.items;
+              calls = calls;
+              number = number;
+            } }
         requires idle { busy_callers world.core.device ≡ 0 }
-        requires operator { AreOperators world.core.device.sizes world.core.device.lenders operator.items }
+        requires operator { AreOperators world.core.device.sizes world.core.device.lenders
+            operator.items }
         requires few { length world.core.device.history + calls ≤ 4_194_304 }
         requires seats { (1 ≤ seats) × (seats ≤ 64) × (world.core.device.sizes.callers ≤ seats) }
-        requires callers { All (λ (row : Row). row.entry.caller.0 < seats) world.core.device.history }
+        requires callers { All
+            (λ (row : Row). row.entry.caller.0 < seats) world.core.device.history }
         ensures seats { IfOk result (λ r. r.0.seats ≡ seats) }
-        ensures passes { IfOk result (λ r. r.1.items ≡ map (newcomer r.0 world.core.device.history) (numbers_from 0 seats)) }
+        ensures passes { IfOk result
+            (λ r. r.1.items
+            ≡ map (newcomer r.0 world.core.device.history) (numbers_from 0 seats)) }
         ensures free { IfOk result (λ r. All (IsFreeOf r.0) r.1.items) }
     {
         let lenders = world.lenders();
@@ -257,13 +275,15 @@ impl<D: DiskPort + Drop, F: Fabric + Drop, N: Naming<D, F>> Swap<D, F, N> {
         Ok((swap, passes))
     }
 
-    /// Takes all passes and gives the board. Each pass's entries are those that the board's history has of it. Where a
-    /// pass is missing, all comes back.
+    /// Takes all passes and gives the board. Each pass's entries are those that the board's history
+    /// has of it. Where a pass is missing, all comes back.
     pub fn into_board(self, passes: Vec<Pass>) -> Result<Board<D, F, N>, (Swap<D, F, N>, Vec<Pass>)>
         requires { All (IsFreeOf self) passes.items }
         ensures refused { IsErr result ↔ (length passes.items < self.seats) }
         ensures kept { IfErr result (λ r. (r.0 ≡ self) × (r.1 ≡ passes)) }
-        ensures mine { IfOk result (λ b. All (λ p. p.mine ≡ entries_of p.number b.world.core.device.history) passes.items) }
+        ensures mine { IfOk result
+            (λ b.
+            All (λ p. p.mine ≡ entries_of p.number b.world.core.device.history) passes.items) }
     {
         let Swap {
             lock,
@@ -283,13 +303,14 @@ impl<D: DiskPort + Drop, F: Fabric + Drop, N: Naming<D, F>> Swap<D, F, N> {
         }
     }
 
-    /// Takes all passes and gives the world. Each pass's entries are those that the world's history has of it. Where a
-    /// pass is missing, all comes back.
+    /// Takes all passes and gives the world. Each pass's entries are those that the world's history
+    /// has of it. Where a pass is missing, all comes back.
     pub fn close(self, passes: Vec<Pass>) -> Result<World<D, F>, (Swap<D, F, N>, Vec<Pass>)>
         requires { All (IsFreeOf self) passes.items }
         ensures refused { IsErr result ↔ (length passes.items < self.seats) }
         ensures kept { IfErr result (λ r. (r.0 ≡ self) × (r.1 ≡ passes)) }
-        ensures mine { IfOk result (λ w. All (λ p. p.mine ≡ entries_of p.number w.core.device.history) passes.items) }
+        ensures mine { IfOk result
+            (λ w. All (λ p. p.mine ≡ entries_of p.number w.core.device.history) passes.items) }
         ensures played { IfOk result (λ w. IsPlayed D.moves F.moves N.named w) }
     {
         match self.into_board(passes) {

@@ -23,7 +23,9 @@ pub length-hex : (bytes : List ℕ) → length (hex bytes) ≡ 2 * length bytes
 length-hex [] = refl
 length-hex (b ∷ rest) = omega (arith, length-hex rest)
 
-found_within : (page : List ℕ) (n : ℕ) (b : Bool) (o : Option (List ℕ)) → length (unwrap_or o page) ≤ length page → length (unwrap_or (cond b (Some (take n page)) o) page) ≤ length page
+found_within :
+    (page : List ℕ) (n : ℕ) (b : Bool) (o : Option (List ℕ)) → length (unwrap_or o page) ≤ length page
+    → length (unwrap_or (cond b (Some (take n page)) o) page) ≤ length page
 found_within page n true o h = omega (arith, length-take n page)
 found_within page n false o h = h
 
@@ -33,7 +35,9 @@ piece_within page test (n ∷ ns) = found_within page n (test (take n page)) (fi
 
 -- one more word, and more words
 pub word_more : (line : List ℕ) (words : List (List ℕ)) (word : List ℕ) → (line ++ spaced_after words) ++ 32 ∷ word ≡ line ++ spaced_after (words ++ word ∷ [])
-word_more line words word = append_assoc line (spaced_after words) (32 ∷ word) ∙ ap (λ rest. line ++ rest) (ap (λ rest. spaced_after words ++ 32 ∷ rest) (sym (append-nil word)) ∙ sym (spaced-append words (word ∷ [])))
+word_more line words word =
+    append_assoc line (spaced_after words) (32 ∷ word)
+    ∙ ap (λ rest. line ++ rest) (ap (λ rest. spaced_after words ++ 32 ∷ rest) (sym (append-nil word)) ∙ sym (spaced-append words (word ∷ [])))
 
 pub words_more : (line : List ℕ) (words more : List (List ℕ)) → (line ++ spaced_after words) ++ spaced_after more ≡ line ++ spaced_after (words ++ more)
 words_more line words more = append_assoc line (spaced_after words) (spaced_after more) ∙ ap (λ rest. line ++ rest) (sym (spaced-append words more))
@@ -55,16 +59,20 @@ pub shortest_within : (page : List ℕ) → length (shortest page) ≤ 2 * lengt
 shortest_within page = omega (arith, length-hex (shortest_piece page), piece_within page (λ piece. bytes_eq (repeated (length page) piece) page) lengths)
 
 -- a row by its two parts
-pub row_by_parts : (o : Option Row) (entry : Entry) (bytes : List ℕ) → option_map (λ (row : Row). row.entry) o ≡ Some entry → option_map (λ (row : Row). row.bytes) o ≡ Some bytes → o ≡ Some (record { entry = entry; bytes = bytes })
+pub row_by_parts :
+    (o : Option Row) (entry : Entry) (bytes : List ℕ) → option_map (λ (row : Row). row.entry) o ≡ Some entry
+    → option_map (λ (row : Row). row.bytes) o ≡ Some bytes → o ≡ Some (record { entry = entry; bytes = bytes })
 row_by_parts None entry bytes e b = cc
-row_by_parts (Some row) entry bytes e b = let same_entry : row.entry ≡ entry = cc in let same_bytes : row.bytes ≡ bytes = cc in rw (← same_entry, ← same_bytes) refl
+row_by_parts (Some row) entry bytes e b =
+    let same_entry : row.entry ≡ entry = cc in let same_bytes : row.bytes ≡ bytes = cc in rw (← same_entry, ← same_bytes) refl
 
 -- a u64 has at most twenty digits
 pub digits_within : (n : ℕ) → n < 2 ^ 64 → length (decimal n) ≤ 20
 digits_within n h = length-decimal-le 20 n (omega arith) (omega arith) h
 
 -- a first word, then others
-pub entry_line : (line first a : List ℕ) (words : List (List ℕ)) → ((line ++ first) ++ 32 ∷ a) ++ spaced_after words ≡ line ++ join_with_byte 32 (first ∷ a ∷ words)
+pub entry_line :
+    (line first a : List ℕ) (words : List (List ℕ)) → ((line ++ first) ++ 32 ∷ a) ++ spaced_after words ≡ line ++ join_with_byte 32 (first ∷ a ∷ words)
 entry_line line first a words =
     ap (λ text. text ++ spaced_after words) (one (line ++ first) a)
     ∙ words_more (line ++ first) (a ∷ []) words

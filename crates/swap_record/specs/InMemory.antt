@@ -11,7 +11,8 @@ use Rattle.swap_record.specs.Book.{HasNumbers}
 -- the entries with their pages, the oldest first
 abbrev pub rows_in : ℕ → List Entry → List ℕ → List Row
 rows_in page_bytes [] bytes = []
-rows_in page_bytes (entry ∷ entries) bytes = record { entry = entry; bytes = take page_bytes bytes } ∷ rows_in page_bytes entries (drop page_bytes bytes)
+rows_in page_bytes (entry ∷ entries) bytes =
+    record { entry = entry; bytes = take page_bytes bytes } ∷ rows_in page_bytes entries (drop page_bytes bytes)
 
 abbrev pub history_in : ℕ → List Entry → List ℕ → History
 history_in page_bytes entries bytes = reverse (rows_in page_bytes entries bytes)
@@ -21,7 +22,8 @@ abbrev pub AreCounts : List ℕ → History → Type 0
 AreCounts counts H = (caller : Caller) → caller.0 < 64 → slice_index counts caller.0 ≡ count_of caller H
 
 -- the block has each entry's page, and there is room for what was reserved
-pub record IsKept (page_bytes : ℕ) (entries : Vec Entry Global) (bytes : Vec ℕ Global) (counts : List ℕ) (spare : ℕ) (noted : Option ℕ) : Type 0 where
+pub record IsKept (page_bytes : ℕ) (entries : Vec Entry Global) (bytes : Vec ℕ Global) (counts : List ℕ) (spare : ℕ)
+    (noted : Option ℕ) : Type 0 where
   pub page : page_bytes ≤ 4_096
   pub block : length bytes.items ≡ length entries.items * page_bytes
   pub few : vec_len entries + spare ≤ 4_194_304

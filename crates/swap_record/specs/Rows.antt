@@ -27,7 +27,9 @@ abbrev pub outs : History
 outs = pushed (pushed [] (caller 0) (page 3) PageOut aa) (caller 1) (page 3) PageOut bb
 
 abbrev pub both : History
-both = pushed (pushed outs (caller 0) (page 3) (PageIn (Some (record { 0 = 1 })) origin.Queue) bb) (caller 0) (page 5) (PageIn None origin.Zero) zeros
+both =
+    pushed (pushed outs (caller 0) (page 3) (PageIn (Some (record { 0 = 1 })) origin.Queue) bb) (caller 0) (page 5)
+    (PageIn None origin.Zero) zeros
 
 -- a failed page-out changes nothing
 abbrev pub failed : History
@@ -35,7 +37,9 @@ failed = pushed outs (caller 1) (page 3) (Failed kind.PageOut 0 1) zeros
 
 abbrev pub HistoryRows : Type 0
 HistoryRows =
-    (last [] (page 3) ≡ None) × (last both (page 3) ≡ Some (record { 0 = 1 })) × (last both (page 5) ≡ None) × (array zeros both (page 3) ≡ bb) × (array zeros both (page 5) ≡ zeros) × (count_of (caller 0) both ≡ 3) × (count_of (caller 1) both ≡ 1)
+    (last [] (page 3) ≡ None) × (last both (page 3) ≡ Some (record { 0 = 1 })) × (last both (page 5) ≡ None)
+    × (array zeros both (page 3) ≡ bb) × (array zeros both (page 5) ≡ zeros) × (count_of (caller 0) both ≡ 3)
+    × (count_of (caller 1) both ≡ 1)
     × (option_map (λ (row : Row). row.bytes) (named both 0) ≡ Some aa)
     × (named both 4 ≡ None)
     × (array zeros failed (page 3) ≡ bb)

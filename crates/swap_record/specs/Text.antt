@@ -24,9 +24,12 @@ named_word (Some e) = decimal e.0
 -- an entry: its name, what the call did, and the page
 abbrev pub op_words : ℕ → List ℕ → Op → List (List ℕ)
 op_words page bytes op.PageOut = codes "out" ∷ decimal page ∷ shortest bytes ∷ []
-op_words page bytes (op.PageIn named from) = codes "in" ∷ decimal page ∷ codes "of" ∷ named_word named ∷ origin_words from ++ shortest bytes ∷ []
-op_words page bytes (op.Failed kind.PageOut since at) = codes "fault" ∷ codes "out" ∷ decimal page ∷ decimal since ∷ decimal at ∷ shortest bytes ∷ []
-op_words page bytes (op.Failed kind.PageIn since at) = codes "fault" ∷ codes "in" ∷ decimal page ∷ decimal since ∷ decimal at ∷ []
+op_words page bytes (op.PageIn named from) =
+    codes "in" ∷ decimal page ∷ codes "of" ∷ named_word named ∷ origin_words from ++ shortest bytes ∷ []
+op_words page bytes (op.Failed kind.PageOut since at) =
+    codes "fault" ∷ codes "out" ∷ decimal page ∷ decimal since ∷ decimal at ∷ shortest bytes ∷ []
+op_words page bytes (op.Failed kind.PageIn since at) =
+    codes "fault" ∷ codes "in" ∷ decimal page ∷ decimal since ∷ decimal at ∷ []
 
 abbrev pub row_words : ℕ → Option Row → List (List ℕ)
 row_words n None = []

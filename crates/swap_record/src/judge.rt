@@ -10,7 +10,8 @@ use swap_base::{EntryNo, NoMemory, Origin, Page};
 const MOST_PAGE_BYTES: usize = 4096;
 
 impl Record {
-    /// The first entry that is marked or that makes the history not legal, if one is. It goes over the entries once.
+    /// The first entry that is marked or that makes the history not legal, if one is. It goes over
+    /// the entries once.
     pub fn check(&self, alloc: Global) -> Result<Verdict, NoMemory>
         ensures { IfOk result (Judges self.now) }
     {
@@ -42,8 +43,12 @@ impl Record {
         requires newest { HasNewest newest.now (oldest no.0 self.now.history) }
         requires zeros { zeros.now ≡ replicate self.now.page_bytes 0 }
         requires legal { IsLegalBook self.now (oldest no.0 self.now.history) }
-        ensures right { IsTrue result → (self.now.noted ≡ Some no.0 → ⊥) × IsLegalBook self.now (oldest (suc no.0) self.now.history) }
-        ensures wrong { (result ≡ false) → (self.now.noted ≡ Some no.0) ⊎ (IsLegalBook self.now (oldest (suc no.0) self.now.history) → ⊥) }
+        ensures right { IsTrue result
+            → (self.now.noted ≡ Some no.0 → ⊥)
+            × IsLegalBook self.now (oldest (suc no.0) self.now.history) }
+        ensures wrong { (result ≡ false)
+            → (self.now.noted ≡ Some no.0)
+            ⊎ (IsLegalBook self.now (oldest (suc no.0) self.now.history) → ⊥) }
     {
         if self.noted() == Some(no.0) {
             return false;
@@ -58,7 +63,9 @@ impl Record {
     fn content<'a>(&'a self, no: Option<EntryNo>, zeros: &'a [u8]) -> &'a [u8]
         requires { IfSome no (λ n. n.0 < length self.now.history) }
         ensures none { IfNone no (result.now ≡ zeros.now) }
-        ensures some { IfSome no (λ n. option_map (λ (row : Row). row.bytes) (named self.now.history n.0) ≡ Some result.now) }
+        ensures some { IfSome no
+            (λ n. option_map (λ (row : Row). row.bytes) (named self.now.history n.0)
+            ≡ Some result.now) }
     {
         match no {
             None => zeros,
@@ -76,7 +83,11 @@ fn newest_of(newest: &[Option<EntryNo>], page: Page) -> Option<EntryNo>
 
 /// Enters an entry into the table, if it is a page-out.
 fn put_newest(newest: &mut Vec<Option<EntryNo>>, entry: Entry, no: EntryNo) -> Result<(), NoMemory>
-    ensures { OnOk result ((p : ℕ) → get_or newest.new.items p None ≡ (if is_page_out entry.op && entry.page.0 == p then Some no else get_or newest.old.items p None)) }
+    ensures { OnOk result
+        ((p : ℕ)
+        → get_or newest.new.items p None
+        ≡ (if is_page_out entry.op && entry.page.0 == p then Some no
+        else get_or newest.old.items p None)) }
 {
     if !is_page_out(entry.op) {
         return Ok(());
@@ -97,7 +108,8 @@ fn is_page_out(op: Op) -> bool
     matches!(op, Op::PageOut)
 }
 
-/// Whether an entry is right where its page's last page-out is `newest` and its content is `content`.
+/// Whether an entry is right where its page's last page-out is `newest` and its content is
+/// `content`.
 fn fits(op: Op, newest: Option<EntryNo>, bytes: &[u8], content: &[u8]) -> bool
     ensures { IsTrue result ↔ IsRight op newest bytes.now content.now }
 {

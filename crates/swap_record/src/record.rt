@@ -38,7 +38,13 @@ impl Model for Record {
 
     ghost use Rattle.swap_record.specs.InMemory.{history_in, IsKept};
 
-    ghost view = { λ r. record { page_bytes = r.page_bytes; history = history_in r.page_bytes r.entries.items r.bytes.items; spare = r.spare; noted = r.noted } };
+    ghost view = { λ r.
+        record {
+          page_bytes = r.page_bytes;
+          history = history_in r.page_bytes r.entries.items r.bytes.items;
+          spare = r.spare;
+          noted = r.noted;
+        } };
 
     ghost invariant = { λ r. IsKept r.page_bytes r.entries r.bytes r.counts r.spare r.noted };
 }
@@ -48,7 +54,8 @@ impl Record {
     /// No entries, and no room for any.
     pub fn make(alloc: Global, page_bytes: u32) -> Record
         requires { page_bytes ≤ 4_096 }
-        ensures { result ≡ record { page_bytes = page_bytes; history = []; spare = 0; noted = None } }
+        ensures { result
+            ≡ record { page_bytes = page_bytes; history = []; spare = 0; noted = None } }
     {
         Record {
             page_bytes: page_bytes as usize,
@@ -67,11 +74,13 @@ impl Record {
         let _entries = &self.entries;
     }
 
-    /// Makes room for `n` more entries; after a refusal all is as before. Memory is wanting only where there is less room.
+    /// Makes room for `n` more entries; after a refusal all is as before. Memory is wanting only
+    /// where there is less room.
     pub fn reserve(&mut self, n: u32) -> Result<(), ReserveRefused>
         ensures ok { OnOk result (self.new ≡ record self.old { spare = max self.old.spare n }) }
         ensures err { OnErr result (self.new ≡ self.old) }
-        ensures too_many { (result ≡ Err ReserveRefused.TooMany) ↔ (4_194_304 < length self.old.history + n) }
+        ensures too_many { (result ≡ Err ReserveRefused.TooMany)
+            ↔ (4_194_304 < length self.old.history + n) }
         ensures no_memory { result ≡ Err ReserveRefused.NoMemory → self.old.spare < n }
     {
         if n > MOST_ENTRIES - self.entries.len() as u32 {
@@ -148,7 +157,8 @@ impl Record {
 
     pub fn entry(&self, no: EntryNo) -> Entry
         requires { no.0 < length self.now.history }
-        ensures { option_map (λ (row : Row). row.entry) (named self.now.history no.0) ≡ Some result }
+        ensures { option_map (λ (row : Row). row.entry) (named self.now.history no.0)
+            ≡ Some result }
     {
         self.entries[no.0 as usize]
     }
@@ -156,7 +166,8 @@ impl Record {
     /// The bytes of an entry's page.
     pub fn bytes(&self, no: EntryNo) -> &[u8]
         requires { no.0 < length self.now.history }
-        ensures bytes { option_map (λ (row : Row). row.bytes) (named self.now.history no.0) ≡ Some result.now }
+        ensures bytes { option_map (λ (row : Row). row.bytes) (named self.now.history no.0)
+            ≡ Some result.now }
         ensures len { length result.now ≡ self.now.page_bytes }
         ensures within { self.now.page_bytes ≤ 4_096 }
     {
@@ -206,7 +217,8 @@ impl Record {
         requires caller { caller.0 < 64 }
         requires room { 0 < self.old.spare }
         requires bytes { length bytes.now ≡ self.old.page_bytes }
-        ensures after { self.new ≡ written self.old caller page (Op.Failed kind since at) bytes.now }
+        ensures after { self.new
+            ≡ written self.old caller page (Op.Failed kind since at) bytes.now }
         ensures name { result ≡ next_name self.old.history }
     {
         self.push(caller, page, Op::Failed { kind, since, at }, bytes)

@@ -110,7 +110,8 @@ fn put_out(out: &mut LineBuf, page: Page, bytes: &[u8])
 fn put_in(out: &mut LineBuf, page: Page, bytes: &[u8], named: Option<EntryNo>, origin: Origin)
     requires page { length bytes.now ≤ 4_096 }
     requires room { length out.old + 8_370 ≤ 10_000 }
-    ensures text { out.new ≡ out.old ++ spaced_after (op_words page.0 bytes.now (Op.PageIn named origin)) }
+    ensures text { out.new ≡ out.old
+        ++ spaced_after (op_words page.0 bytes.now (Op.PageIn named origin)) }
     ensures len { length out.new ≤ length out.old + 8_370 }
 {
     put_word(out, b"in");
@@ -124,7 +125,8 @@ fn put_in(out: &mut LineBuf, page: Page, bytes: &[u8], named: Option<EntryNo>, o
 fn put_fault(out: &mut LineBuf, page: Page, bytes: &[u8], kind: CallKind, since: u64, at: u64)
     requires page { length bytes.now ≤ 4_096 }
     requires room { length out.old + 8_370 ≤ 10_000 }
-    ensures text { out.new ≡ out.old ++ spaced_after (op_words page.0 bytes.now (Op.Failed kind since at)) }
+    ensures text { out.new ≡ out.old
+        ++ spaced_after (op_words page.0 bytes.now (Op.Failed kind since at)) }
     ensures len { length out.new ≤ length out.old + 8_370 }
 {
     put_word(out, b"fault");
@@ -144,7 +146,8 @@ fn put_fault(out: &mut LineBuf, page: Page, bytes: &[u8], kind: CallKind, since:
 /// Appends a failed call's page, and its two counts of failures.
 fn put_counts(out: &mut LineBuf, page: Page, since: u64, at: u64)
     requires { length out.old + 63 ≤ 10_000 }
-    ensures text { out.new ≡ out.old ++ spaced_after (decimal page.0 ∷ decimal since ∷ decimal at ∷ []) }
+    ensures text { out.new ≡ out.old
+        ++ spaced_after (decimal page.0 ∷ decimal since ∷ decimal at ∷ []) }
     ensures len { length out.new ≤ length out.old + 63 }
 {
     put_number(out, u64::from(page.0));

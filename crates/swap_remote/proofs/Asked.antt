@@ -24,16 +24,20 @@ use Rattle.swap_remote.specs.Kept.{AreAsked}
 use Rattle.swap_remote.proofs.Left.{in_slab, off_slab, range_ends}
 
 -- what is true of each lender that meets a test is true of each that is listed
-up_each : (P : ℕ → Type 0) (test : Lender → Bool) (links : List LinkState) (n : ℕ) → ((k : ℕ) → n ≤ k → k < n + length links → test (record { 0 = k }) ≡ true → P k) → AllByRecursion P (up_from test links n)
+up_each :
+    (P : ℕ → Type 0) (test : Lender → Bool) (links : List LinkState) (n : ℕ) → ((k : ℕ) → n ≤ k → k < n + length links → test (record { 0 = k }) ≡ true → P k)
+    → AllByRecursion P (up_from test links n)
 up_each P test [] n each = tt
 up_each P test (link ∷ links) n each =
-    let more : AllByRecursion P (up_from test links (n + 1)) = up_each P test links (n + 1) (λ k low high t. each k (omega (arith, low)) (omega (arith, high)) t) in
+    let more : AllByRecursion P (up_from test links (n + 1)) =
+    up_each P test links (n + 1) (λ k low high t. each k (omega (arith, low)) (omega (arith, high)) t) in
     ⊎_elim
     (λ (t : (link.up && test (record { 0 = n })) ≡ true).
     subst (λ l. AllByRecursion P l) (sym (cond-true (link.up && test (record { 0 = n })) (n ∷ up_from test links (n + 1)) (up_from test links (n + 1)) t))
     (each n (omega arith) (omega arith) (and_parts link.up (test (record { 0 = n })) t).1, more))
     (λ (t : (link.up && test (record { 0 = n })) ≡ false).
-    subst (λ l. AllByRecursion P l) (sym (cond-false (link.up && test (record { 0 = n })) (n ∷ up_from test links (n + 1)) (up_from test links (n + 1)) t)) more)
+    subst (λ l. AllByRecursion P l)
+    (sym (cond-false (link.up && test (record { 0 = n })) (n ∷ up_from test links (n + 1)) (up_from test links (n + 1)) t)) more)
     (cases_Bool (link.up && test (record { 0 = n })))
 
 -- each stands once
@@ -46,14 +50,17 @@ up_distinct test (link ∷ links) n =
     subst (λ l. IsDistinct nat_eq l) (sym (cond-true (link.up && test (record { 0 = n })) (n ∷ up_from test links (n + 1)) (up_from test links (n + 1)) t))
     (up_each (λ k. nat_eq n k ≡ false) test links (n + 1) (λ k low high u. ne_eqb n k (omega (arith, low))), up_distinct test links (n + 1)))
     (λ (t : (link.up && test (record { 0 = n })) ≡ false).
-    subst (λ l. IsDistinct nat_eq l) (sym (cond-false (link.up && test (record { 0 = n })) (n ∷ up_from test links (n + 1)) (up_from test links (n + 1)) t)) (up_distinct test links (n + 1)))
+    subst (λ l. IsDistinct nat_eq l) (sym (cond-false (link.up && test (record { 0 = n })) (n ∷ up_from test links (n + 1)) (up_from test links (n + 1)) t))
+    (up_distinct test links (n + 1)))
     (cases_Bool (link.up && test (record { 0 = n })))
 
 each_append : (P : ℕ → Type 0) (xs ys : List ℕ) → AllByRecursion P xs → AllByRecursion P ys → AllByRecursion P (xs ++ ys)
 each_append P [] ys a b = b
 each_append P (x ∷ xs) ys a b = (a.0, each_append P xs ys a.1 b)
 
-both_distinct : (xs ys : List ℕ) → IsDistinct nat_eq xs → IsDistinct nat_eq ys → AllByRecursion (λ x. AllByRecursion (λ y. nat_eq x y ≡ false) ys) xs → IsDistinct nat_eq (xs ++ ys)
+both_distinct :
+    (xs ys : List ℕ) → IsDistinct nat_eq xs → IsDistinct nat_eq ys → AllByRecursion (λ x. AllByRecursion (λ y. nat_eq x y ≡ false) ys) xs
+    → IsDistinct nat_eq (xs ++ ys)
 unfolding IsDistinct
 both_distinct [] ys a b apart = b
 both_distinct (x ∷ xs) ys a b apart = (each_append (λ y. nat_eq x y ≡ false) xs ys a.0 apart.0, both_distinct xs ys a.1 b apart.1)
@@ -78,7 +85,8 @@ module _ (r : Remote) where
 
   member_within : (w n : ℕ) → Contains (choice.named (choice.asked w (fresh r) (others r))) n → n < length r.links
   member_within w n is =
-      All-contains (λ k. k < length r.links) (fresh r ++ others r) n (All-from_recursion (λ k. k < length r.links) (fresh r ++ others r) all_within) (asked_members w (fresh r) (others r) n is)
+      All-contains (λ k. k < length r.links) (fresh r ++ others r) n (All-from_recursion (λ k. k < length r.links) (fresh r ++ others r) all_within)
+      (asked_members w (fresh r) (others r) n is)
 
 -- two that are distinct are different
 differ : (n m : ℕ) → IsDistinct nat_eq (n ∷ m ∷ []) → n ≢ m
@@ -92,7 +100,8 @@ fits (Two n m) within apart = (within n (0, omega arith, refl), within m (1, ome
 
 pub asked_fit : (w : ℕ) (r : Remote) → length r.links ≡ MOST_LENDERS → AreAsked (choice.asked w (fresh r) (others r))
 asked_fit w r len =
-    fits (choice.asked w (fresh r) (others r)) (λ n is. subst (λ k. n < k) len (member_within r w n is)) (asked_different w (fresh r) (others r) (all_distinct r))
+    fits (choice.asked w (fresh r) (others r)) (λ n is. subst (λ k. n < k) len (member_within r w n is))
+    (asked_different w (fresh r) (others r) (all_distinct r))
 
 pub asked_differ : (w : ℕ) (r : Remote) (n m : ℕ) → choice.asked w (fresh r) (others r) ≡ Two n m → n ≡ m → ⊥
 asked_differ w r n m is = differ n m (subst (λ a. IsDistinct nat_eq (choice.named a)) is (asked_different w (fresh r) (others r) (all_distinct r)))
@@ -104,16 +113,22 @@ none_some : (a : Slab) → None ≡ Some a → ⊥
 none_some a h = cc
 
 -- the slab that is mapped with a lease is one of the slabs, and mapped
-leased_within : (states : List SlabState) (lender : Lender) (lease : Lease) (slab : Slab) (place : Option ℕ) → position (λ state. slabs.has_lease lender lease state) states ≡ place → option_map (λ (n : ℕ). record { 0 = n }) place ≡ Some slab → slab.0 < length states
+leased_within :
+    (states : List SlabState) (lender : Lender) (lease : Lease) (slab : Slab) (place : Option ℕ)
+    → position (λ state. slabs.has_lease lender lease state) states ≡ place → option_map (λ (n : ℕ). record { 0 = n }) place ≡ Some slab
+    → slab.0 < length states
 leased_within states lender lease slab None at is = cc
 leased_within states lender lease slab (Some n) at is =
     let number : n ≡ slab.0 = ap (λ (x : Slab). x.0) (some_is (record { 0 = n }) slab is) in
     subst (λ k. k < length states) number (position-Some (λ state. slabs.has_lease lender lease state) states n Local at).0
 
-pub by_lease_within : (states : List SlabState) (lender : Lender) (lease : Lease) (slab : Slab) → slabs.by_lease states lender lease ≡ Some slab → slab.0 < length states
+pub by_lease_within :
+    (states : List SlabState) (lender : Lender) (lease : Lease) (slab : Slab) → slabs.by_lease states lender lease ≡ Some slab → slab.0 < length states
 by_lease_within states lender lease slab is = leased_within states lender lease slab (position (λ state. slabs.has_lease lender lease state) states) refl is
 
-only_mapped_is : (states : List SlabState) (found : Option Slab) (slab : Slab) → only_mapped states found ≡ Some slab → (found ≡ Some slab) × (slabs.is_mapped (slabs.state_of states slab) ≡ true)
+only_mapped_is :
+    (states : List SlabState) (found : Option Slab) (slab : Slab) → only_mapped states found ≡ Some slab
+    → (found ≡ Some slab) × (slabs.is_mapped (slabs.state_of states slab) ≡ true)
 only_mapped_is states None slab is = cc
 only_mapped_is states (Some other) slab is =
     ⊎_elim
@@ -125,26 +140,36 @@ only_mapped_is states (Some other) slab is =
     absurd (none_some slab none))
     (cases_Bool (slabs.is_mapped (slabs.state_of states other)))
 
-pub mapped_by_within : (states : List SlabState) (lender : Lender) (lease : Lease) (slab : Slab) → mapped_by states lender lease ≡ Some slab → slab.0 < length states
+pub mapped_by_within :
+    (states : List SlabState) (lender : Lender) (lease : Lease) (slab : Slab) → mapped_by states lender lease ≡ Some slab → slab.0 < length states
 mapped_by_within states lender lease slab is = by_lease_within states lender lease slab (only_mapped_is states (slabs.by_lease states lender lease) slab is).0
 
-pub mapped_by_mapped : (states : List SlabState) (lender : Lender) (lease : Lease) (slab : Slab) → mapped_by states lender lease ≡ Some slab → slabs.is_mapped (slabs.state_of states slab) ≡ true
+pub mapped_by_mapped :
+    (states : List SlabState) (lender : Lender) (lease : Lease) (slab : Slab) → mapped_by states lender lease ≡ Some slab
+    → slabs.is_mapped (slabs.state_of states slab) ≡ true
 mapped_by_mapped states lender lease slab is = (only_mapped_is states (slabs.by_lease states lender lease) slab is).1
 
 -- an evicted slab's bits are cleared, and no other
-pub evicted_bit : (s : Sizes) (r : Remote) (slab : Slab) (q : ℕ) → slab.0 < s.slabs → length r.bits ≡ pages_of s → 0 < s.pages_per_slab → has (evicted s r slab).bits q ≡ (if slab_of s q == slab.0 then false else has r.bits q)
+pub evicted_bit :
+    (s : Sizes) (r : Remote) (slab : Slab) (q : ℕ) → slab.0 < s.slabs → length r.bits ≡ pages_of s → 0 < s.pages_per_slab
+    → has (evicted s r slab).bits q ≡ (if slab_of s q == slab.0 then false else has r.bits q)
 evicted_bit s r slab q within len some =
-    let ends : slab.0 * s.pages_per_slab + s.pages_per_slab ≤ length r.bits = subst (λ n. slab.0 * s.pages_per_slab + s.pages_per_slab ≤ n) (sym len) (range_ends s.pages_per_slab s.slabs slab.0 within) in
+    let ends : slab.0 * s.pages_per_slab + s.pages_per_slab ≤ length r.bits =
+    subst (λ n. slab.0 * s.pages_per_slab + s.pages_per_slab ≤ n) (sym len) (range_ends s.pages_per_slab s.slabs slab.0 within) in
     takes_range r.bits (slab.0 * s.pages_per_slab) (slab.0 * s.pages_per_slab + s.pages_per_slab) q (omega arith) ends
     ∙ ⊎_elim
     (λ (is : slab_of s q ≡ slab.0).
-    cond-true (is_in_range (slab.0 * s.pages_per_slab) (slab.0 * s.pages_per_slab + s.pages_per_slab) q) false (has r.bits q) (in_slab s.pages_per_slab slab.0 q some is) ∙ sym (cond-true (slab_of s q == slab.0) false (has r.bits q) (eq-eqb (slab_of s q) slab.0 is)))
+    cond-true (is_in_range (slab.0 * s.pages_per_slab) (slab.0 * s.pages_per_slab + s.pages_per_slab) q) false (has r.bits q)
+    (in_slab s.pages_per_slab slab.0 q some is)
+    ∙ sym (cond-true (slab_of s q == slab.0) false (has r.bits q) (eq-eqb (slab_of s q) slab.0 is)))
     (λ (other : slab_of s q ≢ slab.0).
-    cond-false (is_in_range (slab.0 * s.pages_per_slab) (slab.0 * s.pages_per_slab + s.pages_per_slab) q) false (has r.bits q) (off_slab s.pages_per_slab slab.0 q some other)
+    cond-false (is_in_range (slab.0 * s.pages_per_slab) (slab.0 * s.pages_per_slab + s.pages_per_slab) q) false (has r.bits q)
+    (off_slab s.pages_per_slab slab.0 q some other)
     ∙ sym (cond-false (slab_of s q == slab.0) false (has r.bits q) (ne_eqb (slab_of s q) slab.0 other)))
     (cases_eq (slab_of s q) slab.0)
 
 pub length-evicted : (s : Sizes) (r : Remote) (slab : Slab) → slab.0 < s.slabs → length r.bits ≡ pages_of s → length (evicted s r slab).bits ≡ length r.bits
 length-evicted s r slab within len =
-    let ends : slab.0 * s.pages_per_slab + s.pages_per_slab ≤ length r.bits = subst (λ n. slab.0 * s.pages_per_slab + s.pages_per_slab ≤ n) (sym len) (range_ends s.pages_per_slab s.slabs slab.0 within) in
+    let ends : slab.0 * s.pages_per_slab + s.pages_per_slab ≤ length r.bits =
+    subst (λ n. slab.0 * s.pages_per_slab + s.pages_per_slab ≤ n) (sym len) (range_ends s.pages_per_slab s.slabs slab.0 within) in
     (keeps_bound r.bits (slab.0 * s.pages_per_slab) (slab.0 * s.pages_per_slab + s.pages_per_slab) 0 (omega arith) ends).2

@@ -58,7 +58,9 @@ not_yet n b x = ap (λ t. b && not (t && x)) (le-ltb n n (omega arith)) ∙ and-
 now_looked : (n : ℕ) (b x : Bool) → (b && not (nat_lt n (n + 1) && x)) ≡ (b && not x)
 now_looked n b x = ap (λ t. b && not (t && x)) (lt-ltb n (n + 1) (omega arith))
 
-pub kept_more : (s : Sizes) (states : List SlabState) (lender : Lender) (bits now : List Bool) (n : ℕ) → at states lender n ≡ false → IsLeft s states lender bits now n → IsLeft s states lender bits now (n + 1)
+pub kept_more :
+    (s : Sizes) (states : List SlabState) (lender : Lender) (bits now : List Bool) (n : ℕ) → at states lender n ≡ false → IsLeft s states lender bits now n
+    → IsLeft s states lender bits now (n + 1)
 kept_more s states lender bits now n away k = record {
   len = k.len;
   each =
@@ -66,12 +68,16 @@ kept_more s states lender bits now n away k = record {
       ∙ ⊎_elim
       (λ (is : slab_of s q ≡ n).
       let P : ℕ → Type 0 = λ a. (has bits q && not (nat_lt a n && at states lender a)) ≡ (has bits q && not (nat_lt a (n + 1) && at states lender a)) in
-      subst P (sym is) (not_yet n (has bits q) (at states lender n) ∙ sym (now_looked n (has bits q) (at states lender n) ∙ ap (λ t. has bits q && not t) away ∙ and-true (has bits q))))
+      subst P (sym is)
+      (not_yet n (has bits q) (at states lender n)
+      ∙ sym (now_looked n (has bits q) (at states lender n) ∙ ap (λ t. has bits q && not t) away ∙ and-true (has bits q))))
       (λ (other : slab_of s q ≢ n). looked_same (slab_of s q) n (has bits q) (at states lender (slab_of s q)) other)
       (cases_eq (slab_of s q) n);
 }
 
-pub cleared_more : TakesRange → KeepsBound → (s : Sizes) (states : List SlabState) (lender : Lender) (bits now : List Bool) (n e : ℕ) → e ≡ s.pages_per_slab → 0 < e → n * e + e ≤ length now → at states lender n ≡ true → IsLeft s states lender bits now n
+pub cleared_more :
+    TakesRange → KeepsBound → (s : Sizes) (states : List SlabState) (lender : Lender) (bits now : List Bool) (n e : ℕ) → e ≡ s.pages_per_slab → 0 < e
+    → n * e + e ≤ length now → at states lender n ≡ true → IsLeft s states lender bits now n
     → IsLeft s states lender bits (without_range now (n * e) (n * e + e)) (n + 1)
 cleared_more takes_range keeps_bound s states lender bits now n e is_e some within here k = record {
   len = (keeps_bound now (n * e) (n * e + e) 0 (omega arith) within).2 ∙ k.len;
@@ -94,15 +100,24 @@ pub length-left : (s : Sizes) (states : List SlabState) (lender : Lender) (bits 
 length-left s states lender [] n = refl
 length-left s states lender (bit ∷ bits) n = ap suc (length-left s states lender bits (n + 1))
 
-pub get_or-left : (s : Sizes) (states : List SlabState) (lender : Lender) (bits : List Bool) (n i : ℕ) → get_or (left_from s states lender bits n) i false ≡ (get_or bits i false && not (at states lender (slab_of s (n + i))))
+pub get_or-left :
+    (s : Sizes) (states : List SlabState) (lender : Lender) (bits : List Bool) (n i : ℕ)
+    → get_or (left_from s states lender bits n) i false ≡ (get_or bits i false && not (at states lender (slab_of s (n + i))))
 get_or-left s states lender [] n i = refl
 get_or-left s states lender (bit ∷ bits) n zero = ap (λ m. bit && not (at states lender (slab_of s m))) (sym (add-zero n))
-get_or-left s states lender (bit ∷ bits) n (suc i) = get_or-left s states lender bits (n + 1) i ∙ ap (λ m. get_or bits i false && not (at states lender (slab_of s m))) (omega arith)
+get_or-left s states lender (bit ∷ bits) n (suc i) =
+    get_or-left s states lender bits (n + 1) i ∙ ap (λ m. get_or bits i false && not (at states lender (slab_of s m))) (omega arith)
 
 pub first : (s : Sizes) (states : List SlabState) (lender : Lender) (bits : List Bool) → length bits ≡ pages_of s → IsLeft s states lender bits bits 0
-first s states lender bits len = record { len = len; each = λ q. sym (ap (λ t. has bits q && not (t && at states lender (slab_of s q))) (le-ltb (slab_of s q) 0 (omega arith)) ∙ and-true (has bits q)) }
+first s states lender bits len =
+    record {
+      len = len;
+      each = λ q. sym (ap (λ t. has bits q && not (t && at states lender (slab_of s q))) (le-ltb (slab_of s q) 0 (omega arith)) ∙ and-true (has bits q));
+    }
 
-pub all_looked : (s : Sizes) (states : List SlabState) (lender : Lender) (bits now : List Bool) (n : ℕ) → 0 < s.pages_per_slab → s.slabs ≤ n → length bits ≡ pages_of s → IsLeft s states lender bits now n → now ≡ left_from s states lender bits 0
+pub all_looked :
+    (s : Sizes) (states : List SlabState) (lender : Lender) (bits now : List Bool) (n : ℕ) → 0 < s.pages_per_slab → s.slabs ≤ n → length bits ≡ pages_of s
+    → IsLeft s states lender bits now n → now ≡ left_from s states lender bits 0
 all_looked s states lender bits now n some past len k =
     ext_get_or false now (left_from s states lender bits 0) (k.len ∙ sym (length-left s states lender bits 0 ∙ len)) (λ i within.
     let page : i < s.slabs * s.pages_per_slab = subst (λ m. i < m) (mul_comm s.pages_per_slab s.slabs) (subst (λ m. i < m) k.len within) in

@@ -57,7 +57,8 @@ target s r page = open_at s r.links (mapping (state_for s r.slabs page))
 -- the lenders from the n-th on whose link is up, of those that meet a test
 abbrev pub up_from : (Lender → Bool) → List LinkState → ℕ → List ℕ
 up_from test [] n = []
-up_from test (link ∷ links) n = if link.up && test (record { 0 = n }) then n ∷ up_from test links (n + 1) else up_from test links (n + 1)
+up_from test (link ∷ links) n =
+    if link.up && test (record { 0 = n }) then n ∷ up_from test links (n + 1) else up_from test links (n + 1)
 
 -- the lenders that may be asked for a slab: those that hold none, and the others
 abbrev pub fresh : Remote → List ℕ
@@ -72,7 +73,8 @@ has_page r page = has r.bits page.0
 
 -- the message names the page: its slab has this lease of the lender, and the page this place
 abbrev pub names_page : Sizes → Remote → Lender → Page → Lease → ℕ → Bool
-names_page s r lender page lease place = slabs.has_lease lender lease (state_for s r.slabs page) && place_of s page.0 == place
+names_page s r lender page lease place =
+    slabs.has_lease lender lease (state_for s r.slabs page) && place_of s page.0 == place
 
 -- a page was changed: remote memory can't be read for it
 abbrev pub changed : Remote → Page → Remote
@@ -80,23 +82,29 @@ changed r page = record r { bits = without_number r.bits page.0 }
 
 -- a request for a page was sent to the lender of its slab
 abbrev pub sent_for : Sizes → Remote → Lender → Page → Request → Remote
-sent_for s r lender page item = record r { slabs = slabs.begun r.slabs (slab_for s page); links = rings.sent r.links lender item }
+sent_for s r lender page item =
+    record r { slabs = slabs.begun r.slabs (slab_for s page); links = rings.sent r.links lender item }
 
 -- a slab was asked for: of one lender, or of a second beside the first
 abbrev pub query_sent : Remote → Slab → Option Lender → Lender → Remote
-query_sent r slab None lender = record r { slabs = slabs.asked r.slabs slab lender None; links = rings.sent r.links lender (request.Query slab) }
-query_sent r slab (Some first) lender = record r { slabs = slabs.asked r.slabs slab first (Some lender); links = rings.sent r.links lender (request.Query slab) }
+query_sent r slab None lender =
+    record r { slabs = slabs.asked r.slabs slab lender None; links = rings.sent r.links lender (request.Query slab) }
+query_sent r slab (Some first) lender =
+    record r
+    { slabs = slabs.asked r.slabs slab first (Some lender); links = rings.sent r.links lender (request.Query slab) }
 
 -- a lender that was asked tells how many slots are free, or is gone
 abbrev pub told : Remote → Lender → Slab → ℕ → Remote
-told r lender slab free = record r { slabs = slabs.answered r.slabs slab lender (reply.Free free); links = rings.answered r.links lender }
+told r lender slab free =
+    record r { slabs = slabs.answered r.slabs slab lender (reply.Free free); links = rings.answered r.links lender }
 
 abbrev pub gone : Remote → Lender → Slab → Remote
 gone r lender slab = record r { slabs = slabs.answered r.slabs slab lender reply.Gone }
 
 -- a slab is borrowed, lent, or refused
 abbrev pub borrow_sent : Remote → Slab → Lender → Remote
-borrow_sent r slab lender = record r { slabs = slabs.borrowed r.slabs slab lender; links = rings.sent r.links lender (request.Borrow slab) }
+borrow_sent r slab lender =
+    record r { slabs = slabs.borrowed r.slabs slab lender; links = rings.sent r.links lender (request.Borrow slab) }
 
 abbrev pub lent : Remote → Lender → Slab → Lease → Remote
 lent r lender slab lease = record r { slabs = slabs.lent r.slabs slab lease; links = rings.answered r.links lender }
@@ -106,7 +114,8 @@ refused r lender slab = record r { slabs = slabs.refused r.slabs slab; links = r
 
 -- the oldest request, one for this page, was answered
 abbrev pub settled_for : Sizes → Remote → Lender → Page → Remote
-settled_for s r lender page = record r { slabs = slabs.settled r.slabs (slab_for s page); links = rings.answered r.links lender }
+settled_for s r lender page =
+    record r { slabs = slabs.settled r.slabs (slab_for s page); links = rings.answered r.links lender }
 
 -- and it was a write: remote memory can be read for the page where the slab is mapped and the page is as it was written
 abbrev pub with_page_if : Bool → Remote → Page → Remote
@@ -114,7 +123,8 @@ with_page_if true r page = record r { bits = with_number r.bits page.0 }
 with_page_if false r page = r
 
 abbrev pub written : Sizes → Remote → Lender → Page → Bool → Remote
-written s r lender page newest = with_page_if (newest && slabs.is_mapped (state_for s r.slabs page)) (settled_for s r lender page) page
+written s r lender page newest =
+    with_page_if (newest && slabs.is_mapped (state_for s r.slabs page)) (settled_for s r lender page) page
 
 -- the slab that is mapped at the lender with this lease
 abbrev pub only_mapped : List SlabState → Option Slab → Option Slab
@@ -126,16 +136,26 @@ mapped_by states lender lease = only_mapped states (slabs.by_lease states lender
 
 -- a mapped slab is taken back: no page of it can be read, and it drains
 abbrev pub evicted : Sizes → Remote → Slab → Remote
-evicted s r slab = record r { bits = without_range r.bits (slab.0 * s.pages_per_slab) (slab.0 * s.pages_per_slab + s.pages_per_slab); slabs = slabs.evicted r.slabs slab }
+evicted s r slab =
+    record r {
+      bits = without_range r.bits (slab.0 * s.pages_per_slab) (slab.0 * s.pages_per_slab + s.pages_per_slab);
+      slabs = slabs.evicted r.slabs slab;
+    }
 
 -- the pages from n on that aren't at a lender
 abbrev pub left_from : Sizes → List SlabState → Lender → List Bool → ℕ → List Bool
 left_from s states lender [] n = []
-left_from s states lender (bit ∷ bits) n = (bit && not (slabs.is_at lender (state_for s states (record { 0 = n })))) ∷ left_from s states lender bits (n + 1)
+left_from s states lender (bit ∷ bits) n =
+    (bit && not (slabs.is_at lender (state_for s states (record { 0 = n })))) ∷ left_from s states lender bits (n + 1)
 
 -- a link was lost: it is down, and the slabs at its lender are local with their bits cleared
 abbrev pub lost : Sizes → Remote → Lender → Remote
-lost s r lender = record { bits = left_from s r.slabs lender r.bits 0; slabs = slabs.lost r.slabs lender; links = rings.lost r.links lender }
+lost s r lender =
+    record {
+      bits = left_from s r.slabs lender r.bits 0;
+      slabs = slabs.lost r.slabs lender;
+      links = rings.lost r.links lender;
+    }
 
 -- a link was made
 abbrev pub raised : Remote → Lender → Remote

@@ -1,4 +1,5 @@
-//! What a device keeps of its lenders: which pages remote memory has, where each slab is, and the requests under way.
+//! What a device keeps of its lenders: which pages remote memory has, where each slab is, and the
+//! requests under way.
 #![tactic(auto)]
 
 mod remote;

@@ -17,7 +17,8 @@ use swap_choice::{Asked, two_lenders};
 use swap_rings::{Request, Rings};
 use swap_slabs::{Chosen, MOST_LENDERS, Reply, SlabState, Slabs};
 
-/// The pages that remote memory has, the states of the slabs, and the links. All memory is taken at `make`.
+/// The pages that remote memory has, the states of the slabs, and the links. All memory is taken at
+/// `make`.
 #[derive(Drop)]
 pub struct Remote {
     geometry: Geometry,
@@ -32,7 +33,11 @@ impl Model for Remote {
 
     ghost Value = { Table };
 
-    ghost view = { λ r. record { sizes = r.geometry; remote = record { bits = r.bits; slabs = r.slabs; links = r.rings.links } } };
+    ghost view = { λ r.
+        record {
+          sizes = r.geometry;
+          remote = record { bits = r.bits; slabs = r.slabs; links = r.rings.links };
+        } };
 
     ghost invariant = { λ r. AreTables r.geometry r.bits r.slabs r.rings };
 }
@@ -113,8 +118,10 @@ struct Askable {
 
 fn lenders_up(rings: &Rings, states: &Slabs) -> Askable
     requires { length rings.now.links ≡ MOST_LENDERS }
-    ensures fresh { result.fresh.items ≡ up_from (λ l. not (slabs.holds states.now l)) rings.now.links 0 }
-    ensures others { result.others.items ≡ up_from (λ l. slabs.holds states.now l) rings.now.links 0 }
+    ensures fresh { result.fresh.items
+        ≡ up_from (λ l. not (slabs.holds states.now l)) rings.now.links 0 }
+    ensures others { result.others.items
+        ≡ up_from (λ l. slabs.holds states.now l) rings.now.links 0 }
 {
     let mut fresh = ArrayVec::new();
     let mut others = ArrayVec::new();
@@ -204,7 +211,8 @@ impl Remote {
     /// Whether a link takes a request now.
     pub fn may_send(&self, lender: Lender) -> bool
         requires { lender.0 < MOST_LENDERS }
-        ensures { result ≡ rings.may_send self.now.sizes.window (rings.link_of self.now.remote.links lender) }
+        ensures { result
+            ≡ rings.may_send self.now.sizes.window (rings.link_of self.now.remote.links lender) }
     {
         self.rings.may_send(lender)
     }
@@ -225,7 +233,8 @@ impl Remote {
         matches!(self.slabs.state(slab), SlabState::Local)
     }
 
-    /// Whether a message names a page: the page's slab has this lease of the lender, and the page this place.
+    /// Whether a message names a page: the page's slab has this lease of the lender, and the page
+    /// this place.
     pub fn names_page(&self, lender: Lender, page: Page, lease: Lease, place: u32) -> bool
         requires { page.0 < pages_of self.now.sizes }
         ensures { result ≡ names_page self.now.sizes self.now.remote lender page lease place }
@@ -255,7 +264,8 @@ impl Remote {
         requires { lender.0 < MOST_LENDERS }
         ensures slab { result ≡ mapped_by self.now.remote.slabs lender lease }
         ensures within { IfSome result (λ slab. slab.0 < self.now.sizes.slabs) }
-        ensures mapped { IfSome result (λ slab. IsTrue (slabs.is_mapped (slabs.state_of self.now.remote.slabs slab))) }
+        ensures mapped { IfSome result
+            (λ slab. IsTrue (slabs.is_mapped (slabs.state_of self.now.remote.slabs slab))) }
     {
         let slab = self.slabs.by_lease(lender, lease)?;
         if is_mapped(self.slabs.state(slab)) {
@@ -265,9 +275,11 @@ impl Remote {
         }
     }
 
-    /// The lenders that a word picks to be asked for a slab: of those whose link is up, first those that hold none.
+    /// The lenders that a word picks to be asked for a slab: of those whose link is up, first those
+    /// that hold none.
     pub fn to_ask(&self, word: u64) -> Asked
-        ensures asked { result ≡ choice.asked word (fresh self.now.remote) (others self.now.remote) }
+        ensures asked { result
+            ≡ choice.asked word (fresh self.now.remote) (others self.now.remote) }
         ensures lenders { AreAsked result }
     {
         let askable = lenders_up(&self.rings, &self.slabs);
@@ -300,10 +312,15 @@ impl Remote {
     pub fn sent_for(&mut self, lender: Lender, page: Page, request: Request)
         requires page { page.0 < pages_of self.old.sizes }
         requires lender { lender.0 < MOST_LENDERS }
-        requires mapped { IsTrue (slabs.is_mapped (state_for self.old.sizes self.old.remote.slabs page)) }
-        requires flying { slabs.flying_of (state_for self.old.sizes self.old.remote.slabs page) < MOST_FLYING }
-        requires room { length (rings.ring_of self.old.remote.links lender) < self.old.sizes.window }
-        ensures { self.new ≡ record self.old { remote = sent_for self.old.sizes self.old.remote lender page request } }
+        requires mapped { IsTrue
+            (slabs.is_mapped (state_for self.old.sizes self.old.remote.slabs page)) }
+        requires flying { slabs.flying_of (state_for self.old.sizes self.old.remote.slabs page)
+            < MOST_FLYING }
+        requires room { length (rings.ring_of self.old.remote.links lender)
+            < self.old.sizes.window }
+        ensures { self.new
+            ≡ record self.old
+            { remote = sent_for self.old.sizes self.old.remote lender page request } }
     {
         self.slabs.begin(self.geometry.slab_of(page));
         self.rings.send(lender, request);
@@ -314,8 +331,10 @@ impl Remote {
         requires slab { slab.0 < self.old.sizes.slabs }
         requires lender { lender.0 < MOST_LENDERS }
         requires state { MayAsk first lender (slabs.state_of self.old.remote.slabs slab) }
-        requires room { length (rings.ring_of self.old.remote.links lender) < self.old.sizes.window }
-        ensures { self.new ≡ record self.old { remote = query_sent self.old.remote slab first lender } }
+        requires room { length (rings.ring_of self.old.remote.links lender)
+            < self.old.sizes.window }
+        ensures { self.new
+            ≡ record self.old { remote = query_sent self.old.remote slab first lender } }
     {
         self.rings.send(lender, Request::Query { slab });
         match first {
@@ -324,13 +343,17 @@ impl Remote {
         }
     }
 
-    /// A lender that was asked tells how many slots are free. Once no reply is waited for, the answer is the choice.
+    /// A lender that was asked tells how many slots are free. Once no reply is waited for, the
+    /// answer is the choice.
     pub fn told(&mut self, lender: Lender, slab: Slab, free: u32) -> Option<Chosen>
         requires slab { slab.0 < self.old.sizes.slabs }
         requires lender { lender.0 < MOST_LENDERS }
         requires asks { IsTrue (slabs.asks lender (slabs.state_of self.old.remote.slabs slab)) }
-        ensures tables { self.new ≡ record self.old { remote = told self.old.remote lender slab free } }
-        ensures choice { result ≡ slabs.answer_choice (slabs.state_of self.old.remote.slabs slab) lender (Reply.Free free) }
+        ensures tables { self.new
+            ≡ record self.old { remote = told self.old.remote lender slab free } }
+        ensures choice { result
+            ≡ slabs.answer_choice (slabs.state_of self.old.remote.slabs slab) lender
+            (Reply.Free free) }
     {
         self.rings.answer(lender);
         self.slabs.answer(slab, lender, Reply::Free(free))
@@ -341,7 +364,8 @@ impl Remote {
         requires slab { slab.0 < self.old.sizes.slabs }
         requires asks { IsTrue (slabs.asks lender (slabs.state_of self.old.remote.slabs slab)) }
         ensures tables { self.new ≡ record self.old { remote = gone self.old.remote lender slab } }
-        ensures choice { result ≡ slabs.answer_choice (slabs.state_of self.old.remote.slabs slab) lender Reply.Gone }
+        ensures choice { result
+            ≡ slabs.answer_choice (slabs.state_of self.old.remote.slabs slab) lender Reply.Gone }
     {
         self.slabs.answer(slab, lender, Reply::Gone)
     }
@@ -351,7 +375,8 @@ impl Remote {
         requires slab { slab.0 < self.old.sizes.slabs }
         requires lender { lender.0 < MOST_LENDERS }
         requires local { IsTrue (slabs.is_local (slabs.state_of self.old.remote.slabs slab)) }
-        requires room { length (rings.ring_of self.old.remote.links lender) < self.old.sizes.window }
+        requires room { length (rings.ring_of self.old.remote.links lender)
+            < self.old.sizes.window }
         ensures { self.new ≡ record self.old { remote = borrow_sent self.old.remote slab lender } }
     {
         self.slabs.borrow_from(slab, lender);
@@ -362,7 +387,8 @@ impl Remote {
     pub fn lent(&mut self, lender: Lender, slab: Slab, lease: Lease)
         requires slab { slab.0 < self.old.sizes.slabs }
         requires lender { lender.0 < MOST_LENDERS }
-        requires borrowing { slabs.state_of self.old.remote.slabs slab ≡ SlabState.Borrowing lender }
+        requires borrowing { slabs.state_of self.old.remote.slabs slab
+            ≡ SlabState.Borrowing lender }
         requires lease { slabs.by_lease self.old.remote.slabs lender lease ≡ None }
         ensures { self.new ≡ record self.old { remote = lent self.old.remote lender slab lease } }
     {
@@ -374,34 +400,42 @@ impl Remote {
     pub fn refused(&mut self, lender: Lender, slab: Slab)
         requires slab { slab.0 < self.old.sizes.slabs }
         requires lender { lender.0 < MOST_LENDERS }
-        requires borrowing { slabs.state_of self.old.remote.slabs slab ≡ SlabState.Borrowing lender }
+        requires borrowing { slabs.state_of self.old.remote.slabs slab
+            ≡ SlabState.Borrowing lender }
         ensures { self.new ≡ record self.old { remote = refused self.old.remote lender slab } }
     {
         self.slabs.refused(slab);
         self.rings.answer(lender);
     }
 
-    /// The oldest request on a link, one for this page, was answered. The lease of its slab is given back where that
-    /// was the last to fly for a slab that drains.
+    /// The oldest request on a link, one for this page, was answered. The lease of its slab is
+    /// given back where that was the last to fly for a slab that drains.
     pub fn settled_for(&mut self, lender: Lender, page: Page) -> Option<Lease>
         requires page { page.0 < pages_of self.old.sizes }
         requires lender { lender.0 < MOST_LENDERS }
-        requires flying { 0 < slabs.flying_of (state_for self.old.sizes self.old.remote.slabs page) }
-        ensures tables { self.new ≡ record self.old { remote = settled_for self.old.sizes self.old.remote lender page } }
-        ensures lease { result ≡ slabs.settled_lease (state_for self.old.sizes self.old.remote.slabs page) }
+        requires flying { 0
+            < slabs.flying_of (state_for self.old.sizes self.old.remote.slabs page) }
+        ensures tables { self.new
+            ≡ record self.old { remote = settled_for self.old.sizes self.old.remote lender page } }
+        ensures lease { result
+            ≡ slabs.settled_lease (state_for self.old.sizes self.old.remote.slabs page) }
     {
         self.rings.answer(lender);
         self.slabs.settled(self.geometry.slab_of(page))
     }
 
-    /// It was a write: remote memory can be read for the page where its slab is mapped and the write was of the page's
-    /// newest entry.
+    /// It was a write: remote memory can be read for the page where its slab is mapped and the
+    /// write was of the page's newest entry.
     pub fn written(&mut self, lender: Lender, page: Page, newest: bool) -> Option<Lease>
         requires page { page.0 < pages_of self.old.sizes }
         requires lender { lender.0 < MOST_LENDERS }
-        requires flying { 0 < slabs.flying_of (state_for self.old.sizes self.old.remote.slabs page) }
-        ensures tables { self.new ≡ record self.old { remote = written self.old.sizes self.old.remote lender page newest } }
-        ensures lease { result ≡ slabs.settled_lease (state_for self.old.sizes self.old.remote.slabs page) }
+        requires flying { 0
+            < slabs.flying_of (state_for self.old.sizes self.old.remote.slabs page) }
+        ensures tables { self.new
+            ≡ record self.old
+            { remote = written self.old.sizes self.old.remote lender page newest } }
+        ensures lease { result
+            ≡ slabs.settled_lease (state_for self.old.sizes self.old.remote.slabs page) }
     {
         let is_mapped = is_mapped(self.slabs.state(self.geometry.slab_of(page)));
         let lease = self.settled_for(lender, page);
@@ -411,12 +445,13 @@ impl Remote {
         lease
     }
 
-    /// A mapped slab is taken back: no page of it can be read, and it drains. Its lease is given back where no request
-    /// flies for it.
+    /// A mapped slab is taken back: no page of it can be read, and it drains. Its lease is given
+    /// back where no request flies for it.
     pub fn evict(&mut self, slab: Slab) -> Option<Lease>
         requires slab { slab.0 < self.old.sizes.slabs }
         requires mapped { IsTrue (slabs.is_mapped (slabs.state_of self.old.remote.slabs slab)) }
-        ensures tables { self.new ≡ record self.old { remote = evicted self.old.sizes self.old.remote slab } }
+        ensures tables { self.new
+            ≡ record self.old { remote = evicted self.old.sizes self.old.remote slab } }
         ensures lease { result ≡ slabs.evicted_lease (slabs.state_of self.old.remote.slabs slab) }
     {
         let each = self.geometry.pages_per_slab();
@@ -428,7 +463,8 @@ impl Remote {
     /// A link was lost: it is down, and the slabs at its lender are local with their bits cleared.
     pub fn lost(&mut self, lender: Lender)
         requires { lender.0 < MOST_LENDERS }
-        ensures { self.new ≡ record self.old { remote = lost self.old.sizes self.old.remote lender } }
+        ensures { self.new
+            ≡ record self.old { remote = lost self.old.sizes self.old.remote lender } }
     {
         clear_at(&self.geometry, &self.slabs, &mut self.bits, lender);
         self.slabs.lost(lender);

@@ -11,16 +11,22 @@ length-pairs [] = refl
 length-pairs (a ∷ []) = refl
 length-pairs (a ∷ b ∷ rest) = omega (arith, length-pairs rest)
 
-is_some-filled : (size : ℕ) (piece : List ℕ) (b hex : Bool) → is_piece size piece ≡ b → is_some (cond hex (Some piece) None) ≡ true → is_some (filled size (cond hex (Some piece) None)) ≡ b
+is_some-filled :
+    (size : ℕ) (piece : List ℕ) (b hex : Bool) → is_piece size piece ≡ b → is_some (cond hex (Some piece) None) ≡ true
+    → is_some (filled size (cond hex (Some piece) None)) ≡ b
 is_some-filled size piece true true e h = ap (λ t. is_some (cond t (Some (repeated size piece)) None)) e
 is_some-filled size piece false true e h = ap (λ t. is_some (cond t (Some (repeated size piece)) None)) e
 is_some-filled size piece b false e h = cc
 
-pub is_some_pattern : (size : ℕ) (word : List ℕ) → is_some (piece_of word) ≡ true → is_some (pattern size word) ≡ (list_any (λ n. eqb (length word / 2) n) lengths && leb (length word / 2) size)
+pub is_some_pattern :
+    (size : ℕ) (word : List ℕ) → is_some (piece_of word) ≡ true
+    → is_some (pattern size word) ≡ (list_any (λ n. eqb (length word / 2) n) lengths && leb (length word / 2) size)
 is_some_pattern size word h =
     is_some-filled size (pairs word) _ _ refl h ∙ ap (λ l. list_any (λ n. eqb l n) lengths && leb l size) (length-pairs word)
 
-if_piece : (size : ℕ) (piece page : List ℕ) (b : Bool) → list_any (λ n. eqb size n) page_lengths ≡ true → is_piece size piece ≡ b → cond b (Some (repeated size piece)) None ≡ Some page → length page ≡ size
+if_piece :
+    (size : ℕ) (piece page : List ℕ) (b : Bool) → list_any (λ n. eqb size n) page_lengths ≡ true → is_piece size piece ≡ b
+    → cond b (Some (repeated size piece)) None ≡ Some page → length page ≡ size
 if_piece size piece page true is_page is e =
     let same : repeated size piece ≡ page = cc in
     let parts = and_parts (list_any (λ n. eqb (length piece) n) lengths) (leb (length piece) size) is in
@@ -28,6 +34,7 @@ if_piece size piece page true is_page is e =
 if_piece size piece page false is_page is e = cc
 
 -- a page that a piece fills has its size
-pub length-filled : (size : ℕ) (o : Option (List ℕ)) (page : List ℕ) → list_any (λ n. eqb size n) page_lengths ≡ true → filled size o ≡ Some page → length page ≡ size
+pub length-filled :
+    (size : ℕ) (o : Option (List ℕ)) (page : List ℕ) → list_any (λ n. eqb size n) page_lengths ≡ true → filled size o ≡ Some page → length page ≡ size
 length-filled size None page is_page e = cc
 length-filled size (Some piece) page is_page e = if_piece size piece page (is_piece size piece) is_page refl e

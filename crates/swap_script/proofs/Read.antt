@@ -40,7 +40,9 @@ passes x false rest e = cc
 below : (a b : ℕ) → nat_lt a b ≡ true → a < b
 below = ltb-true
 
-in_range : (s : Sizes) (lenders : ℕ) (e : Event) → has_caller s e ≡ true → has_page s e ≡ true → has_slab s e ≡ true → has_lender lenders e ≡ true → IsInRange s lenders e
+in_range :
+    (s : Sizes) (lenders : ℕ) (e : Event) → has_caller s e ≡ true → has_page s e ≡ true → has_slab s e ≡ true → has_lender lenders e ≡ true
+    → IsInRange s lenders e
 in_range s n (event.PageOut c p) hc hp hs hl = (below c.0 s.callers hc, below p.0 (pages_of s) hp)
 in_range s n (event.PageIn c p) hc hp hs hl = (below c.0 s.callers hc, below p.0 (pages_of s) hp)
 in_range s n (event.Finish c) hc hp hs hl = below c.0 s.callers hc

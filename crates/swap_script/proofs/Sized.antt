@@ -11,7 +11,9 @@ sizes_within_is None r e = cc
 sizes_within_is (Some s) r e = let same : within s ≡ r = cc in ap fielded same
 
 -- seven words and no more, or more
-pub seven_words-with : (a b c d e f g : List ℕ) (ws : List (List ℕ)) (r : Option (Unit {0})) → option_map (λ _. tt) r ≡ no_word ws → option_map (λ _. (a, b, c, d, e, f, g)) r ≡ seven_words (a ∷ b ∷ c ∷ d ∷ e ∷ f ∷ g ∷ ws)
+pub seven_words-with :
+    (a b c d e f g : List ℕ) (ws : List (List ℕ)) (r : Option (Unit {0})) → option_map (λ _. tt) r ≡ no_word ws
+    → option_map (λ _. (a, b, c, d, e, f, g)) r ≡ seven_words (a ∷ b ∷ c ∷ d ∷ e ∷ f ∷ g ∷ ws)
 seven_words-with a b c d e f g [] None h = cc
 seven_words-with a b c d e f g [] (Some u) h = refl
 seven_words-with a b c d e f g (w ∷ ws) None h = refl

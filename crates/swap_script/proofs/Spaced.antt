@@ -16,10 +16,13 @@ spaced-led word (next ∷ words) = refl
 pub led-append : (xs ys : List (List ℕ)) → led (xs ++ ys) ≡ led xs ++ led ys
 led-append [] ys = refl
 led-append (x ∷ xs) ys =
-    ap (λ l. 32 ∷ l) (spaced-led x (xs ++ ys)) ∙ ap (λ l. 32 ∷ (x ++ l)) (led-append xs ys) ∙ ap (λ l. 32 ∷ l) (sym (append_assoc x (led xs) (led ys))) ∙ ap (λ l. (32 ∷ l) ++ led ys) (sym (spaced-led x xs))
+    ap (λ l. 32 ∷ l) (spaced-led x (xs ++ ys)) ∙ ap (λ l. 32 ∷ (x ++ l)) (led-append xs ys) ∙ ap (λ l. 32 ∷ l) (sym (append_assoc x (led xs) (led ys)))
+    ∙ ap (λ l. (32 ∷ l) ++ led ys) (sym (spaced-led x xs))
 
 -- a name below the length is an entry's
-named-at : (row : Row) (H : History) (n : ℕ) (b : Bool) → eqb (length H) n ≡ b → (b ≡ false → (r : Row) × (named H n ≡ Some r)) → (r : Row) × (named (row ∷ H) n ≡ Some r)
+named-at :
+    (row : Row) (H : History) (n : ℕ) (b : Bool) → eqb (length H) n ≡ b → (b ≡ false → (r : Row) × (named H n ≡ Some r))
+    → (r : Row) × (named (row ∷ H) n ≡ Some r)
 named-at row H n true e later = (row, ap (λ t. cond t (Some row) (named H n)) e)
 named-at row H n false e later = let found = later refl in (found.0, ap (λ t. cond t (Some row) (named H n)) e ∙ found.1)
 
@@ -33,13 +36,17 @@ led-entry H e l = let some = named-some H e.0 l in ap (λ r. led (row_words e.0 
 -- numbers below another that pass a test, and one more
 filter_more : (p : ℕ → Bool) (n : ℕ) → filter p (range_with_len 0 (n + 1)) ≡ filter p (range_with_len 0 n) ++ cond (p n) (n ∷ []) []
 filter_more p n =
-    ap (filter p) (sym (map-id (range_with_len 0 (n + 1)))) ∙ filter_of_map_range_with_len_more p (λ i. i) 0 n n (omega arith) ∙ ap (λ r. filter p r ++ cond (p n) (n ∷ []) []) (map-id (range_with_len 0 n))
+    ap (filter p) (sym (map-id (range_with_len 0 (n + 1)))) ∙ filter_of_map_range_with_len_more p (λ i. i) 0 n n (omega arith)
+    ∙ ap (λ r. filter p r ++ cond (p n) (n ∷ []) []) (map-id (range_with_len 0 n))
 
 map-one : (b : Bool) (n : ℕ) → map decimal (cond b (n ∷ []) []) ≡ cond b (decimal n ∷ []) []
 map-one true n = refl
 map-one false n = refl
 
-pub led-numbers_more : (p : ℕ → Bool) (n : ℕ) → led (map decimal (filter p (range_with_len 0 (n + 1)))) ≡ led (map decimal (filter p (range_with_len 0 n))) ++ led (cond (p n) (decimal n ∷ []) [])
+pub led-numbers_more :
+    (p : ℕ → Bool) (n : ℕ)
+    → led (map decimal (filter p (range_with_len 0 (n + 1)))) ≡ led (map decimal (filter p (range_with_len 0 n))) ++ led (cond (p n) (decimal n ∷ []) [])
 led-numbers_more p n =
     let below = filter p (range_with_len 0 n) in
-    ap (λ l. led (map decimal l)) (filter_more p n) ∙ ap led (map-append decimal below (cond (p n) (n ∷ []) [])) ∙ led-append (map decimal below) (map decimal (cond (p n) (n ∷ []) [])) ∙ ap (λ w. led (map decimal below) ++ led w) (map-one (p n) n)
+    ap (λ l. led (map decimal l)) (filter_more p n) ∙ ap led (map-append decimal below (cond (p n) (n ∷ []) []))
+    ∙ led-append (map decimal below) (map decimal (cond (p n) (n ∷ []) [])) ∙ ap (λ w. led (map decimal below) ++ led w) (map-one (p n) n)

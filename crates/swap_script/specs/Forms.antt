@@ -80,7 +80,8 @@ ok_word how = if is_word (codes "ok") how then Some true else (if is_word (codes
 -- an operation of the disk
 abbrev pub which_words : List ℕ → List ℕ → Option DiskWhich
 which_words what n =
-    if is_word (codes "write") what then (page_word n >>= λ page. Some (which.Write page)) else (if is_word (codes "read") what then (caller_word n >>= λ caller. Some (which.Read caller)) else None)
+    if is_word (codes "write") what then (page_word n >>= λ page. Some (which.Write page))
+    else (if is_word (codes "read") what then (caller_word n >>= λ caller. Some (which.Read caller)) else None)
 
 -- a page-out and a page-in of a caller, by the words of the page
 abbrev pub page_out : Caller → List ℕ → List ℕ → Option Line
@@ -248,7 +249,16 @@ sizes_words words = do
   callers ← small e
   window ← small f
   hot ← small g
-  Some (record { page_bytes = page_bytes; pages_per_slab = pages_per_slab; slabs = slabs; queue = queue; callers = callers; window = window; hot = hot })
+  Some
+      (record {
+        page_bytes = page_bytes;
+        pages_per_slab = pages_per_slab;
+        slabs = slabs;
+        queue = queue;
+        callers = callers;
+        window = window;
+        hot = hot;
+      })
 
 -- the three numbers of a lender line
 abbrev pub spec_words : List (List ℕ) → Option LenderSpec

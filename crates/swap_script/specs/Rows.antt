@@ -56,8 +56,17 @@ bare e = record { event = e; page = [] }
 abbrev pub ScriptRows : Type 0
 ScriptRows =
     Gives G []
-    × Gives (text (codes "# a comment" ∷ G ∷ codes "" ∷ codes "out 1 7 0102" ∷ codes "# out 9 9 9" ∷ codes "disk read 0 bad" ∷ [])) (record { event = event.PageOut (record { 0 = 1 }) (record { 0 = 7 }); page = 1 ∷ 2 ∷ 1 ∷ 2 ∷ 1 ∷ 2 ∷ 1 ∷ 2 ∷ [] } ∷ record { event = event.Disk (which.Read (record { 0 = 0 })) false; page = [] } ∷ [])
-    × Gives (text (G ∷ codes "in 0 5" ∷ codes "finish 0" ∷ codes "start" ∷ codes "disk write 3 ok" ∷ [])) (record { event = event.PageIn (record { 0 = 0 }) (record { 0 = 5 }); page = [] } ∷ record { event = event.Finish (record { 0 = 0 }); page = [] } ∷ record { event = event.Start; page = [] } ∷ record { event = event.Disk (which.Write (record { 0 = 3 })) true; page = [] } ∷ [])
+    × Gives
+    (text
+    (codes "# a comment" ∷ G ∷ codes "" ∷ codes "out 1 7 0102" ∷ codes "# out 9 9 9" ∷ codes "disk read 0 bad"
+    ∷ []))
+    (record
+    { event = event.PageOut (record { 0 = 1 }) (record { 0 = 7 }); page = 1 ∷ 2 ∷ 1 ∷ 2 ∷ 1 ∷ 2 ∷ 1 ∷ 2 ∷ [] }
+    ∷ record { event = event.Disk (which.Read (record { 0 = 0 })) false; page = [] } ∷ [])
+    × Gives (text (G ∷ codes "in 0 5" ∷ codes "finish 0" ∷ codes "start" ∷ codes "disk write 3 ok" ∷ []))
+    (record { event = event.PageIn (record { 0 = 0 }) (record { 0 = 5 }); page = [] }
+    ∷ record { event = event.Finish (record { 0 = 0 }); page = [] } ∷ record { event = event.Start; page = [] }
+    ∷ record { event = event.Disk (which.Write (record { 0 = 3 })) true; page = [] } ∷ [])
 
 -- the events of a page-in that a lender answers: lender 0, slab 0, caller 0, and page 3
 abbrev connect : Event
@@ -86,7 +95,9 @@ finish = event.Finish (record { 0 = 0 })
 
 abbrev page_in_from_a_lender_script : List (List ℕ)
 page_in_from_a_lender_script =
-    G ∷ L ∷ codes "connect 0" ∷ codes "map 0 0" ∷ codes "give 0" ∷ codes "give 0" ∷ codes "take 0" ∷ codes "out 0 3 aa" ∷ codes "give 0" ∷ codes "take 0" ∷ codes "start" ∷ codes "disk write 3 ok" ∷ codes "in 0 3" ∷ codes "give 0" ∷ codes "take 0" ∷ codes "finish 0" ∷ []
+    G ∷ L ∷ codes "connect 0" ∷ codes "map 0 0" ∷ codes "give 0" ∷ codes "give 0" ∷ codes "take 0" ∷ codes "out 0 3 aa"
+    ∷ codes "give 0" ∷ codes "take 0" ∷ codes "start" ∷ codes "disk write 3 ok" ∷ codes "in 0 3" ∷ codes "give 0"
+    ∷ codes "take 0" ∷ codes "finish 0" ∷ []
 
 abbrev page_in_from_a_lender_transcript : List (List ℕ)
 page_in_from_a_lender_transcript =
@@ -112,7 +123,9 @@ page_in_from_a_lender_transcript =
 abbrev pub LenderRows : Type 0
 LenderRows =
     Lends (text (G ∷ L ∷ [])) []
-    × Lends (text page_in_from_a_lender_script) (map bare (connect ∷ map_slab ∷ give ∷ give ∷ take ∷ []) ++ record { event = page_out; page = replicate 8 170 } ∷ map bare (give ∷ take ∷ event.Start ∷ written ∷ page_in ∷ give ∷ take ∷ finish ∷ []))
+    × Lends (text page_in_from_a_lender_script)
+    (map bare (connect ∷ map_slab ∷ give ∷ give ∷ take ∷ []) ++ record { event = page_out; page = replicate 8 170 }
+    ∷ map bare (give ∷ take ∷ event.Start ∷ written ∷ page_in ∷ give ∷ take ∷ finish ∷ []))
 
 -- with two lenders: links are made any number of times, cut, and ended by a crash
 abbrev two_specs : List LenderSpec
@@ -241,9 +254,12 @@ one_page_out = pushed [] (record { 0 = 0 }) (record { 0 = 3 }) op.PageOut (repli
 abbrev pub PrintedRows : Type 0
 PrintedRows =
     (header small_sizes ≡ ended G)
-    × (line one_page_out (event.PageOut (record { 0 = 0 }) (record { 0 = 3 }), seen.Done (record { 0 = 0 }) None) ≡ ended (codes "out 0 3 = entry 0 out 3 aa"))
-    × (line [] (event.PageIn (record { 0 = 0 }) (record { 0 = 3 }), seen.Wait via.Disk) ≡ ended (codes "in 0 3 = wait disk"))
-    × (line [] (event.Disk (which.Write (record { 0 = 3 })) false, seen.WriteKept (record { 0 = 12 })) ≡ ended (codes "disk write 3 bad = kept 12"))
+    × (line one_page_out (event.PageOut (record { 0 = 0 }) (record { 0 = 3 }), seen.Done (record { 0 = 0 }) None)
+    ≡ ended (codes "out 0 3 = entry 0 out 3 aa"))
+    × (line [] (event.PageIn (record { 0 = 0 }) (record { 0 = 3 }), seen.Wait via.Disk)
+    ≡ ended (codes "in 0 3 = wait disk"))
+    × (line [] (event.Disk (which.Write (record { 0 = 3 })) false, seen.WriteKept (record { 0 = 12 }))
+    ≡ ended (codes "disk write 3 bad = kept 12"))
     × (line [] (event.Start, seen.Nothing) ≡ ended (codes "start = -"))
     × (end_line 2 ≡ ended (codes "end 2"))
     × (refusal (record { line = 3; why = why.Page }) ≡ ended (codes "line 3: page"))
@@ -269,7 +285,8 @@ seen_of_a_lender =
 
 abbrev two_entries : History
 two_entries =
-    pushed one_page_out (record { 0 = 0 }) (record { 0 = 3 }) (op.PageIn (Some (record { 0 = 0 })) (origin.Lender (record { 0 = 0 }))) (replicate 8 170)
+    pushed one_page_out (record { 0 = 0 }) (record { 0 = 3 })
+    (op.PageIn (Some (record { 0 = 0 })) (origin.Lender (record { 0 = 0 }))) (replicate 8 170)
 
 abbrev pub LinkRows : Type 0
 LinkRows =

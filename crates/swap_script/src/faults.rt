@@ -186,7 +186,8 @@ pub fn fault_of(
     requires counts { above.calls ≤ above.events }
     requires within { above.events ≤ EVENT_LIMIT }
     requires hex { is_out line.event ≡ true → is_some (piece_of line.hex.now) ≡ true }
-    ensures { result ≡ first_beyond (tests grammar geometry.now lenders (above_of above) (spelled line.entry)) }
+    ensures { result
+        ≡ first_beyond (tests grammar geometry.now lenders (above_of above) (spelled line.entry)) }
 {
     if !are_addressed(grammar, lenders) {
         return Some(Why::Lenders);

@@ -264,7 +264,8 @@ fn operator_line<'t>(first: &[u8], words: Words<'t>) -> Option<Line<'t>>
 /// A call of a trace, by the words behind its caller.
 fn call_line<'t>(caller: Caller, mut words: Words<'t>) -> Option<Line<'t>>
     ensures line { option_map spelled result ≡ call_line caller words.entry }
-    ensures hex { IfSome result (λ line. is_out line.event ≡ true → is_some (piece_of line.hex.now) ≡ true) }
+    ensures hex { IfSome result
+        (λ line. is_out line.event ≡ true → is_some (piece_of line.hex.now) ≡ true) }
 {
     let kind = words.next()?;
     if is_word(kind, b"out") {
@@ -280,7 +281,8 @@ fn call_line<'t>(caller: Caller, mut words: Words<'t>) -> Option<Line<'t>>
 /// The event of a script's line, if the line has the form of one.
 fn event_line<'t>(line: &'t [u8]) -> Option<Line<'t>>
     ensures line { option_map spelled result ≡ event_line (words_of line.now) }
-    ensures hex { IfSome result (λ line. is_out line.event ≡ true → is_some (piece_of line.hex.now) ≡ true) }
+    ensures hex { IfSome result
+        (λ line. is_out line.event ≡ true → is_some (piece_of line.hex.now) ≡ true) }
 {
     let mut words = Words::of(line);
     let first = words.next()?;
@@ -308,7 +310,8 @@ fn event_line<'t>(line: &'t [u8]) -> Option<Line<'t>>
 /// The event of a trace's line, if the line has the form of one.
 fn trace_line<'t>(line: &'t [u8]) -> Option<Line<'t>>
     ensures line { option_map spelled result ≡ trace_line (words_of line.now) }
-    ensures hex { IfSome result (λ line. is_out line.event ≡ true → is_some (piece_of line.hex.now) ≡ true) }
+    ensures hex { IfSome result
+        (λ line. is_out line.event ≡ true → is_some (piece_of line.hex.now) ≡ true) }
 {
     let mut words = Words::of(line);
     let first = words.next()?;
@@ -321,7 +324,8 @@ fn trace_line<'t>(line: &'t [u8]) -> Option<Line<'t>>
 /// The event of a line, if the line has the form of one.
 pub fn line_of<'t>(grammar: Grammar, line: &'t [u8]) -> Option<Line<'t>>
     ensures line { option_map spelled result ≡ line_of grammar (words_of line.now) }
-    ensures hex { IfSome result (λ line. is_out line.event ≡ true → is_some (piece_of line.hex.now) ≡ true) }
+    ensures hex { IfSome result
+        (λ line. is_out line.event ≡ true → is_some (piece_of line.hex.now) ≡ true) }
 {
     match grammar {
         Grammar::Script => event_line(line),
@@ -349,7 +353,8 @@ pub fn begins_with(caller: Caller, line: &[u8]) -> bool
     }
 }
 
-/// The sizes that a geometry line gives behind its first word, or the first that is beyond its limit.
+/// The sizes that a geometry line gives behind its first word, or the first that is beyond its
+/// limit.
 fn sizes_words(words: Words<'_>) -> Option<Result<Geometry, FieldRefused>>
     ensures { option_map as_within result ≡ option_map within (sizes_words words.entry) }
 {

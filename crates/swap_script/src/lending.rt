@@ -74,7 +74,8 @@ impl Model for Lenders {
 
     ghost view = { λ l. take l.count l.specs };
 
-    ghost invariant = { λ l. (length l.specs ≡ 8) × (l.count ≤ 8) × (l.slots ≡ slots_of (take l.count l.specs)) × (l.slots ≤ 64 * l.count) };
+    ghost invariant = { λ l. (length l.specs ≡ 8) × (l.count ≤ 8)
+        × (l.slots ≡ slots_of (take l.count l.specs)) × (l.slots ≤ 64 * l.count) };
 }
 
 impl Lenders {
@@ -155,7 +156,8 @@ fn lending_fault(geometry: &Geometry, others: &Lenders, spec: &LenderSpec) -> Op
     None
 }
 
-/// The lender that the words behind the first of a lender line give, behind the lenders of the lines above it.
+/// The lender that the words behind the first of a lender line give, behind the lenders of the
+/// lines above it.
 pub fn lender_line(
     geometry: &Geometry,
     others: &Lenders,

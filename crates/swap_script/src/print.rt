@@ -385,7 +385,8 @@ fn evicted_words(set: u64, out: &mut LineBuf)
 /// Appends a slab and the lenders that were asked for room.
 fn asked_words(slab: Slab, first: Lender, second: Option<Lender>, out: &mut LineBuf)
     requires { length out.old ≤ 1_000 }
-    ensures text { out.new ≡ out.old ++ led (codes "ask" ∷ decimal slab.0 ∷ decimal first.0 ∷ second_words second) }
+    ensures text { out.new ≡ out.old
+        ++ led (codes "ask" ∷ decimal slab.0 ∷ decimal first.0 ∷ second_words second) }
     ensures length { length out.new ≤ length out.old + 80 }
 {
     word(out, b"ask");
@@ -395,7 +396,8 @@ fn asked_words(slab: Slab, first: Lender, second: Option<Lender>, out: &mut Line
     }
 }
 
-/// Appends what a lender did with a message: the message that it took, its reply, and the slots that were told to go.
+/// Appends what a lender did with a message: the message that it took, its reply, and the slots
+/// that were told to go.
 fn gave_words(taken: &Msg, reply: &Option<Msg>, evicted: u64, out: &mut LineBuf)
     requires { length out.old ≤ 700 }
     ensures text { out.new ≡ out.old ++ led (gave_words taken.now reply.now evicted) }
@@ -474,8 +476,8 @@ fn seen_words(seen: &Seen, history: &Record, out: &mut LineBuf)
     }
 }
 
-/// Writes the line of an event into the emptied `out`: its words, and those of what was seen of it. An entry that was
-/// answered must be one of the history.
+/// Writes the line of an event into the emptied `out`: its words, and those of what was seen of it.
+/// An entry that was answered must be one of the history.
 pub fn event_line(event: &Event, seen: &Seen, history: &Record, out: &mut LineBuf)
     requires { HasEntry history.now.history seen.now }
     ensures { out.new ≡ line history.now.history (event.now, seen.now) }

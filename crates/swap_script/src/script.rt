@@ -17,7 +17,8 @@ use swap_base::{Caller, Geometry, LenderSpec};
 use swap_io::pattern;
 use swap_wire::Event;
 
-/// The events that are left of a script or a trace, or of a part of it, with its sizes and its lenders.
+/// The events that are left of a script or a trace, or of a part of it, with its sizes and its
+/// lenders.
 #[derive(Drop)]
 pub struct Walk<'t> {
     grammar: Grammar,
@@ -33,9 +34,15 @@ impl<'t> Model for Walk<'t> {
 
     ghost Value = { Script };
 
-    ghost view = { λ w. record { sizes = w.geometry; lenders = w.lenders; inputs = part_of w.part (inputs_of w.grammar w.geometry w.place) } };
+    ghost view = { λ w.
+        record {
+          sizes = w.geometry;
+          lenders = w.lenders;
+          inputs = part_of w.part (inputs_of w.grammar w.geometry w.place);
+        } };
 
-    ghost invariant = { λ w. AllRead w.grammar w.geometry (length w.lenders) w.place × MayLend w.geometry w.lenders };
+    ghost invariant = { λ w. AllRead w.grammar w.geometry (length w.lenders) w.place
+        × MayLend w.geometry w.lenders };
 }
 
 fn is_call_of(caller: Caller, event: Event) -> bool
@@ -96,7 +103,8 @@ impl<'t> Walk<'t> {
         ensures lenders { self.new.lenders ≡ self.old.lenders }
         ensures next { MatchOption result ((self.old.inputs ≡ []) × (self.new.inputs ≡ []))
             (λ line. self.old.inputs ≡ input_of self.old.sizes (spelled line) ∷ self.new.inputs) }
-        ensures reads { IfSome result (λ line. Reads self.old.sizes (length self.old.lenders) (Some (spelled line))) }
+        ensures reads { IfSome result
+            (λ line. Reads self.old.sizes (length self.old.lenders) (Some (spelled line))) }
     {
         'looking: while let Some(kept) = self.place.next() {
             if let Some(line) = line_in(self.grammar, self.part, kept.text) {
@@ -106,8 +114,8 @@ impl<'t> Walk<'t> {
         None
     }
 
-    /// The next event; None exactly at the end. The page of a page-out is filled into `page`, which has the script's
-    /// `page_bytes`; other events leave it.
+    /// The next event; None exactly at the end. The page of a page-out is filled into `page`, which
+    /// has the script's `page_bytes`; other events leave it.
     pub fn next(&mut self, page: &mut [u8]) -> Option<Event>
         requires { length page.old ≡ self.old.sizes.page_bytes }
         ensures event { result ≡ first_event self.old.inputs }
@@ -141,9 +149,18 @@ impl<'t> Model for Script<'t> {
 
     ghost Value = { Script };
 
-    ghost view = { λ s. record { sizes = s.geometry; lenders = s.lenders; inputs = inputs_of s.grammar s.geometry s.place } };
+    ghost view = { λ s.
+        record {
+          sizes = s.geometry;
+          lenders = s.lenders;
+          inputs = inputs_of s.grammar s.geometry s.place;
+        } };
 
-    ghost invariant = { λ s. AllRead s.grammar s.geometry (length s.lenders) s.place × MayLend s.geometry s.lenders × (s.calls ≡ calls_of (inputs_of s.grammar s.geometry s.place)) × (s.events ≡ length (inputs_of s.grammar s.geometry s.place)) × (s.calls ≤ s.events) × (s.events ≤ 4_194_304) };
+    ghost invariant = { λ s. AllRead s.grammar s.geometry (length s.lenders) s.place
+        × MayLend s.geometry s.lenders
+        × (s.calls ≡ calls_of (inputs_of s.grammar s.geometry s.place))
+        × (s.events ≡ length (inputs_of s.grammar s.geometry s.place)) × (s.calls ≤ s.events)
+        × (s.events ≤ 4_194_304) };
 }
 
 impl<'t> Script<'t> {
@@ -161,7 +178,8 @@ impl<'t> Script<'t> {
         self.lenders.count()
     }
 
-    /// A lender of the script, by its number. Each is within its limits, and all of them lend no more than they may.
+    /// A lender of the script, by its number. Each is within its limits, and all of them lend no
+    /// more than they may.
     pub fn lender(&self, i: u32) -> LenderSpec
         requires { i < length self.now.lenders }
         ensures spec { slice_get self.now.lenders i ≡ Some result }
@@ -193,7 +211,8 @@ impl<'t> Script<'t> {
         self.walk_of(Part::Whole)
     }
 
-    /// A walk over a part of the events. It passes over lines of other parts of a trace by their first words alone.
+    /// A walk over a part of the events. It passes over lines of other parts of a trace by their
+    /// first words alone.
     pub fn walk_of(&self, part: Part) -> Walk<'t>
         ensures { result ≡ script_part part self.now }
     {
@@ -264,11 +283,15 @@ fn checked_lines(
     mut place: Place<'_>,
 ) -> Result<Counts, ScriptRefused>
     requires { length text.now ≤ TEXT_LIMIT }
-    ensures fault { let first = first_fault grammar (end_of text.now) geometry.now lenders place.entry nothing_above in
+    ensures fault { let first =
+        first_fault grammar (end_of text.now) geometry.now lenders place.entry nothing_above in
         MatchResult result (λ _. first ≡ None) (λ refused. first ≡ Some refused) }
-    ensures events { IfOk result (λ counts. counts.events ≡ length (inputs_of grammar geometry.now place.entry)) }
-    ensures calls { IfOk result (λ counts. counts.calls ≡ calls_of (inputs_of grammar geometry.now place.entry)) }
-    ensures within { IfOk result (λ counts. (counts.calls ≤ counts.events) × (counts.events ≤ 4_194_304)) }
+    ensures events { IfOk result
+        (λ counts. counts.events ≡ length (inputs_of grammar geometry.now place.entry)) }
+    ensures calls { IfOk result
+        (λ counts. counts.calls ≡ calls_of (inputs_of grammar geometry.now place.entry)) }
+    ensures within { IfOk result
+        (λ counts. (counts.calls ≤ counts.events) × (counts.events ≤ 4_194_304)) }
 {
     let mut counts = Counts {
         events: 0,
@@ -323,12 +346,12 @@ fn read_events<'t>(
 }
 
 /// Reads a text of at most `TEXT_LIMIT` bytes by a grammar: a geometry line, lender lines, then the
-/// lines of events, where empty lines and those that begin with `#` are skipped. Else its first line at
-/// fault is named, with the first fault of that line; a text without a geometry line is refused at one
-/// more than its number of lines.
+/// lines of events, where empty lines and those that begin with `#` are skipped. Else its first
+/// line at fault is named, with the first fault of that line; a text without a geometry line is
+/// refused at one more than its number of lines.
 ///
-/// The text is checked whole, and no memory is taken: the script keeps the text and its counts, and a
-/// walk reads it again.
+/// The text is checked whole, and no memory is taken: the script keeps the text and its counts, and
+/// a walk reads it again.
 pub fn read_text<'t>(grammar: Grammar, text: &'t [u8]) -> Result<Script<'t>, ScriptRefused>
     requires { length text.now ≤ TEXT_LIMIT }
     ensures { result ≡ reading grammar text.now }

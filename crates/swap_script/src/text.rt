@@ -65,7 +65,8 @@ impl<'t> Words<'t> {
     }
 
     pub fn next(&mut self) -> Option<&'t [u8]>
-        ensures { MatchOption result ((self.old ≡ []) × (self.new ≡ [])) (λ word. self.old ≡ word.now ∷ self.new) }
+        ensures { MatchOption result ((self.old ≡ []) × (self.new ≡ []))
+            (λ word. self.old ≡ word.now ∷ self.new) }
     {
         let rest = self.rest?;
         let cut = cut_at(rest, b' ');
@@ -125,7 +126,9 @@ pub type Seven<'t> = (
 
 impl<'t> Words<'t> {
     pub fn seven(mut self) -> Option<Seven<'t>>
-        ensures { option_map (λ t. (t.0.now, t.1.now, t.2.now, t.3.now, t.4.now, t.5.now, t.6.now)) result ≡ seven_words self.entry }
+        ensures { option_map
+            (λ t. (t.0.now, t.1.now, t.2.now, t.3.now, t.4.now, t.5.now, t.6.now)) result
+            ≡ seven_words self.entry }
     {
         let a = self.next()?;
         let b = self.next()?;
@@ -194,7 +197,8 @@ impl<'t> Place<'t> {
 
     /// The next line that counts.
     pub fn next(&mut self) -> Option<Kept<'t>>
-        ensures { MatchOption result ((self.old ≡ []) × (self.new ≡ [])) (λ kept. self.old ≡ (kept.line, kept.text.now) ∷ self.new) }
+        ensures { MatchOption result ((self.old ≡ []) × (self.new ≡ []))
+            (λ kept. self.old ≡ (kept.line, kept.text.now) ∷ self.new) }
     {
         'looking: while !self.rest.is_empty() {
             let cut = cut_at(self.rest, b'\n');

@@ -5,7 +5,9 @@ use Rattle.swap_wire.specs.declared.side.Side.{Side}
 use Rattle.swap_wire.specs.Frames.{frame, IsFrame, IsHopeless}
 use Rattle.swap_wire.specs.Streams.{frames_of, AreSent}
 
-pub sent_last : (side : Side) (page_bytes : ℕ) (gs : List (Msg × List ℕ)) (m : Msg) (page : List ℕ) → AreSent side page_bytes gs → IsFrame side page_bytes m page (frame m page)
+pub sent_last :
+    (side : Side) (page_bytes : ℕ) (gs : List (Msg × List ℕ)) (m : Msg) (page : List ℕ) → AreSent side page_bytes gs
+    → IsFrame side page_bytes m page (frame m page)
     → AreSent side page_bytes (gs ++ (m, page) ∷ [])
 sent_last side page_bytes [] m page each f = (f, tt)
 sent_last side page_bytes (g ∷ gs) m page each f = (each.0, sent_last side page_bytes gs m page each.1 f)
@@ -33,7 +35,9 @@ fronts (x ∷ a) b (y ∷ c) d e =
       | inr h ↦ inr (h.0, cons_is (sym (heads e)) h.1)
     ]
 
-none_in_front : (side : Side) (page_bytes : ℕ) (bytes more : List ℕ) → IsHopeless side page_bytes bytes → (m : Msg) (page front rest : List ℕ) → IsFrame side page_bytes m page front → bytes ++ more ≡ front ++ rest → ⊥
+none_in_front :
+    (side : Side) (page_bytes : ℕ) (bytes more : List ℕ) → IsHopeless side page_bytes bytes → (m : Msg) (page front rest : List ℕ)
+    → IsFrame side page_bytes m page front → bytes ++ more ≡ front ++ rest → ⊥
 none_in_front side page_bytes bytes more h m page front rest f parts =
     elim (fronts bytes more front rest parts) [
       | inl x ↦ h.none_in_front m page front x.0 f x.1
@@ -43,5 +47,6 @@ none_in_front side page_bytes bytes more h m page front rest f parts =
 pub hopeless_more : (side : Side) (page_bytes : ℕ) (bytes more : List ℕ) → IsHopeless side page_bytes bytes → IsHopeless side page_bytes (bytes ++ more)
 hopeless_more side page_bytes bytes more h = record {
   none_in_front = none_in_front side page_bytes bytes more h;
-  none_beyond = λ m page further f. h.none_beyond m page (more ++ further) (subst (λ (b : List ℕ). IsFrame side page_bytes m page b) (append_assoc bytes more further) f);
+  none_beyond =
+      λ m page further f. h.none_beyond m page (more ++ further) (subst (λ (b : List ℕ). IsFrame side page_bytes m page b) (append_assoc bytes more further) f);
 }

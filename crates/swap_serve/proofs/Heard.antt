@@ -76,8 +76,11 @@ range_drop xs at end n le =
 
 module _ {S : Type 0} (left : S → Option (List ℕ)) (faults : S → ℕ) where
   -- bytes ahead are fed
-  pub fills_fed : (reader : S) (ear : Ear) (d e : Decoding) (xs : List ℕ) (at end n : ℕ) → Waits d → at + n ≤ end → n ≡ taken d (slice_range xs at end) → e ≡ fed d (slice_range xs at end)
-      → Fills left faults (record { reader = reader; decoder = d; ahead = slice_range xs at end; ear = ear }) (record { reader = reader; decoder = e; ahead = slice_range xs (at + n) end; ear = ear })
+  pub fills_fed :
+      (reader : S) (ear : Ear) (d e : Decoding) (xs : List ℕ) (at end n : ℕ) → Waits d → at + n ≤ end → n ≡ taken d (slice_range xs at end)
+      → e ≡ fed d (slice_range xs at end)
+      → Fills left faults (record { reader = reader; decoder = d; ahead = slice_range xs at end; ear = ear })
+      (record { reader = reader; decoder = e; ahead = slice_range xs (at + n) end; ear = ear })
   fills_fed reader ear d e xs at end n waits within n_is e_is =
       let bs = slice_range xs at end in
       let whole : e ≡ record d { rest = d.rest ++ take (room d) bs } = e_is ∙ fed_alive d bs waits.alive in
@@ -85,7 +88,9 @@ module _ {S : Type 0} (left : S → Option (List ℕ)) (faults : S → ℕ) wher
         bytes = [];
         read = read_none (left reader) (left reader) (keeps_same (left reader));
         later = omega arith;
-        goes = fed_goes d bs waits.alive ∙ ap (λ (x : Decoding). x.rest ++ drop (taken d bs) bs) (sym e_is) ∙ ap (λ (i : ℕ). e.rest ++ drop i bs) (sym n_is) ∙ ap (λ (x : List ℕ). e.rest ++ x) (sym (range_drop xs at end n within));
+        goes =
+            fed_goes d bs waits.alive ∙ ap (λ (x : Decoding). x.rest ++ drop (taken d bs) bs) (sym e_is) ∙ ap (λ (i : ℕ). e.rest ++ drop i bs) (sym n_is)
+            ∙ ap (λ (x : List ℕ). e.rest ++ x) (sym (range_drop xs at end n within));
         before = ap (λ (x : Decoding). x.before) whole;
         side = ap (λ (x : Decoding). x.side) whole;
         pages = ap (λ (x : Decoding). x.page_bytes) whole;
@@ -93,13 +98,17 @@ module _ {S : Type 0} (left : S → Option (List ℕ)) (faults : S → ℕ) wher
       }
 
   -- bytes were read where none were ahead
-  pub fills_read : (a b : S) (ear : Ear) (d : Decoding) (xs buf : List ℕ) (at end n : ℕ) → end ≤ at → WasRead (left a) (left b) (take n buf) → faults a ≤ faults b
-      → Fills left faults (record { reader = a; decoder = d; ahead = slice_range xs at end; ear = ear }) (record { reader = b; decoder = d; ahead = slice_range buf 0 n; ear = ear })
+  pub fills_read :
+      (a b : S) (ear : Ear) (d : Decoding) (xs buf : List ℕ) (at end n : ℕ) → end ≤ at → WasRead (left a) (left b) (take n buf) → faults a ≤ faults b
+      → Fills left faults (record { reader = a; decoder = d; ahead = slice_range xs at end; ear = ear })
+      (record { reader = b; decoder = d; ahead = slice_range buf 0 n; ear = ear })
   fills_read a b ear d xs buf at end n none read later = record {
     bytes = take n buf;
     read = read;
     later = later;
-    goes = ap (λ (x : List ℕ). (d.rest ++ x) ++ take n buf) (range_none xs at end none) ∙ ap (λ (x : List ℕ). x ++ take n buf) (append-nil d.rest) ∙ ap (λ (k : ℕ). d.rest ++ take k buf) (omega arith);
+    goes =
+        ap (λ (x : List ℕ). (d.rest ++ x) ++ take n buf) (range_none xs at end none) ∙ ap (λ (x : List ℕ). x ++ take n buf) (append-nil d.rest)
+        ∙ ap (λ (k : ℕ). d.rest ++ take k buf) (omega arith);
     before = refl;
     side = refl;
     pages = refl;
@@ -107,20 +116,30 @@ module _ {S : Type 0} (left : S → Option (List ℕ)) (faults : S → ℕ) wher
   }
 
   -- the frame in front is one more of those that were given
-  one_more : (page_bytes : ℕ) (given : S) (link : Link) (a : Hearing S) (gs : List (Msg × List ℕ)) (m : Msg) (page : List ℕ) (h : IsHearing left faults page_bytes given link a gs) → Gives a.decoder m page
+  one_more :
+      (page_bytes : ℕ) (given : S) (link : Link) (a : Hearing S) (gs : List (Msg × List ℕ)) (m : Msg) (page : List ℕ)
+      (h : IsHearing left faults page_bytes given link a gs)
+      → Gives a.decoder m page
       → Splits Device page_bytes h.bytes (gs ++ (m, page) ∷ []) (drop (length (frame m page)) a.decoder.rest ++ a.ahead)
   one_more page_bytes given link a gs m page h gives =
       let f = frame m page in
       let kept = drop (length f) a.decoder.rest in
       let e : a.decoder.rest ++ a.ahead ≡ f ++ (kept ++ a.ahead) = ap (λ (x : List ℕ). x ++ a.ahead) gives.front ∙ append_assoc f kept a.ahead in
-      let whole : h.bytes ≡ frames_of (gs ++ (m, page) ∷ []) ++ (kept ++ a.ahead) = h.splits.whole ∙ ap (λ (x : List ℕ). frames_of gs ++ x) e ∙ sym (append_assoc (frames_of gs) f (kept ++ a.ahead)) ∙ ap (λ (x : List ℕ). x ++ (kept ++ a.ahead)) (sym (frames_last gs m page)) in
-      let is_frame : IsFrame Device page_bytes m page f = subst (λ (s : Side). IsFrame s page_bytes m page f) h.side (subst (λ (n : ℕ). IsFrame a.decoder.side n m page f) h.pages gives.is_frame) in
+      let whole : h.bytes ≡ frames_of (gs ++ (m, page) ∷ []) ++ (kept ++ a.ahead) =
+      h.splits.whole ∙ ap (λ (x : List ℕ). frames_of gs ++ x) e ∙ sym (append_assoc (frames_of gs) f (kept ++ a.ahead))
+      ∙ ap (λ (x : List ℕ). x ++ (kept ++ a.ahead)) (sym (frames_last gs m page)) in
+      let is_frame : IsFrame Device page_bytes m page f =
+      subst (λ (s : Side). IsFrame s page_bytes m page f) h.side (subst (λ (n : ℕ). IsFrame a.decoder.side n m page f) h.pages gives.is_frame) in
       record { whole = whole; each = sent_last Device page_bytes gs m page h.splits.each is_frame }
 
-  counts_more : (gs : List (Msg × List ℕ)) (m : Msg) (page : List ℕ) (n k : ℕ) → n ≡ stopping (length gs) → k ≡ stopping (n + 1) → k ≡ stopping (length (gs ++ (m, page) ∷ []))
+  counts_more :
+      (gs : List (Msg × List ℕ)) (m : Msg) (page : List ℕ) (n k : ℕ) → n ≡ stopping (length gs) → k ≡ stopping (n + 1)
+      → k ≡ stopping (length (gs ++ (m, page) ∷ []))
   counts_more gs m page n k e c = omega (arith, e, c, length-append gs ((m, page) ∷ []))
 
-  places_more : (gs : List (Msg × List ℕ)) (m : Msg) (page : List ℕ) (n : ℕ) → n ≡ stopping (length (frames_of gs)) → stopping (n + length (frame m page)) ≡ stopping (length (frames_of (gs ++ (m, page) ∷ [])))
+  places_more :
+      (gs : List (Msg × List ℕ)) (m : Msg) (page : List ℕ) (n : ℕ) → n ≡ stopping (length (frames_of gs))
+      → stopping (n + length (frame m page)) ≡ stopping (length (frames_of (gs ++ (m, page) ∷ [])))
   places_more gs m page n e =
       ap (λ (k : ℕ). stopping (k + length (frame m page))) e ∙ again (length (frames_of gs)) (length (frame m page))
       ∙ ap stopping (sym (length-append (frames_of gs) (frame m page)) ∙ ap length (sym (frames_last gs m page)))
@@ -146,13 +165,17 @@ module _ {S : Type 0} (left : S → Option (List ℕ)) (faults : S → ℕ) wher
       })
 
   -- bytes were fed or read
-  pub filled : (page_bytes : ℕ) (given : S) (link : Link) (a b : Hearing S) (gs : List (Msg × List ℕ)) → IsHearing left faults page_bytes given link a gs → Fills left faults a b → IsHearing left faults page_bytes given link b gs
+  pub filled :
+      (page_bytes : ℕ) (given : S) (link : Link) (a b : Hearing S) (gs : List (Msg × List ℕ)) → IsHearing left faults page_bytes given link a gs
+      → Fills left faults a b → IsHearing left faults page_bytes given link b gs
   filled page_bytes given link a b gs h fills = record {
     bytes = h.bytes ++ fills.bytes;
     read = read_more (left given) (left a.reader) (left b.reader) h.bytes fills.bytes h.read fills.read;
     later = omega (arith, h.later, fills.later);
     splits = record {
-      whole = ap (λ (x : List ℕ). x ++ fills.bytes) h.splits.whole ∙ append_assoc (frames_of gs) (a.decoder.rest ++ a.ahead) fills.bytes ∙ ap (λ (x : List ℕ). frames_of gs ++ x) fills.goes;
+      whole =
+          ap (λ (x : List ℕ). x ++ fills.bytes) h.splits.whole ∙ append_assoc (frames_of gs) (a.decoder.rest ++ a.ahead) fills.bytes
+          ∙ ap (λ (x : List ℕ). frames_of gs ++ x) fills.goes;
       each = h.splits.each;
     };
     before = fills.before ∙ h.before;
@@ -165,9 +188,13 @@ module _ {S : Type 0} (left : S → Option (List ℕ)) (faults : S → ℕ) wher
 
   module _ {K : Type 0} (sink_faults : K → ℕ) where
     -- a message was delivered
-    pub delivered : (page_bytes : ℕ) (given : S) (link : Link) (a : Hearing S) (gs : List (Msg × List ℕ)) (m : Msg) (page : List ℕ) (answer : Option (LinkEnd K)) (ear : Ear) → IsHearing left faults page_bytes given link a gs → Gives a.decoder m page
+    pub delivered :
+        (page_bytes : ℕ) (given : S) (link : Link) (a : Hearing S) (gs : List (Msg × List ℕ)) (m : Msg) (page : List ℕ) (answer : Option (LinkEnd K))
+        (ear : Ear)
+        → IsHearing left faults page_bytes given link a gs → Gives a.decoder m page
         → Hears sink_faults m a.ear answer ear
-        → GoesOn left faults sink_faults page_bytes given link answer (record { reader = a.reader; decoder = answered a.decoder (next.Got m) page; ahead = a.ahead; ear = ear })
+        → GoesOn left faults sink_faults page_bytes given link answer
+        (record { reader = a.reader; decoder = answered a.decoder (next.Got m) page; ahead = a.ahead; ear = ear })
     delivered page_bytes given link a gs m page None ear h gives hears = (
       gs ++ (m, page) ∷ [],
       record {
@@ -212,10 +239,14 @@ module _ {S : Type 0} (left : S → Option (List ℕ)) (faults : S → ℕ) wher
     delivered page_bytes given link a gs m page (Some (end.Bad at)) ear h gives hears = absurd hears.answers
 
     -- at a place of its bytes no frame stands
-    pub went_bad : (page_bytes : ℕ) (given : S) (link : Link) (a : Hearing S) (gs : List (Msg × List ℕ)) (at : ℕ) → IsHearing left faults page_bytes given link a gs → Fails a.decoder at
+    pub went_bad :
+        (page_bytes : ℕ) (given : S) (link : Link) (a : Hearing S) (gs : List (Msg × List ℕ)) (at : ℕ) → IsHearing left faults page_bytes given link a gs
+        → Fails a.decoder at
         → IsHeard left faults sink_faults page_bytes given link (left_by a.reader (end.Bad at)) a.ear
     went_bad page_bytes given link a gs at h fails =
-        let hopeless : IsHopeless Device page_bytes a.decoder.rest = subst (λ (s : Side). IsHopeless s page_bytes a.decoder.rest) h.side (subst (λ (n : ℕ). IsHopeless a.decoder.side n a.decoder.rest) h.pages fails.hopeless) in
+        let hopeless : IsHopeless Device page_bytes a.decoder.rest =
+        subst (λ (s : Side). IsHopeless s page_bytes a.decoder.rest) h.side
+        (subst (λ (n : ℕ). IsHopeless a.decoder.side n a.decoder.rest) h.pages fails.hopeless) in
         record {
           bytes = h.bytes;
           messages = gs;
@@ -229,16 +260,22 @@ module _ {S : Type 0} (left : S → Option (List ℕ)) (faults : S → ℕ) wher
           end = (hopeless_more Device page_bytes a.decoder.rest a.ahead hopeless, fails.place ∙ h.before);
         }
 
-    partial_left : (page_bytes : ℕ) (given : S) (link : Link) (a : Hearing S) (gs : List (Msg × List ℕ)) → IsHearing left faults page_bytes given link a gs → Waits a.decoder → a.ahead ≡ [] → IsPartial Device page_bytes (a.decoder.rest ++ a.ahead)
+    partial_left :
+        (page_bytes : ℕ) (given : S) (link : Link) (a : Hearing S) (gs : List (Msg × List ℕ)) → IsHearing left faults page_bytes given link a gs
+        → Waits a.decoder
+        → a.ahead ≡ [] → IsPartial Device page_bytes (a.decoder.rest ++ a.ahead)
     partial_left page_bytes given link a gs h waits dry =
         subst (λ (x : List ℕ). IsPartial Device page_bytes x) (sym (ap (λ (x : List ℕ). a.decoder.rest ++ x) dry ∙ append-nil a.decoder.rest))
-        (subst (λ (s : Side). IsPartial s page_bytes a.decoder.rest) h.side (subst (λ (n : ℕ). IsPartial a.decoder.side n a.decoder.rest) h.pages waits.partial))
+        (subst (λ (s : Side). IsPartial s page_bytes a.decoder.rest) h.side
+        (subst (λ (n : ℕ). IsPartial a.decoder.side n a.decoder.rest) h.pages waits.partial))
 
     rose_since : (x y z : ℕ) → x ≤ y → Rose y z → Rose x z
     rose_since x y z le r = omega (arith, le, r)
 
     -- the last read gave nothing, or failed
-    ran_dry : (page_bytes : ℕ) (given : S) (link : Link) (a : Hearing S) (gs : List (Msg × List ℕ)) (reader : S) → IsHearing left faults page_bytes given link a gs → Waits a.decoder → (dry : RunsDry left faults a (record a { reader = reader })) → IsAtEnd (left reader)
+    ran_dry :
+        (page_bytes : ℕ) (given : S) (link : Link) (a : Hearing S) (gs : List (Msg × List ℕ)) (reader : S) → IsHearing left faults page_bytes given link a gs
+        → Waits a.decoder → (dry : RunsDry left faults a (record a { reader = reader })) → IsAtEnd (left reader)
         → IsHeard left faults sink_faults page_bytes given link (left_by reader end.Read) a.ear
     ran_dry page_bytes given link a gs reader h waits dry at_end = record {
       bytes = h.bytes ++ [];
@@ -253,7 +290,9 @@ module _ {S : Type 0} (left : S → Option (List ℕ)) (faults : S → ℕ) wher
       end = (at_end, partial_left page_bytes given link a gs h waits dry.ahead);
     }
 
-    failed_dry : (page_bytes : ℕ) (given : S) (link : Link) (a : Hearing S) (gs : List (Msg × List ℕ)) (reader : S) → IsHearing left faults page_bytes given link a gs → Waits a.decoder → (dry : RunsDry left faults a (record a { reader = reader })) → Rose (faults a.reader) (faults reader)
+    failed_dry :
+        (page_bytes : ℕ) (given : S) (link : Link) (a : Hearing S) (gs : List (Msg × List ℕ)) (reader : S) → IsHearing left faults page_bytes given link a gs
+        → Waits a.decoder → (dry : RunsDry left faults a (record a { reader = reader })) → Rose (faults a.reader) (faults reader)
         → IsHeard left faults sink_faults page_bytes given link (left_by reader end.ReadFailed) a.ear
     failed_dry page_bytes given link a gs reader h waits dry rose = record {
       bytes = h.bytes ++ [];
@@ -269,7 +308,9 @@ module _ {S : Type 0} (left : S → Option (List ℕ)) (faults : S → ℕ) wher
     }
 
     -- bytes were fed, or read
-    pub went_on : (page_bytes : ℕ) (given : S) (link : Link) (a b : Hearing S) (gs : List (Msg × List ℕ)) (answer : Option (LinkEnd K)) → IsHearing left faults page_bytes given link a gs → Waits a.decoder → Reads left faults a answer b
+    pub went_on :
+        (page_bytes : ℕ) (given : S) (link : Link) (a b : Hearing S) (gs : List (Msg × List ℕ)) (answer : Option (LinkEnd K))
+        → IsHearing left faults page_bytes given link a gs → Waits a.decoder → Reads left faults a answer b
         → GoesOn left faults sink_faults page_bytes given link answer b
     went_on page_bytes given link a b gs None h waits reads = (gs, filled page_bytes given link a b gs h reads)
     went_on page_bytes given link a b gs (Some end.Read) h waits reads =

@@ -21,7 +21,9 @@ module _ {S : Type 0} where
   as_many_given [] = refl
   as_many_given (x ∷ vs) = omega (arith, as_many_given vs)
 
-  pub numbered_last : (page_bytes n : ℕ) (vs : List (Visit S)) (v : Visit S) → AreNumbered page_bytes n vs → v.link.0 ≡ n + length vs → v.page_bytes ≡ page_bytes → AreNumbered page_bytes n (vs ++ v ∷ [])
+  pub numbered_last :
+      (page_bytes n : ℕ) (vs : List (Visit S)) (v : Visit S) → AreNumbered page_bytes n vs → v.link.0 ≡ n + length vs → v.page_bytes ≡ page_bytes
+      → AreNumbered page_bytes n (vs ++ v ∷ [])
   numbered_last page_bytes n [] v each link pages = (link_is v.link n (omega (arith, link)), pages, tt)
   numbered_last page_bytes n (x ∷ vs) v each link pages = (each.0, each.1, numbered_last page_bytes (n + 1) vs v each.2 (omega (arith, link)) pages)
 
@@ -35,14 +37,19 @@ module _ {S K : Type 0} where
   back_last (x ∷ bs) b d = back_last bs b (got_back x d)
 
   -- one link more came
-  pub came_last : (vs : List (Visit S)) (v : Visit S) (d e f : Dealings (Unit {0}) S (Left S K)) → e ≡ all_given (map (λ (v : Visit S). v.given) vs) d → f ≡ gave_one tt v.given e
+  pub came_last :
+      (vs : List (Visit S)) (v : Visit S) (d e f : Dealings (Unit {0}) S (Left S K)) → e ≡ all_given (map (λ (v : Visit S). v.given) vs) d
+      → f ≡ gave_one tt v.given e
       → f ≡ all_given (map (λ (v : Visit S). v.given) (vs ++ v ∷ [])) d
   came_last vs v d e f was now =
       now ∙ ap (λ (x : Dealings (Unit {0}) S (Left S K)). gave_one tt v.given x) was ∙ sym (given_last (map (λ (v : Visit S). v.given) vs) v.given d)
       ∙ ap (λ (ss : List S). all_given ss d) (sym (map_last vs v))
 
   module _ (left : S → Option (List ℕ)) (faults : S → ℕ) (sink_faults : K → ℕ) where
-    pub kept_last : (vs : List (Visit S)) (backs : List (Left S K)) (ears : List Ear) (v : Visit S) (b : Left S K) (e : Ear) → AreKeptBy left faults sink_faults vs backs ears → IsHeard left faults sink_faults v.page_bytes v.given v.link b e
+    pub kept_last :
+        (vs : List (Visit S)) (backs : List (Left S K)) (ears : List Ear) (v : Visit S) (b : Left S K) (e : Ear)
+        → AreKeptBy left faults sink_faults vs backs ears
+        → IsHeard left faults sink_faults v.page_bytes v.given v.link b e
         → AreKeptBy left faults sink_faults (vs ++ v ∷ []) (backs ++ b ∷ []) (ears ++ e ∷ [])
     kept_last [] [] [] v b e kept heard = (heard, tt)
     kept_last (x ∷ vs) (y ∷ backs) (z ∷ ears) v b e kept heard = (kept.0, kept_last vs backs ears v b e kept.1 heard)
@@ -59,11 +66,14 @@ module _ {S K : Type 0} where
     as_many (x ∷ vs) [] ears kept = absurd kept
     as_many (x ∷ vs) (y ∷ backs) [] kept = absurd kept
 
-    heard_all : (page_bytes n : ℕ) (vs : List (Visit S)) (backs : List (Left S K)) (ears : List Ear) → AreNumbered page_bytes n vs → AreKeptBy left faults sink_faults vs backs ears
+    heard_all :
+        (page_bytes n : ℕ) (vs : List (Visit S)) (backs : List (Left S K)) (ears : List Ear) → AreNumbered page_bytes n vs
+        → AreKeptBy left faults sink_faults vs backs ears
         → AreHeard left faults sink_faults page_bytes n (map (λ (v : Visit S). v.given) vs) backs ears
     heard_all page_bytes n [] [] [] each kept = tt
     heard_all page_bytes n (v ∷ vs) (b ∷ backs) (e ∷ ears) each kept = (
-      subst (λ (k : ℕ). IsHeard left faults sink_faults k v.given (record { 0 = n }) b e) each.1 (subst (λ (l : Link). IsHeard left faults sink_faults v.page_bytes v.given l b e) each.0 kept.0),
+      subst (λ (k : ℕ). IsHeard left faults sink_faults k v.given (record { 0 = n }) b e) each.1
+          (subst (λ (l : Link). IsHeard left faults sink_faults v.page_bytes v.given l b e) each.0 kept.0),
       heard_all page_bytes (n + 1) vs backs ears each.2 kept.1,
     )
     heard_all page_bytes n [] [] (z ∷ ears) each kept = absurd kept
@@ -72,7 +82,9 @@ module _ {S K : Type 0} where
     heard_all page_bytes n (x ∷ vs) (y ∷ backs) [] each kept = absurd kept
 
     -- so many links came, and all ended
-    pub served : (page_bytes links : ℕ) (vs : List (Visit S)) (before mid now : Dealings (Unit {0}) S (Left S K)) (ears : List Ear) → length vs ≡ links → AreNumbered page_bytes 0 vs
+    pub served :
+        (page_bytes links : ℕ) (vs : List (Visit S)) (before mid now : Dealings (Unit {0}) S (Left S K)) (ears : List Ear) → length vs ≡ links
+        → AreNumbered page_bytes 0 vs
         → mid ≡ all_given (map (λ (v : Visit S). v.given) vs) before
         → IsParted left faults sink_faults vs mid now ears
         → IsServed left faults sink_faults page_bytes links before now ears

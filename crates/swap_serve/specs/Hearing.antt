@@ -25,7 +25,8 @@ abbrev pub begun : {S : Type 0} → S → Decoding → Ear → Hearing S
 begun reader decoder ear = record { reader = reader; decoder = decoder; ahead = []; ear = ear }
 
 abbrev pub IsBegun : {S : Type 0} → Hearing S → Type 0
-IsBegun h = h ≡ begun h.reader (fresh Device h.decoder.page_bytes) (record { link = h.ear.link; count = 0; ended = false })
+IsBegun h =
+    h ≡ begun h.reader (fresh Device h.decoder.page_bytes) (record { link = h.ear.link; count = 0; ended = false })
 
 -- the last of the messages is this one
 pub record IsLast (gs : List (Msg × List ℕ)) (m : Msg) : Type 0 where
@@ -44,7 +45,8 @@ is_ended (end.Ended m) = true
 module _ {S : Type 0} (left : S → Option (List ℕ)) (faults : S → ℕ) where
   -- a link is still heard: the bytes that its reader gave are the device's frames of the messages delivered, and what
   -- is kept of a further one, and what is ahead
-  pub record IsHearing (page_bytes : ℕ) (given : S) (link : Link) (h : Hearing S) (gs : List (Msg × List ℕ)) : Type 0 where
+  pub record IsHearing (page_bytes : ℕ) (given : S) (link : Link) (h : Hearing S)
+      (gs : List (Msg × List ℕ)) : Type 0 where
     pub bytes : List ℕ
     pub read : WasRead (left given) (left h.reader) bytes
     pub later : faults given ≤ faults h.reader
@@ -57,16 +59,20 @@ module _ {S : Type 0} (left : S → Option (List ℕ)) (faults : S → ℕ) wher
     pub link_is : h.ear.link ≡ link
 
   module _ {K : Type 0} (sink_faults : K → ℕ) where
-    -- the table of ends: what each comes only with, where the reader gave the frames of these messages and then this rest
+    -- the table of ends: what each comes only with, where the reader gave the frames of these messages and then this
+    -- rest
     abbrev pub MayEnd : LinkEnd K → ℕ → S → S → List (Msg × List ℕ) → List ℕ → Type 0
     MayEnd end.Read page_bytes given reader gs rest = IsAtEnd (left reader) × IsPartial Device page_bytes rest
-    MayEnd end.ReadFailed page_bytes given reader gs rest = Rose (faults given) (faults reader) × IsPartial Device page_bytes rest
-    MayEnd (end.Bad at) page_bytes given reader gs rest = IsHopeless Device page_bytes rest × (at ≡ stopping (length (frames_of gs)))
+    MayEnd end.ReadFailed page_bytes given reader gs rest =
+        Rose (faults given) (faults reader) × IsPartial Device page_bytes rest
+    MayEnd (end.Bad at) page_bytes given reader gs rest =
+        IsHopeless Device page_bytes rest × (at ≡ stopping (length (frames_of gs)))
     MayEnd (end.Down sink) page_bytes given reader gs rest = (0 < sink_faults sink) × (0 < length gs)
     MayEnd (end.Ended m) page_bytes given reader gs rest = IsLast gs m
 
     -- a link was heard to its end: the bytes that its reader gave are the device's frames of the messages delivered, as
-    -- many as the ear counts, and then this rest, which has no whole frame in front unless the link ended before its bytes
+    -- many as the ear counts, and then this rest, which has no whole frame in front unless the link ended before its
+    -- bytes
     pub record IsHeard (page_bytes : ℕ) (given : S) (link : Link) (back : Left S K) (ear : Ear) : Type 0 where
       pub bytes : List ℕ
       pub messages : List (Msg × List ℕ)
@@ -82,9 +88,11 @@ module _ {S : Type 0} (left : S → Option (List ℕ)) (faults : S → ℕ) wher
     -- a link that is still heard goes on, or ends
     abbrev pub GoesOn : ℕ → S → Link → Option (LinkEnd K) → Hearing S → Type 0
     GoesOn page_bytes given link answer now =
-        MatchOption answer ((gs : List (Msg × List ℕ)) × IsHearing page_bytes given link now gs) (λ end. IsHeard page_bytes given link (left_by now.reader end) now.ear)
+        MatchOption answer ((gs : List (Msg × List ℕ)) × IsHearing page_bytes given link now gs)
+        (λ end. IsHeard page_bytes given link (left_by now.reader end) now.ear)
 
     -- whatever was heard before
     abbrev pub Steps : Hearing S → Option (LinkEnd K) → Hearing S → Type 0
     Steps old answer now =
-        (page_bytes : ℕ) (given : S) (link : Link) (gs : List (Msg × List ℕ)) → IsHearing page_bytes given link old gs → GoesOn page_bytes given link answer now
+        (page_bytes : ℕ) (given : S) (link : Link) (gs : List (Msg × List ℕ)) → IsHearing page_bytes given link old gs
+        → GoesOn page_bytes given link answer now

@@ -17,26 +17,31 @@ pub record Visit (S : Type 0) : Type 0 where
 module _ {S K : Type 0} (left : S → Option (List ℕ)) (faults : S → ℕ) (sink_faults : K → ℕ) where
   -- its thread promises that it is heard to its end, or it was
   abbrev pub IsKept : Task S K → Visit S → Type 0
-  IsKept (Running handle) v = (handle.promise.link ≡ v.link) × (handle.promise.page_bytes ≡ v.page_bytes) × (handle.promise.was.value ≡ v.given)
-  IsKept (Over heard) v = IsHeard left faults sink_faults v.page_bytes v.given v.link (left_by heard.reader heard.end) heard.ear
+  IsKept (Running handle) v =
+      (handle.promise.link ≡ v.link) × (handle.promise.page_bytes ≡ v.page_bytes) × (handle.promise.was.value ≡ v.given)
+  IsKept (Over heard) v =
+      IsHeard left faults sink_faults v.page_bytes v.given v.link (left_by heard.reader heard.end) heard.ear
 
 -- links by their numbers from `n` on, with pages of so many bytes
 abbrev pub AreNumbered : {S : Type 0} → ℕ → ℕ → List (Visit S) → Type 0
 AreNumbered page_bytes n [] = Unit {0}
-AreNumbered page_bytes n (v ∷ vs) = (v.link ≡ record { 0 = n }) × (v.page_bytes ≡ page_bytes) × AreNumbered page_bytes (n + 1) vs
+AreNumbered page_bytes n (v ∷ vs) =
+    (v.link ≡ record { 0 = n }) × (v.page_bytes ≡ page_bytes) × AreNumbered page_bytes (n + 1) vs
 
 module _ {S K : Type 0} (left : S → Option (List ℕ)) (faults : S → ℕ) (sink_faults : K → ℕ) where
   -- each was heard to its end
   abbrev pub AreKeptBy : List (Visit S) → List (Left S K) → List Ear → Type 0
   AreKeptBy [] [] [] = Unit {0}
-  AreKeptBy (v ∷ vs) (back ∷ backs) (ear ∷ ears) = IsHeard left faults sink_faults v.page_bytes v.given v.link back ear × AreKeptBy vs backs ears
+  AreKeptBy (v ∷ vs) (back ∷ backs) (ear ∷ ears) =
+      IsHeard left faults sink_faults v.page_bytes v.given v.link back ear × AreKeptBy vs backs ears
   AreKeptBy [] [] (ear ∷ ears) = ⊥
   AreKeptBy [] (back ∷ backs) ears = ⊥
   AreKeptBy (v ∷ vs) [] ears = ⊥
   AreKeptBy (v ∷ vs) (back ∷ backs) [] = ⊥
 
   -- and the door got each back
-  pub record IsParted (vs : List (Visit S)) (before now : Dealings (Unit {0}) S (Left S K)) (ears : List Ear) : Type 0 where
+  pub record IsParted (vs : List (Visit S)) (before now : Dealings (Unit {0}) S (Left S K))
+      (ears : List Ear) : Type 0 where
     pub backs : List (Left S K)
     pub dealings : now ≡ all_back backs before
     pub each : AreKeptBy vs backs ears

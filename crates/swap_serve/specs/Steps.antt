@@ -23,7 +23,8 @@ Answers sink_faults m (Some end.ReadFailed) = ⊥
 Answers sink_faults m (Some (end.Bad at)) = ⊥
 
 -- and the ear counts it
-pub record Hears {K : Type 0} (sink_faults : K → ℕ) (m : Msg) (before : Ear) (answer : Option (LinkEnd K)) (now : Ear) : Type 0 where
+pub record Hears {K : Type 0} (sink_faults : K → ℕ) (m : Msg) (before : Ear) (answer : Option (LinkEnd K))
+    (now : Ear) : Type 0 where
   pub answers : Answers sink_faults m answer
   pub link : now.link ≡ before.link
   pub count : now.count ≡ raised before.count

@@ -21,12 +21,15 @@ pub enum NodeFault {
     NoMemory,
 }
 
-/// Lends to so many links of a door, with pages of 8 to 4,096 bytes, whose host uses so many slots itself. Link i, from 0, is heard in a thread over the one
-/// lender, or at once where no thread can be made; one that sends what isn't a frame, or a message that it may not send,
-/// ends alone. When all have ended, each reader goes back to the door with its end, in order, and there is one ear for each.
+/// Lends to so many links of a door, with pages of 8 to 4,096 bytes, whose host uses so many slots
+/// itself. Link i, from 0, is heard in a thread over the one lender, or at once where no thread can
+/// be made; one that sends what isn't a frame, or a message that it may not send, ends alone. When
+/// all have ended, each reader goes back to the door with its end, in order, and there is one ear
+/// for each.
 ///
-/// `HostFailed` comes only where the door gave no link and its count of faults rose, and else an `Err` is `NoMemory`. The
-/// links that came before were heard to their end then, and went back to the door; one that came as memory ran out may not.
+/// `HostFailed` comes only where the door gave no link and its count of faults rose, and else an
+/// `Err` is `NoMemory`. The links that came before were heard to their end then, and went back to
+/// the door; one that came as memory ran out may not.
 pub fn serve<R, D>(
     rt: R,
     alloc: Global,
@@ -42,12 +45,25 @@ where
     D: Door,
     requires least { 8 ≤ page_bytes }
     requires most { page_bytes ≤ 4096 }
-    requires limits { IsLending (record { spec = spec; page_bytes = page_bytes; pages_per_slab = pages_per_slab; links = links }) }
+    requires limits { IsLending
+        (record {
+          spec = spec;
+          page_bytes = page_bytes;
+          pages_per_slab = pages_per_slab;
+          links = links;
+        }) }
     requires bytes { spec.slots * (pages_per_slab * page_bytes) < 2 ^ 64 }
-    ensures served { IfOk result (λ ears. IsServed D.Reader.left D.Reader.faults D.Writer.faults page_bytes links (D.links door.old) (D.links door.new) ears.items) }
-    ensures breaks { IfErr result (λ why. BreaksOff D.Reader.left D.Reader.faults D.Writer.faults page_bytes links why (D.links door.old) (D.links door.new)) }
+    ensures served { IfOk result
+        (λ ears.
+        IsServed D.Reader.left D.Reader.faults D.Writer.faults page_bytes links
+        (D.links door.old) (D.links door.new) ears.items) }
+    ensures breaks { IfErr result
+        (λ why.
+        BreaksOff D.Reader.left D.Reader.faults D.Writer.faults page_bytes links why
+        (D.links door.old) (D.links door.new)) }
     ensures later { D.faults door.old ≤ D.faults door.new }
-    ensures cause { result ≡ Err NodeFault.HostFailed → Rose (D.faults door.old) (D.faults door.new) }
+    ensures cause { result ≡ Err NodeFault.HostFailed
+        → Rose (D.faults door.old) (D.faults door.new) }
 {
     let Ok(node) = Node::make(alloc, spec, page_bytes, pages_per_slab, links, used) else {
         return Err(NodeFault::NoMemory);
@@ -89,10 +105,15 @@ where
     ensures number { OnOk result (length slots.new.items ≡ links) }
     ensures most { length slots.new.items ≤ links }
     ensures each { AreNumbered page_bytes 0 slots.new.items }
-    ensures links { OnOk result (D.links door.new ≡ all_given (map (λ v. v.given) slots.new.items) (D.links door.old)) }
-    ensures asked { IfErr result (λ why. AskedLast why (all_given (map (λ v. v.given) slots.new.items) (D.links door.old)) (D.links door.new)) }
+    ensures links { OnOk result
+        (D.links door.new ≡ all_given (map (λ v. v.given) slots.new.items) (D.links door.old)) }
+    ensures asked { IfErr result
+        (λ why.
+        AskedLast why (all_given (map (λ v. v.given) slots.new.items) (D.links door.old))
+        (D.links door.new)) }
     ensures later { D.faults door.old ≤ D.faults door.new }
-    ensures cause { result ≡ Err NodeFault.HostFailed → Rose (D.faults door.old) (D.faults door.new) }
+    ensures cause { result ≡ Err NodeFault.HostFailed
+        → Rose (D.faults door.old) (D.faults door.new) }
 {
     for i in 0..links {
         match admit(rt, alloc, node, door, Link(i), page_bytes) {
@@ -121,7 +142,8 @@ where
     ensures links { IfOk result (λ v. D.links door.new ≡ gave_one tt v.given (D.links door.old)) }
     ensures asked { IfErr result (λ why. AskedLast why (D.links door.old) (D.links door.new)) }
     ensures later { D.faults door.old ≤ D.faults door.new }
-    ensures cause { result ≡ Err NodeFault.HostFailed → Rose (D.faults door.old) (D.faults door.new) }
+    ensures cause { result ≡ Err NodeFault.HostFailed
+        → Rose (D.faults door.old) (D.faults door.new) }
 {
     let Ok(buffers) = Buffers::make(alloc, page_bytes) else {
         return Err(NodeFault::NoMemory);
@@ -148,7 +170,8 @@ where
     D: Door,
     requires empty { ears.old.items ≡ [] }
     requires room { length slots.items ≤ vec_capacity ears.old }
-    ensures parted { IsParted D.Reader.left D.Reader.faults D.Writer.faults slots.items (D.links door.old) (D.links door.new) ears.new.items }
+    ensures parted { IsParted D.Reader.left D.Reader.faults D.Writer.faults slots.items
+        (D.links door.old) (D.links door.new) ears.new.items }
     ensures later { D.faults door.old ≤ D.faults door.new }
 {
     for slot in slots {

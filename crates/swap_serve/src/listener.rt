@@ -34,7 +34,8 @@ impl Model for Buffers {
 
     ghost view = { λ b. b.decoder };
 
-    ghost invariant = { λ b. (0 < length b.bytes.items) × (length b.page.items ≡ b.decoder.page_bytes) × (b.decoder.page_bytes ≤ 4096) };
+    ghost invariant = { λ b. (0 < length b.bytes.items)
+        × (length b.page.items ≡ b.decoder.page_bytes) × (b.decoder.page_bytes ≤ 4096) };
 }
 
 impl Buffers {
@@ -59,7 +60,8 @@ impl Buffers {
     }
 }
 
-/// A link as it is heard: its reader, what was decoded of it, the bytes that were read and not yet fed, and its ear.
+/// A link as it is heard: its reader, what was decoded of it, the bytes that were read and not yet
+/// fed, and its ear.
 #[derive(Drop)]
 pub(crate) struct Listener<S: Source + Drop> {
     reader: S,
@@ -77,9 +79,17 @@ impl<S: Source + Drop> Model for Listener<S> {
 
     ghost Value = { Hearing S };
 
-    ghost view = { λ l. record { reader = l.reader; decoder = l.decoder; ahead = slice_range l.bytes.items l.at l.end; ear = l.ear } };
+    ghost view = { λ l.
+        record {
+          reader = l.reader;
+          decoder = l.decoder;
+          ahead = slice_range l.bytes.items l.at l.end;
+          ear = l.ear;
+        } };
 
-    ghost invariant = { λ l. (l.at ≤ l.end) × (l.end ≤ length l.bytes.items) × (0 < length l.bytes.items) × (length l.page.items ≡ l.decoder.page_bytes) × (l.decoder.page_bytes ≤ 4096) };
+    ghost invariant = { λ l. (l.at ≤ l.end) × (l.end ≤ length l.bytes.items)
+        × (0 < length l.bytes.items) × (length l.page.items ≡ l.decoder.page_bytes)
+        × (l.decoder.page_bytes ≤ 4096) };
 }
 
 impl<S: Source + Drop> Listener<S> {
@@ -124,7 +134,8 @@ impl<S: Source + Drop> Listener<S> {
         Snapshot::of(&self.reader)
     }
 
-    /// Goes on with a message that is whole, a place that is bad, or more bytes; how the link ended, if it did.
+    /// Goes on with a message that is whole, a place that is bad, or more bytes; how the link
+    /// ended, if it did.
     fn step<R: Wait, K: Sink + Drop>(&mut self, rt: &R, node: &Mutex<Node<K>>) -> Option<LinkEnd<K>>
         ensures { Steps S.left S.faults K.faults self.old result self.new }
     {
@@ -207,7 +218,9 @@ pub(crate) fn hear<R: Wait, S: Source + Drop, K: Sink + Drop>(
     mut listener: Listener<S>,
 ) -> Heard<S, K>
     requires { IsBegun listener }
-    ensures { IsHeard S.left S.faults K.faults listener.decoder.page_bytes listener.reader listener.ear.link (left_by result.reader result.end) result.ear }
+    ensures { IsHeard S.left S.faults K.faults listener.decoder.page_bytes listener.reader
+        listener.ear.link
+        (left_by result.reader result.end) result.ear }
 {
     for _ in rt.forever() {
         if let Some(end) = listener.step(rt, node) {

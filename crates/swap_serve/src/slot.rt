@@ -28,7 +28,9 @@ impl<S: Source + Drop, K: Sink + Drop> Promise<Heard<S, K>> for Pledge<S> {
     ghost use Rattle.swap_sock.specs.Dealings.{left_by};
     ghost use Rattle.swap_serve.specs.Hearing.{IsHeard};
 
-    ghost kept_by = { λ p h. IsHeard S.left S.faults K.faults p.page_bytes p.was.value p.link (left_by h.reader h.end) h.ear };
+    ghost kept_by = { λ p h.
+        IsHeard S.left S.faults K.faults p.page_bytes p.was.value p.link
+        (left_by h.reader h.end) h.ear };
 }
 
 /// A link that is heard in a thread, or was heard already, as no thread could be made.
@@ -54,7 +56,9 @@ impl<S: Source + Drop, K: Sink + Drop> Model for Slot<S, K> {
 
     ghost view = { λ s. record { link = s.link; page_bytes = s.page_bytes; given = s.was.value } };
 
-    ghost invariant = { λ s. IsKept S.left S.faults K.faults s.task (record { link = s.link; page_bytes = s.page_bytes; given = s.was.value }) };
+    ghost invariant = { λ s.
+        IsKept S.left S.faults K.faults s.task
+        (record { link = s.link; page_bytes = s.page_bytes; given = s.was.value }) };
 }
 
 /// A lender that threads share.
@@ -70,7 +74,12 @@ where
     where
         R: Threads + Wait + Copy + Send + 'static,
         requires { IsBegun listener }
-        ensures { result ≡ record { link = listener.ear.link; page_bytes = listener.decoder.page_bytes; given = listener.reader } }
+        ensures { result
+            ≡ record {
+              link = listener.ear.link;
+              page_bytes = listener.decoder.page_bytes;
+              given = listener.reader;
+            } }
     {
         let link = listener.link();
         let page_bytes = listener.page_bytes();
@@ -85,7 +94,9 @@ where
             pledge,
             move || -> Heard<S, K>
                 requires { IsBegun listener }
-                ensures { IsHeard S.left S.faults K.faults listener.decoder.page_bytes listener.reader listener.ear.link (left_by result.reader result.end) result.ear }
+                ensures { IsHeard S.left S.faults K.faults listener.decoder.page_bytes
+                    listener.reader listener.ear.link
+                    (left_by result.reader result.end) result.ear }
             {
                 let heard = listener;
                 hear(&rt, &node, heard)
@@ -105,7 +116,8 @@ where
 
     /// Waits for the link's end.
     pub(crate) fn finish<R: Threads>(self, rt: &R) -> Heard<S, K>
-        ensures { IsHeard S.left S.faults K.faults self.page_bytes self.given self.link (left_by result.reader result.end) result.ear }
+        ensures { IsHeard S.left S.faults K.faults self.page_bytes self.given self.link
+            (left_by result.reader result.end) result.ear }
     {
         let Slot {
             link: _,

@@ -48,7 +48,9 @@ module _ (states : List SlabState) (slab : Slab) (st : SlabState) (lt : slab.0 <
   pub state_other : (s : Slab) → s.0 ≢ slab.0 → state_of after s ≡ state_of states s
   state_other s ne = get_or-set_other states slab.0 s.0 st Local ne
 
-  pub slabs_after : IsSlabs states → StateFits st → ((l : Lender) (k : Lease) → has_lease l k st ≡ true → count_by (λ state. has_lease l k state) states ≤ one (has_lease l k old)) → IsSlabs after
+  pub slabs_after :
+      IsSlabs states → StateFits st
+      → ((l : Lender) (k : Lease) → has_lease l k st ≡ true → count_by (λ state. has_lease l k state) states ≤ one (has_lease l k old)) → IsSlabs after
   slabs_after h fits only = record {
     fits = λ s. ⊎_elim (λ e. subst StateFits (sym (state_here s e)) fits) (λ ne. subst StateFits (sym (state_other s ne)) (h.fits s)) (cases_eq s.0 slab.0);
     single = λ l k.
@@ -59,12 +61,16 @@ module _ (states : List SlabState) (slab : Slab) (st : SlabState) (lt : slab.0 <
   }
 
   -- a lender that the change is none of keeps its row
-  pub row_same : (l : Lender) (row : LenderRow) → is_at l old ≡ is_at l st → has_lease_at l old ≡ has_lease_at l st → ((k : Lease) → has_lease l k old ≡ has_lease l k st) → RowFits states l row → RowFits after l row
+  pub row_same :
+      (l : Lender) (row : LenderRow) → is_at l old ≡ is_at l st → has_lease_at l old ≡ has_lease_at l st → ((k : Lease) → has_lease l k old ≡ has_lease l k st)
+      → RowFits states l row → RowFits after l row
   row_same l row held leased leases h = record {
     held = omega (arith, h.held, count_after (λ state. is_at l state), ap one held);
     leases = λ k s.
         h.leases k s
-        ∙ ap one (⊎_elim (λ e. ap (λ n. has_lease l k (get_or states n Local)) e ∙ leases k ∙ sym (ap (λ x. has_lease l k x) (state_here s e))) (λ ne. sym (ap (λ x. has_lease l k x) (state_other s ne))) (cases_eq s.0 slab.0));
+        ∙ ap one
+        (⊎_elim (λ e. ap (λ n. has_lease l k (get_or states n Local)) e ∙ leases k ∙ sym (ap (λ x. has_lease l k x) (state_here s e)))
+        (λ ne. sym (ap (λ x. has_lease l k x) (state_other s ne))) (cases_eq s.0 slab.0));
     number = omega (arith, h.number, count_after (λ state. has_lease_at l state), ap one leased);
     room = omega (arith, h.room, length-set states slab.0 st);
   }
@@ -74,7 +80,9 @@ module _ (states : List SlabState) (slab : Slab) (st : SlabState) (lt : slab.0 <
       row_same l row (before ∙ sym now) (no_lease_at l old before ∙ sym (no_lease_at l st now)) (λ k. no_lease l k old before ∙ sym (no_lease l k st now)) h
 
   -- each lender keeps its row where the slab stays with its lender and its lease
-  pub fits_same : (table : List LenderRow) (m m' : ℕ) → Fits states table m → IsSlabs after → ((l : Lender) → is_at l old ≡ is_at l st) → ((l : Lender) → has_lease_at l old ≡ has_lease_at l st) → ((l : Lender) (k : Lease) → has_lease l k old ≡ has_lease l k st)
+  pub fits_same :
+      (table : List LenderRow) (m m' : ℕ) → Fits states table m → IsSlabs after → ((l : Lender) → is_at l old ≡ is_at l st)
+      → ((l : Lender) → has_lease_at l old ≡ has_lease_at l st) → ((l : Lender) (k : Lease) → has_lease l k old ≡ has_lease l k st)
       → m' + one (is_mapped old) ≡ m + one (is_mapped st) → Fits after table m'
   fits_same table m m' h slabs held leased leases counted = record {
     slabs = slabs;
@@ -85,7 +93,9 @@ module _ (states : List SlabState) (slab : Slab) (st : SlabState) (lt : slab.0 <
   }
 
   -- one lender has another row
-  pub fits_row : (table : List LenderRow) (m m' : ℕ) (l : Lender) (row : LenderRow) → Fits states table m → IsSlabs after → l.0 < MOST_LENDERS → ((other : Lender) → other.0 ≢ l.0 → (is_at other old ≡ false) × (is_at other st ≡ false)) → RowFits after l row
+  pub fits_row :
+      (table : List LenderRow) (m m' : ℕ) (l : Lender) (row : LenderRow) → Fits states table m → IsSlabs after → l.0 < MOST_LENDERS
+      → ((other : Lender) → other.0 ≢ l.0 → (is_at other old ≡ false) × (is_at other st ≡ false)) → RowFits after l row
       → m' + one (is_mapped old) ≡ m + one (is_mapped st) → Fits after (set table l.0 row) m'
   fits_row table m m' l row h slabs within others fits counted =
       let inside : l.0 < length table = omega (arith, h.rows, within) in
@@ -96,8 +106,11 @@ module _ (states : List SlabState) (slab : Slab) (st : SlabState) (lt : slab.0 <
         row = λ other lt'.
             ⊎_elim
             (λ (e : other.0 ≡ l.0).
-            subst (λ r. RowFits after other r) (sym (ap (λ n. get_or (set table l.0 row) n (new_row 0)) e ∙ get_or-set_same table l.0 row (new_row 0) inside)) (subst (λ (x : Lender). RowFits after x row) (lender_is l other (sym e)) fits))
-            (λ (ne : other.0 ≢ l.0). subst (λ r. RowFits after other r) (sym (get_or-set_other table l.0 other.0 row (new_row 0) ne)) (row_away other (row_of table other) (others other ne).0 (others other ne).1 (h.row other lt')))
+            subst (λ r. RowFits after other r) (sym (ap (λ n. get_or (set table l.0 row) n (new_row 0)) e ∙ get_or-set_same table l.0 row (new_row 0) inside))
+            (subst (λ (x : Lender). RowFits after x row) (lender_is l other (sym e)) fits))
+            (λ (ne : other.0 ≢ l.0).
+            subst (λ r. RowFits after other r) (sym (get_or-set_other table l.0 other.0 row (new_row 0) ne))
+            (row_away other (row_of table other) (others other ne).0 (others other ne).1 (h.row other lt')))
             (cases_eq other.0 l.0);
         mapped = omega (arith, h.mapped, count_after is_mapped, counted);
       }
@@ -121,18 +134,22 @@ module _ {X : Type 0} (p : X → Bool) where
   found_of false n e = refl
 
   pub count_none : (xs : List X) → position p xs ≡ None → count_by p xs ≡ 0
-  count_none xs e = none_passes xs (ltb-false (position_or_len p xs) (length xs) (found_of (nat_lt (position_or_len p xs) (length xs)) (position_or_len p xs) e))
+  count_none xs e =
+      none_passes xs (ltb-false (position_or_len p xs) (length xs) (found_of (nat_lt (position_or_len p xs) (length xs)) (position_or_len p xs) e))
 
   pub any_counted : (xs : List X) → nat_lt 0 (count_by p xs) ≡ list_any p xs
   any_counted [] = refl
   any_counted (x ∷ xs) =
       ⊎_elim
-      (λ (t : p x ≡ true). lt-ltb 0 (count_by p (x ∷ xs)) (omega (arith, sum_by-cons (λ x. cond (p x) 1 0) x xs, ap one t)) ∙ sym (ap (λ b. b || list_any p xs) t))
-      (λ (t : p x ≡ false). ap (λ n. nat_lt 0 n) (sum_by-cons (λ x. cond (p x) 1 0) x xs ∙ ap (λ b. cond b 1 0 + count_by p xs) t ∙ omega arith) ∙ any_counted xs ∙ sym (ap (λ b. b || list_any p xs) t))
+      (λ (t : p x ≡ true). lt-ltb 0 (count_by p (x ∷ xs)) (omega (arith, sum_by-cons (λ x. cond (p x) 1 0) x xs, ap one t))
+      ∙ sym (ap (λ b. b || list_any p xs) t))
+      (λ (t : p x ≡ false). ap (λ n. nat_lt 0 n) (sum_by-cons (λ x. cond (p x) 1 0) x xs ∙ ap (λ b. cond b 1 0 + count_by p xs) t ∙ omega arith)
+      ∙ any_counted xs ∙ sym (ap (λ b. b || list_any p xs) t))
       (cases_Bool (p x))
 
 -- a number of leases
-pub without-count : (k : Lease) (p : Leased → Bool) (xs : List Leased) (e : Leased) → find (has_number k) xs ≡ Some e → count_by p (without k xs) + one (p e) ≡ count_by p xs
+pub without-count :
+    (k : Lease) (p : Leased → Bool) (xs : List Leased) (e : Leased) → find (has_number k) xs ≡ Some e → count_by p (without k xs) + one (p e) ≡ count_by p xs
 without-count k p [] e found = cc
 without-count k p (x ∷ xs) e found =
     ⊎_elim
@@ -141,8 +158,14 @@ without-count k p (x ∷ xs) e found =
     let gone : count_by p (without k (x ∷ xs)) ≡ count_by p xs = ap (λ l. count_by p l) (cond-true (has_number k x) xs (x ∷ without k xs) t) in
     omega (arith, gone, sum_by-cons (λ (l : Leased). one (p l)) x xs, ap (λ l. one (p l)) same))
     (λ (t : has_number k x ≡ false).
-    let kept : count_by p (without k (x ∷ xs)) ≡ one (p x) + count_by p (without k xs) = ap (λ l. count_by p l) (cond-false (has_number k x) xs (x ∷ without k xs) t) ∙ sum_by-cons (λ (l : Leased). one (p l)) x (without k xs) in
-    omega (arith, kept, sum_by-cons (λ (l : Leased). one (p l)) x xs, without-count k p xs e (sym (cond-false (has_number k x) (Some x) (find (has_number k) xs) t) ∙ found)))
+    let kept : count_by p (without k (x ∷ xs)) ≡ one (p x) + count_by p (without k xs) =
+    ap (λ l. count_by p l) (cond-false (has_number k x) xs (x ∷ without k xs) t) ∙ sum_by-cons (λ (l : Leased). one (p l)) x (without k xs) in
+    omega (
+      arith,
+      kept,
+      sum_by-cons (λ (l : Leased). one (p l)) x xs,
+      without-count k p xs e (sym (cond-false (has_number k x) (Some x) (find (has_number k) xs) t) ∙ found),
+    ))
     (cases_Bool (has_number k x))
   where
     some_is : {X : Type 0} (x y : X) → Some x ≡ Some y → x ≡ y
@@ -156,13 +179,15 @@ length-without k xs e found = omega (arith, without-count k (λ l. true) xs e fo
     all (y ∷ ys) = omega (arith, sum_by-cons (λ (l : Leased). 1) y ys, all ys)
 
 -- an entry that is found is one of them, and has its number
-found_entry : (k : Lease) (xs : List Leased) (e : Leased) → find (has_number k) xs ≡ Some e → (has_number k e ≡ true) × (1 ≤ count_by (λ l. is_entry k e.slab l) xs)
+found_entry :
+    (k : Lease) (xs : List Leased) (e : Leased) → find (has_number k) xs ≡ Some e → (has_number k e ≡ true) × (1 ≤ count_by (λ l. is_entry k e.slab l) xs)
 found_entry k [] e found = cc
 found_entry k (x ∷ xs) e found =
     ⊎_elim
     (λ (t : has_number k x ≡ true).
     let same : x ≡ e = some_is x e (sym (cond-true (has_number k x) (Some x) (find (has_number k) xs) t) ∙ found) in
-    let there : is_entry k e.slab x ≡ true = and_from (x.lease.0 == k.0) (x.slab.0 == e.slab.0) t (eq-eqb x.slab.0 e.slab.0 (ap (λ (l : Leased). l.slab.0) same)) in
+    let there : is_entry k e.slab x ≡ true =
+    and_from (x.lease.0 == k.0) (x.slab.0 == e.slab.0) t (eq-eqb x.slab.0 e.slab.0 (ap (λ (l : Leased). l.slab.0) same)) in
     (ap (has_number k) (sym same) ∙ t, omega (arith, sum_by-cons (λ (l : Leased). one (is_entry k e.slab l)) x xs, ap one there)))
     (λ (t : has_number k x ≡ false).
     let rest = found_entry k xs e (sym (cond-false (has_number k x) (Some x) (find (has_number k) xs) t) ∙ found) in
@@ -178,8 +203,12 @@ none_entry k s (x ∷ xs) found =
     ⊎_elim
     (λ (t : has_number k x ≡ true). absurd (some_none (sym (cond-true (has_number k x) (Some x) (find (has_number k) xs) t) ∙ found)))
     (λ (t : has_number k x ≡ false).
-    omega
-    (arith, sum_by-cons (λ (l : Leased). one (is_entry k s l)) x xs, ap one (and_left (x.lease.0 == k.0) (x.slab.0 == s.0) t), none_entry k s xs (sym (cond-false (has_number k x) (Some x) (find (has_number k) xs) t) ∙ found)))
+    omega (
+      arith,
+      sum_by-cons (λ (l : Leased). one (is_entry k s l)) x xs,
+      ap one (and_left (x.lease.0 == k.0) (x.slab.0 == s.0) t),
+      none_entry k s xs (sym (cond-false (has_number k x) (Some x) (find (has_number k) xs) t) ∙ found),
+    ))
     (cases_Bool (has_number k x))
   where
     some_none : {X : Type 0} {x : X} → Some x ≡ None → ⊥
@@ -190,7 +219,9 @@ one_some true le = refl
 one_some false le = absurd (omega arith)
 
 -- only one slab has a lease
-pub only_slab : (states : List SlabState) (l : Lender) (k : Lease) (s t : Slab) → IsSlabs states → has_lease l k (state_of states s) ≡ true → has_lease l k (state_of states t) ≡ true → t.0 ≡ s.0
+pub only_slab :
+    (states : List SlabState) (l : Lender) (k : Lease) (s t : Slab) → IsSlabs states → has_lease l k (state_of states s) ≡ true
+    → has_lease l k (state_of states t) ≡ true → t.0 ≡ s.0
 only_slab states l k s t h here there =
     ⊎_elim (λ e. e)
     (λ (ne : t.0 ≢ s.0).
@@ -199,32 +230,46 @@ only_slab states l k s t h here there =
     let gone = count_after states s Local within (λ state. has_lease l k state) in
     let still : has_lease l k (state_of (set states s.0 Local) t) ≡ true = ap (λ x. has_lease l k x) (state_other states s Local within t ne) ∙ there in
     absurd
-    (omega
-    (arith, gone, ap one here, h.single l k, ap one still, get_or-le-sum_by (λ (x : SlabState). one (has_lease l k x)) (set states s.0 Local) t.0 Local (omega (arith, length-set states s.0 Local, within')))))
+    (omega (
+      arith,
+      gone,
+      ap one here,
+      h.single l k,
+      ap one still,
+      get_or-le-sum_by (λ (x : SlabState). one (has_lease l k x)) (set states s.0 Local) t.0 Local (omega (arith, length-set states s.0 Local, within')),
+    )))
     (cases_eq t.0 s.0)
   where
     in_range : (s : Slab) → has_lease l k (state_of states s) ≡ true → s.0 < length states
-    in_range s e = ⊎_elim (λ lt. lt) (λ ge. absurd (false≢true (sym (ap (λ x. has_lease l k x) (get_or_past states s.0 Local ge)) ∙ e))) (cases_lt s.0 (length states))
+    in_range s e =
+        ⊎_elim (λ lt. lt) (λ ge. absurd (false≢true (sym (ap (λ x. has_lease l k x) (get_or_past states s.0 Local ge)) ∙ e))) (cases_lt s.0 (length states))
 
 pub lease_in_range : (states : List SlabState) (l : Lender) (k : Lease) (s : Slab) → has_lease l k (state_of states s) ≡ true → s.0 < length states
-lease_in_range states l k s e = ⊎_elim (λ lt. lt) (λ ge. absurd (false≢true (sym (ap (λ x. has_lease l k x) (get_or_past states s.0 Local ge)) ∙ e))) (cases_lt s.0 (length states))
+lease_in_range states l k s e =
+    ⊎_elim (λ lt. lt) (λ ge. absurd (false≢true (sym (ap (λ x. has_lease l k x) (get_or_past states s.0 Local ge)) ∙ e))) (cases_lt s.0 (length states))
 
 slab_is : (a b : Slab) → a.0 ≡ b.0 → a ≡ b
 slab_is a b e = let F : ℕ → Slab = λ n. record { 0 = n } in ap F e
 
 -- the entry of a slab's lease is found
-pub entry_of : (states : List SlabState) (l : Lender) (row : LenderRow) (k : Lease) (s : Slab) → IsSlabs states → RowFits states l row → has_lease l k (state_of states s) ≡ true → (o : Option Leased) → find (has_number k) row.leases ≡ o → IsSome o
+pub entry_of :
+    (states : List SlabState) (l : Lender) (row : LenderRow) (k : Lease) (s : Slab) → IsSlabs states → RowFits states l row
+    → has_lease l k (state_of states s) ≡ true → (o : Option Leased) → find (has_number k) row.leases ≡ o → IsSome o
 entry_of states l row k s h fits here None found = absurd (omega (arith, none_entry k s row.leases found, fits.leases k s, ap one here))
 entry_of states l row k s h fits here (Some e) found = refl
 
-pub entry_slab : (states : List SlabState) (l : Lender) (row : LenderRow) (k : Lease) (s : Slab) (e : Leased) → IsSlabs states → RowFits states l row → has_lease l k (state_of states s) ≡ true → find (has_number k) row.leases ≡ Some e → (e.slab.0 ≡ s.0) × (has_number k e ≡ true)
+pub entry_slab :
+    (states : List SlabState) (l : Lender) (row : LenderRow) (k : Lease) (s : Slab) (e : Leased) → IsSlabs states → RowFits states l row
+    → has_lease l k (state_of states s) ≡ true → find (has_number k) row.leases ≡ Some e → (e.slab.0 ≡ s.0) × (has_number k e ≡ true)
 entry_slab states l row k s e h fits here found =
     let f = found_entry k row.leases e found in
     let there : has_lease l k (state_of states e.slab) ≡ true = one_some (has_lease l k (state_of states e.slab)) (omega (arith, f.1, fits.leases k e.slab)) in
     (only_slab states l k s e.slab h here there, f.0)
 
 -- the index agrees with the states
-pub by_lease_is : (states : List SlabState) (l : Lender) (row : LenderRow) (k : Lease) → IsSlabs states → RowFits states l row → (o : Option Leased) → find (has_number k) row.leases ≡ o → (p : Option ℕ) → position (λ state. has_lease l k state) states ≡ p
+pub by_lease_is :
+    (states : List SlabState) (l : Lender) (row : LenderRow) (k : Lease) → IsSlabs states → RowFits states l row → (o : Option Leased)
+    → find (has_number k) row.leases ≡ o → (p : Option ℕ) → position (λ state. has_lease l k state) states ≡ p
     → option_map (λ (e : Leased). e.slab) o ≡ option_map (λ (n : ℕ). record { 0 = n }) p
 by_lease_is states l row k h fits None lost None none = refl
 by_lease_is states l row k h fits None lost (Some i) at =
@@ -234,8 +279,12 @@ by_lease_is states l row k h fits (Some e) found None none =
     let f = found_entry k row.leases e found in
     let there : has_lease l k (state_of states e.slab) ≡ true = one_some (has_lease l k (state_of states e.slab)) (omega (arith, f.1, fits.leases k e.slab)) in
     absurd
-    (omega
-    (arith, ap one there, count_none (λ state. has_lease l k state) states none, get_or-le-sum_by (λ (x : SlabState). one (has_lease l k x)) states e.slab.0 Local (lease_in_range states l k e.slab there)))
+    (omega (
+      arith,
+      ap one there,
+      count_none (λ state. has_lease l k state) states none,
+      get_or-le-sum_by (λ (x : SlabState). one (has_lease l k x)) states e.slab.0 Local (lease_in_range states l k e.slab there),
+    ))
 by_lease_is states l row k h fits (Some e) found (Some i) at =
     let here = position-Some (λ state. has_lease l k state) states i Local at in
     let same = (entry_slab states l row k (record { 0 = i }) e h fits here.1 found).0 in

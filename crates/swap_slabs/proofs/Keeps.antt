@@ -29,7 +29,9 @@ module _ (states : List SlabState) (slab : Slab) (h : IsSlabs states) (lt : slab
   same_or : (st : SlabState) → StateFits st → leased_of st ≡ leased_of (state_of states slab) → IsSlabs (with_state states slab st)
   same_or st fits e = slabs_same states slab st lt h fits e
 
-  by_case : (f : SlabState → SlabState) → ((s : SlabState) → state_of states slab ≡ s → IsSlabs (with_state states slab (f s))) → IsSlabs (with_state states slab (f (state_of states slab)))
+  by_case :
+      (f : SlabState → SlabState) → ((s : SlabState) → state_of states slab ≡ s → IsSlabs (with_state states slab (f s)))
+      → IsSlabs (with_state states slab (f (state_of states slab)))
   by_case f each = each (state_of states slab) refl
 
   fits_of : (s : SlabState) → state_of states slab ≡ s → StateFits s
@@ -38,14 +40,16 @@ module _ (states : List SlabState) (slab : Slab) (h : IsSlabs states) (lt : slab
   keep : (s : SlabState) → state_of states slab ≡ s → IsSlabs (with_state states slab s)
   keep s e = same_or s (fits_of s e) (sym (ap leased_of e))
 
-  answer_of : (l : Lender) (reply : Reply) (pair : Pair) → state_of states slab ≡ Asking pair → IsSlabs (with_state states slab (answered_state (replied pair l reply)))
+  answer_of :
+      (l : Lender) (reply : Reply) (pair : Pair) → state_of states slab ≡ Asking pair → IsSlabs (with_state states slab (answered_state (replied pair l reply)))
   answer_of l reply pair e =
       ⊎_elim
       (λ (t : waits (replied pair l reply) ≡ true).
       subst (λ s. IsSlabs (with_state states slab s)) (sym (cond-true (waits (replied pair l reply)) (Asking (replied pair l reply)) Local t))
       (slabs_none states slab (Asking (replied pair l reply)) lt h (replied_fits pair l reply (fits_of (Asking pair) e) t) refl))
       (λ (t : waits (replied pair l reply) ≡ false).
-      subst (λ s. IsSlabs (with_state states slab s)) (sym (cond-false (waits (replied pair l reply)) (Asking (replied pair l reply)) Local t)) (slabs_none states slab Local lt h tt refl))
+      subst (λ s. IsSlabs (with_state states slab s)) (sym (cond-false (waits (replied pair l reply)) (Asking (replied pair l reply)) Local t))
+      (slabs_none states slab Local lt h tt refl))
       (cases_Bool (waits (replied pair l reply)))
 
   answer_case : (l : Lender) (reply : Reply) (s : SlabState) → state_of states slab ≡ s → IsSlabs (with_state states slab (after_answer s l reply))
@@ -55,7 +59,8 @@ module _ (states : List SlabState) (slab : Slab) (h : IsSlabs states) (lt : slab
   answer_case l reply (Mapped o k n) e = keep (Mapped o k n) e
   answer_case l reply (Draining o k n) e = keep (Draining o k n) e
 
-  lent_case : (k : Lease) (s : SlabState) → state_of states slab ≡ s → is_borrowing s ≡ true → IsNew states s k → IsSlabs (with_state states slab (after_lent s k))
+  lent_case :
+      (k : Lease) (s : SlabState) → state_of states slab ≡ s → is_borrowing s ≡ true → IsNew states s k → IsSlabs (with_state states slab (after_lent s k))
   lent_case k Local e b new = absurd (false≢true b)
   lent_case k (Asking pair) e b new = absurd (false≢true b)
   lent_case k (Borrowing o) e b new = lent_slabs states slab o k lt h (fits_of (Borrowing o) e) new
@@ -69,12 +74,16 @@ module _ (states : List SlabState) (slab : Slab) (h : IsSlabs states) (lt : slab
   begin_case (Mapped o k n) e less = same_or (Mapped o k (n + 1)) ((fits_of (Mapped o k n) e).0, omega (arith, less)) (sym (ap leased_of e))
   begin_case (Draining o k n) e less = keep (Draining o k n) e
 
-  drained_keeps : (o : Lender) (k : Lease) (n : ℕ) → leased_of (state_of states slab) ≡ Some (o, k) → o.0 < MOST_LENDERS → n ≤ MOST_FLYING → IsSlabs (with_state states slab (drained o k n))
+  drained_keeps :
+      (o : Lender) (k : Lease) (n : ℕ) → leased_of (state_of states slab) ≡ Some (o, k) → o.0 < MOST_LENDERS → n ≤ MOST_FLYING
+      → IsSlabs (with_state states slab (drained o k n))
   drained_keeps o k n e within le =
       ⊎_elim
-      (λ (t : (n == 0) ≡ true). subst (λ s. IsSlabs (with_state states slab s)) (sym (cond-true (n == 0) Local (Draining o k n) t)) (slabs_none states slab Local lt h tt refl))
+      (λ (t : (n == 0) ≡ true).
+      subst (λ s. IsSlabs (with_state states slab s)) (sym (cond-true (n == 0) Local (Draining o k n) t)) (slabs_none states slab Local lt h tt refl))
       (λ (t : (n == 0) ≡ false).
-      subst (λ s. IsSlabs (with_state states slab s)) (sym (cond-false (n == 0) Local (Draining o k n) t)) (same_or (Draining o k n) (within, omega (arith, eqb-false n 0 t), le) (sym e)))
+      subst (λ s. IsSlabs (with_state states slab s)) (sym (cond-false (n == 0) Local (Draining o k n) t))
+      (same_or (Draining o k n) (within, omega (arith, eqb-false n 0 t), le) (sym e)))
       (cases_Bool (n == 0))
 
   settled_case : (s : SlabState) → state_of states slab ≡ s → IsSlabs (with_state states slab (after_settled s))

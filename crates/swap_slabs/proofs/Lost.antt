@@ -52,7 +52,9 @@ module _ (l : Lender) where
   here_false x = ⊎_elim (λ t. ap (is_at l) (gone x t)) (λ t. ap (is_at l) (stays x t) ∙ t) (cases_Bool (is_at l x))
 
   fewer_leases : (m : Lender) (k : Lease) (x : SlabState) → one (has_lease m k (after_lost l x)) ≤ one (has_lease m k x)
-  fewer_leases m k x = ⊎_elim (λ t. omega (arith, ap (λ y. one (has_lease m k y)) (gone x t))) (λ t. omega (arith, ap (λ y. one (has_lease m k y)) (stays x t))) (cases_Bool (is_at l x))
+  fewer_leases m k x =
+      ⊎_elim (λ t. omega (arith, ap (λ y. one (has_lease m k y)) (gone x t))) (λ t. omega (arith, ap (λ y. one (has_lease m k y)) (stays x t)))
+      (cases_Bool (is_at l x))
 
   state_lost : (states : List SlabState) (s : Slab) → state_of (lost states l) s ≡ after_lost l (state_of states s)
   state_lost states s = get_or-map (after_lost l) states s.0 Local
@@ -61,15 +63,30 @@ module _ (l : Lender) where
   lost_slabs states h = record {
     fits = λ s.
         subst StateFits (sym (state_lost states s))
-        (⊎_elim (λ t. subst StateFits (sym (gone (state_of states s) t)) tt) (λ t. subst StateFits (sym (stays (state_of states s) t)) (h.fits s)) (cases_Bool (is_at l (state_of states s))));
-    single = λ m k. omega (arith, h.single m k, count-map-le (λ state. has_lease m k state) (λ state. has_lease m k state) (after_lost l) (λ x. fewer_leases m k x) states);
+        (⊎_elim (λ t. subst StateFits (sym (gone (state_of states s) t)) tt) (λ t. subst StateFits (sym (stays (state_of states s) t)) (h.fits s))
+        (cases_Bool (is_at l (state_of states s))));
+    single =
+        λ m k.
+        omega (arith, h.single m k, count-map-le (λ state. has_lease m k state) (λ state. has_lease m k state) (after_lost l) (λ x. fewer_leases m k x) states);
   }
 
   other_row : (states : List SlabState) (m : Lender) (row : LenderRow) → m.0 ≢ l.0 → RowFits states m row → RowFits (lost states l) m row
   other_row states m row ne h = record {
-    held = h.held ∙ sym (count-map (λ state. is_at m state) (λ state. is_at m state) (after_lost l) (other_same (λ state. is_at m state) refl (λ x t. away l m x ne t)) states);
-    leases = λ k s. h.leases k s ∙ ap one (sym (ap (λ x. has_lease m k x) (state_lost states s) ∙ other_same (λ state. has_lease m k state) refl (λ x t. no_lease m k x (away l m x ne t)) (state_of states s)));
-    number = h.number ∙ sym (count-map (λ state. has_lease_at m state) (λ state. has_lease_at m state) (after_lost l) (other_same (λ state. has_lease_at m state) refl (λ x t. no_lease_at m x (away l m x ne t))) states);
+    held =
+        h.held
+        ∙ sym
+        (count-map (λ state. is_at m state) (λ state. is_at m state) (after_lost l) (other_same (λ state. is_at m state) refl (λ x t. away l m x ne t)) states);
+    leases =
+        λ k s. h.leases k s
+        ∙ ap one
+        (sym
+        (ap (λ x. has_lease m k x) (state_lost states s)
+        ∙ other_same (λ state. has_lease m k state) refl (λ x t. no_lease m k x (away l m x ne t)) (state_of states s)));
+    number =
+        h.number
+        ∙ sym
+        (count-map (λ state. has_lease_at m state) (λ state. has_lease_at m state) (after_lost l)
+        (other_same (λ state. has_lease_at m state) refl (λ x t. no_lease_at m x (away l m x ne t))) states);
     room = omega (arith, h.room, length-map states (after_lost l));
   }
 
@@ -77,14 +94,19 @@ module _ (l : Lender) where
   own_row states room le = record {
     held = sym (count-map (λ state. is_at l state) (λ (x : SlabState). false) (after_lost l) here_false states ∙ count_never states);
     leases = λ k s. sym (ap one (no_lease l k (state_of (lost states l) s) (ap (is_at l) (state_lost states s) ∙ here_false (state_of states s))));
-    number = sym (count-map (λ state. has_lease_at l state) (λ (x : SlabState). false) (after_lost l) (λ x. no_lease_at l (after_lost l x) (here_false x)) states ∙ count_never states);
+    number =
+        sym
+        (count-map (λ state. has_lease_at l state) (λ (x : SlabState). false) (after_lost l) (λ x. no_lease_at l (after_lost l x) (here_false x)) states
+        ∙ count_never states);
     room = omega (arith, le, length-map states (after_lost l));
   }
 
   lender_is : (a b : Lender) → a.0 ≡ b.0 → a ≡ b
   lender_is a b e = let F : ℕ → Lender = λ n. record { 0 = n } in ap F e
 
-  pub lost_fits : (states states' : List SlabState) (table : List LenderRow) (m m' : ℕ) (row' : LenderRow) → Fits states table m → l.0 < MOST_LENDERS → states' ≡ lost states l → m' ≡ mapped states' → row' ≡ new_row (row_of table l).room → Fits states' (set table l.0 row') m'
+  pub lost_fits :
+      (states states' : List SlabState) (table : List LenderRow) (m m' : ℕ) (row' : LenderRow) → Fits states table m → l.0 < MOST_LENDERS
+      → states' ≡ lost states l → m' ≡ mapped states' → row' ≡ new_row (row_of table l).room → Fits states' (set table l.0 row') m'
   lost_fits states states' table m m' row' h within swept counted cleared =
       let inside : l.0 < length table = omega (arith, h.rows, within) in
       let P : List SlabState → Type 0 = λ x. Fits x (set table l.0 row') m' in
@@ -96,16 +118,22 @@ module _ (l : Lender) where
         row = λ other lt.
             ⊎_elim
             (λ (e : other.0 ≡ l.0).
-            subst (λ r. RowFits (lost states l) other r) (sym (ap (λ n. get_or (set table l.0 row') n (new_row 0)) e ∙ get_or-set_same table l.0 row' (new_row 0) inside ∙ cleared))
-            (subst (λ (x : Lender). RowFits (lost states l) x (new_row (row_of table l).room)) (lender_is l other (sym e)) (own_row states (row_of table l).room (h.row l within).room)))
-            (λ (ne : other.0 ≢ l.0). subst (λ r. RowFits (lost states l) other r) (sym (get_or-set_other table l.0 other.0 row' (new_row 0) ne)) (other_row states other (row_of table other) ne (h.row other lt)))
+            subst (λ r. RowFits (lost states l) other r)
+            (sym (ap (λ n. get_or (set table l.0 row') n (new_row 0)) e ∙ get_or-set_same table l.0 row' (new_row 0) inside ∙ cleared))
+            (subst (λ (x : Lender). RowFits (lost states l) x (new_row (row_of table l).room)) (lender_is l other (sym e))
+            (own_row states (row_of table l).room (h.row l within).room)))
+            (λ (ne : other.0 ≢ l.0).
+            subst (λ r. RowFits (lost states l) other r) (sym (get_or-set_other table l.0 other.0 row' (new_row 0) ne))
+            (other_row states other (row_of table other) ne (h.row other lt)))
             (cases_eq other.0 l.0);
         mapped = counted ∙ ap mapped swept;
       })
 
 -- every slab is local
 state_local : (n : ℕ) (s : Slab) → state_of (all_local n) s ≡ Local
-state_local n s = ⊎_elim (λ lt. get_or-replicate n s.0 Local Local lt) (λ ge. get_or_past (replicate n Local) s.0 Local (omega (arith, ge, length-replicate n Local))) (cases_lt s.0 n)
+state_local n s =
+    ⊎_elim (λ lt. get_or-replicate n s.0 Local Local lt) (λ ge. get_or_past (replicate n Local) s.0 Local (omega (arith, ge, length-replicate n Local)))
+    (cases_lt s.0 n)
 
 pub local_slabs : (n : ℕ) → IsSlabs (all_local n)
 local_slabs n = record {
@@ -113,7 +141,9 @@ local_slabs n = record {
   single = λ l k. omega (arith, sum_by-replicate (λ state. one (has_lease l k state)) n Local);
 }
 
-pub new_fits : (n : ℕ) (states : List SlabState) (table : List LenderRow) → n < 2 ^ 32 → states ≡ all_local n → table ≡ replicate MOST_LENDERS (new_row n) → Fits states table 0
+pub new_fits :
+    (n : ℕ) (states : List SlabState) (table : List LenderRow) → n < 2 ^ 32 → states ≡ all_local n → table ≡ replicate MOST_LENDERS (new_row n)
+    → Fits states table 0
 new_fits n states table few made rows =
     let S : List SlabState → Type 0 = λ x. Fits x table 0 in
     let T : List LenderRow → Type 0 = λ t. Fits (all_local n) t 0 in

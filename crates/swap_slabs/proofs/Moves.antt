@@ -42,49 +42,68 @@ lender_at : (state : SlabState) (m l : Lender) → lender_of state ≡ Some l �
 lender_at state m l e ne = ap (λ o. is_lender m o) e ∙ not_other m l ne
 
 -- a slab that isn't leased keeps leases as they are
-only_none : (states : List SlabState) (before : SlabState) (st : SlabState) → leased_of st ≡ None → (l : Lender) (k : Lease) → has_lease l k st ≡ true → count_by (λ state. has_lease l k state) states ≤ one (has_lease l k before)
+only_none :
+    (states : List SlabState) (before : SlabState) (st : SlabState) → leased_of st ≡ None → (l : Lender) (k : Lease) → has_lease l k st ≡ true
+    → count_by (λ state. has_lease l k state) states ≤ one (has_lease l k before)
 only_none states before st e l k t = absurd (false≢true (sym (ap (λ o. is_lease l k o) e) ∙ t))
 
-only_same : (states : List SlabState) (before : SlabState) (st : SlabState) → IsSlabs states → leased_of st ≡ leased_of before → (l : Lender) (k : Lease) → has_lease l k st ≡ true → count_by (λ state. has_lease l k state) states ≤ one (has_lease l k before)
+only_same :
+    (states : List SlabState) (before : SlabState) (st : SlabState) → IsSlabs states → leased_of st ≡ leased_of before → (l : Lender) (k : Lease)
+    → has_lease l k st ≡ true → count_by (λ state. has_lease l k state) states ≤ one (has_lease l k before)
 only_same states before st h e l k t = omega (arith, h.single l k, ap one (sym (ap (λ o. is_lease l k o) e) ∙ t))
 
 -- a slab becomes one that has no lease
-pub slabs_none : (states : List SlabState) (slab : Slab) (st : SlabState) → slab.0 < length states → IsSlabs states → StateFits st → leased_of st ≡ None → IsSlabs (with_state states slab st)
+pub slabs_none :
+    (states : List SlabState) (slab : Slab) (st : SlabState) → slab.0 < length states → IsSlabs states → StateFits st → leased_of st ≡ None
+    → IsSlabs (with_state states slab st)
 slabs_none states slab st lt h fits e = slabs_after states slab st lt h fits (only_none states (state_of states slab) st e)
 
 -- or keeps the one that it has
-pub slabs_same : (states : List SlabState) (slab : Slab) (st : SlabState) → slab.0 < length states → IsSlabs states → StateFits st → leased_of st ≡ leased_of (state_of states slab) → IsSlabs (with_state states slab st)
+pub slabs_same :
+    (states : List SlabState) (slab : Slab) (st : SlabState) → slab.0 < length states → IsSlabs states → StateFits st
+    → leased_of st ≡ leased_of (state_of states slab) → IsSlabs (with_state states slab st)
 slabs_same states slab st lt h fits e = slabs_after states slab st lt h fits (only_same states (state_of states slab) st h e)
 
 -- a slab keeps its lender and its lease
-pub fits_kept : (states : List SlabState) (slab : Slab) (st : SlabState) (table : List LenderRow) (m m' : ℕ) → slab.0 < length states → Fits states table m → StateFits st → lender_of st ≡ lender_of (state_of states slab) → leased_of st ≡ leased_of (state_of states slab)
+pub fits_kept :
+    (states : List SlabState) (slab : Slab) (st : SlabState) (table : List LenderRow) (m m' : ℕ) → slab.0 < length states → Fits states table m → StateFits st
+    → lender_of st ≡ lender_of (state_of states slab) → leased_of st ≡ leased_of (state_of states slab)
     → m' + one (is_mapped (state_of states slab)) ≡ m + one (is_mapped st) → Fits (with_state states slab st) table m'
 fits_kept states slab st table m m' lt h fits at leased counted =
-    fits_same states slab st lt table m m' h (slabs_same states slab st lt h.slabs fits leased) (λ l. ap (λ o. is_lender l o) (sym at)) (λ l. ap (λ o. is_leased_at l o) (sym leased)) (λ l k. ap (λ o. is_lease l k o) (sym leased)) counted
+    fits_same states slab st lt table m m' h (slabs_same states slab st lt h.slabs fits leased) (λ l. ap (λ o. is_lender l o) (sym at))
+    (λ l. ap (λ o. is_leased_at l o) (sym leased)) (λ l k. ap (λ o. is_lease l k o) (sym leased)) counted
 
 -- the leases of a lender stay where the slab's lease does
-leases_same : (states : List SlabState) (slab : Slab) (st : SlabState) → slab.0 < length states → (l : Lender) (leases : List Leased) → ((k : Lease) → has_lease l k (state_of states slab) ≡ has_lease l k st)
-    → ((k : Lease) (s : Slab) → count_by (λ e. is_entry k s e) leases ≡ one (has_lease l k (state_of states s))) → (k : Lease) (s : Slab) → count_by (λ e. is_entry k s e) leases ≡ one (has_lease l k (state_of (set states slab.0 st) s))
+leases_same :
+    (states : List SlabState) (slab : Slab) (st : SlabState) → slab.0 < length states → (l : Lender) (leases : List Leased)
+    → ((k : Lease) → has_lease l k (state_of states slab) ≡ has_lease l k st)
+    → ((k : Lease) (s : Slab) → count_by (λ e. is_entry k s e) leases ≡ one (has_lease l k (state_of states s))) → (k : Lease) (s : Slab)
+    → count_by (λ e. is_entry k s e) leases ≡ one (has_lease l k (state_of (set states slab.0 st) s))
 leases_same states slab st lt l leases same each k s =
     each k s
     ∙ ap one
-    (⊎_elim (λ e. ap (λ n. has_lease l k (get_or states n Local)) e ∙ same k ∙ sym (ap (λ x. has_lease l k x) (state_here states slab st lt s e))) (λ ne. sym (ap (λ x. has_lease l k x) (state_other states slab st lt s ne))) (cases_eq s.0 slab.0))
+    (⊎_elim (λ e. ap (λ n. has_lease l k (get_or states n Local)) e ∙ same k ∙ sym (ap (λ x. has_lease l k x) (state_here states slab st lt s e)))
+    (λ ne. sym (ap (λ x. has_lease l k x) (state_other states slab st lt s ne))) (cases_eq s.0 slab.0))
 
 is_lender_self : (l : Lender) → is_lender l (Some l) ≡ true
 is_lender_self l = eq-eqb l.0 l.0 refl
 
 -- a local slab borrows
-pub borrow_fits : (states : List SlabState) (slab : Slab) (table : List LenderRow) (m : ℕ) (l : Lender) (row' : LenderRow) → slab.0 < length states → Fits states table m → is_local (state_of states slab) ≡ true → l.0 < MOST_LENDERS
+pub borrow_fits :
+    (states : List SlabState) (slab : Slab) (table : List LenderRow) (m : ℕ) (l : Lender) (row' : LenderRow) → slab.0 < length states → Fits states table m
+    → is_local (state_of states slab) ≡ true → l.0 < MOST_LENDERS
     → row' ≡ record (row_of table l) { held = (row_of table l).held + 1 } → Fits (with_state states slab (Borrowing l)) (set table l.0 row') m
 borrow_fits states slab table m l row' lt h local within made =
     let was : state_of states slab ≡ Local = local_is (state_of states slab) local in
     let row : RowFits states l (row_of table l) = h.row l within in
     let P : LenderRow → Type 0 = λ r. Fits (with_state states slab (Borrowing l)) (set table l.0 r) m in
     subst P (sym made)
-    (fits_row states slab (Borrowing l) lt table m m l (record (row_of table l) { held = (row_of table l).held + 1 }) h (slabs_none states slab (Borrowing l) lt h.slabs within refl) within
+    (fits_row states slab (Borrowing l) lt table m m l (record (row_of table l) { held = (row_of table l).held + 1 }) h
+    (slabs_none states slab (Borrowing l) lt h.slabs within refl) within
     (λ other ne. (ap (λ x. is_at other x) was, not_other other l ne))
     (record {
-      held = omega (arith, row.held, count_after states slab (Borrowing l) lt (λ state. is_at l state), ap (λ x. one (is_at l x)) was, ap one (is_lender_self l));
+      held =
+          omega (arith, row.held, count_after states slab (Borrowing l) lt (λ state. is_at l state), ap (λ x. one (is_at l x)) was, ap one (is_lender_self l));
       leases = leases_same states slab (Borrowing l) lt l (row_of table l).leases (λ k. ap (λ x. has_lease l k x) was) row.leases;
       number = omega (arith, row.number, count_after states slab (Borrowing l) lt (λ state. has_lease_at l state), ap (λ x. one (has_lease_at l x)) was);
       room = omega (arith, row.room, length-set states slab.0 (Borrowing l));
@@ -92,19 +111,32 @@ borrow_fits states slab table m l row' lt h local within made =
     (omega (arith, ap (λ x. one (is_mapped x)) was)))
 
 -- there is room for one slab more at the lender
-pub borrow_room : (states : List SlabState) (slab : Slab) (table : List LenderRow) (m : ℕ) (l : Lender) → slab.0 < length states → Fits states table m → is_local (state_of states slab) ≡ true → l.0 < MOST_LENDERS → (row_of table l).held + 1 < 2 ^ 32
+pub borrow_room :
+    (states : List SlabState) (slab : Slab) (table : List LenderRow) (m : ℕ) (l : Lender) → slab.0 < length states → Fits states table m
+    → is_local (state_of states slab) ≡ true → l.0 < MOST_LENDERS → (row_of table l).held + 1 < 2 ^ 32
 borrow_room states slab table m l lt h local within =
-    omega
-    (arith, h.few, (h.row l within).held, count_after states slab (Borrowing l) lt (λ state. is_at l state), ap (λ x. one (is_at l x)) (local_is (state_of states slab) local), ap one (is_lender_self l), count_by-le-length (λ state. is_at l state) (with_state states slab (Borrowing l)), length-set states slab.0 (Borrowing l))
+    omega (
+      arith,
+      h.few,
+      (h.row l within).held,
+      count_after states slab (Borrowing l) lt (λ state. is_at l state),
+      ap (λ x. one (is_at l x)) (local_is (state_of states slab) local),
+      ap one (is_lender_self l),
+      count_by-le-length (λ state. is_at l state) (with_state states slab (Borrowing l)),
+      length-set states slab.0 (Borrowing l),
+    )
 
 -- a slab that borrows is local again
-pub refuse_fits : (states : List SlabState) (slab : Slab) (table : List LenderRow) (m : ℕ) (l : Lender) (row' : LenderRow) → slab.0 < length states → Fits states table m → state_of states slab ≡ Borrowing l → l.0 < MOST_LENDERS
+pub refuse_fits :
+    (states : List SlabState) (slab : Slab) (table : List LenderRow) (m : ℕ) (l : Lender) (row' : LenderRow) → slab.0 < length states → Fits states table m
+    → state_of states slab ≡ Borrowing l → l.0 < MOST_LENDERS
     → row' ≡ record (row_of table l) { held = (row_of table l).held - 1 } → Fits (with_state states slab Local) (set table l.0 row') m
 refuse_fits states slab table m l row' lt h was within made =
     let row : RowFits states l (row_of table l) = h.row l within in
     let P : LenderRow → Type 0 = λ r. Fits (with_state states slab Local) (set table l.0 r) m in
     subst P (sym made)
-    (fits_row states slab Local lt table m m l (record (row_of table l) { held = (row_of table l).held - 1 }) h (slabs_none states slab Local lt h.slabs tt refl) within
+    (fits_row states slab Local lt table m m l (record (row_of table l) { held = (row_of table l).held - 1 }) h
+    (slabs_none states slab Local lt h.slabs tt refl) within
     (λ other ne. (lender_at (state_of states slab) other l (ap lender_of was) ne, refl))
     (record {
       held = omega (arith, row.held, count_after states slab Local lt (λ state. is_at l state), ap (λ x. one (is_at l x)) was, ap one (is_lender_self l));
@@ -115,9 +147,17 @@ refuse_fits states slab table m l row' lt h was within made =
     (omega (arith, ap (λ x. one (is_mapped x)) was)))
 
 -- a lender that a slab is at is told to hold one
-pub held_some : (states : List SlabState) (slab : Slab) (table : List LenderRow) (m : ℕ) (l : Lender) → slab.0 < length states → Fits states table m → lender_of (state_of states slab) ≡ Some l → l.0 < MOST_LENDERS → 0 < (row_of table l).held
+pub held_some :
+    (states : List SlabState) (slab : Slab) (table : List LenderRow) (m : ℕ) (l : Lender) → slab.0 < length states → Fits states table m
+    → lender_of (state_of states slab) ≡ Some l → l.0 < MOST_LENDERS → 0 < (row_of table l).held
 held_some states slab table m l lt h was within =
-    omega (arith, (h.row l within).held, get_or-le-sum_by (λ (x : SlabState). one (is_at l x)) states slab.0 Local lt, ap (λ o. one (is_lender l o)) was, ap one (is_lender_self l))
+    omega (
+      arith,
+      (h.row l within).held,
+      get_or-le-sum_by (λ (x : SlabState). one (is_at l x)) states slab.0 Local lt,
+      ap (λ o. one (is_lender l o)) was,
+      ap one (is_lender_self l),
+    )
 
 lender_is : (a b : Lender) → a.0 ≡ b.0 → a ≡ b
 lender_is a b e = let F : ℕ → Lender = λ n. record { 0 = n } in ap F e
@@ -126,79 +166,125 @@ lease_is : (a b : Lease) → a.0 ≡ b.0 → a ≡ b
 lease_is a b e = let F : ℕ → Lease = λ n. record { 0 = n } in ap F e
 
 -- a slab that borrows is mapped by a lease that no slab of the lender has
-lent_single : (states : List SlabState) (slab : Slab) (l : Lender) (k : Lease) (n : ℕ) → position (λ state. has_lease l k state) states ≡ None → (m : Lender) (j : Lease) → has_lease m j (Mapped l k n) ≡ true
+lent_single :
+    (states : List SlabState) (slab : Slab) (l : Lender) (k : Lease) (n : ℕ) → position (λ state. has_lease l k state) states ≡ None → (m : Lender) (j : Lease)
+    → has_lease m j (Mapped l k n) ≡ true
     → count_by (λ state. has_lease m j state) states ≤ one (has_lease m j (state_of states slab))
 lent_single states slab l k n none m j t =
     let parts = and_parts (l.0 == m.0) (k.0 == j.0) t in
     let same_l : m ≡ l = lender_is m l (sym (eqb-true l.0 m.0 parts.0)) in
     let same_k : j ≡ k = lease_is j k (sym (eqb-true k.0 j.0 parts.1)) in
-    let zero_ : count_by (λ state. has_lease m j state) states ≡ 0 = ap (λ x. count_by (λ state. has_lease x j state) states) same_l ∙ ap (λ x. count_by (λ state. has_lease l x state) states) same_k ∙ count_none (λ state. has_lease l k state) states none in
+    let zero_ : count_by (λ state. has_lease m j state) states ≡ 0 =
+    ap (λ x. count_by (λ state. has_lease x j state) states) same_l ∙ ap (λ x. count_by (λ state. has_lease l x state) states) same_k
+    ∙ count_none (λ state. has_lease l k state) states none in
     omega (arith, zero_)
 
 none_of : {X : Type 0} (f : ℕ → X) (o : Option ℕ) → option_map f o ≡ None → o ≡ None
 none_of f None e = refl
 none_of f (Some n) e = cc
 
-pub lent_slabs : (states : List SlabState) (slab : Slab) (l : Lender) (k : Lease) → slab.0 < length states → IsSlabs states → l.0 < MOST_LENDERS → by_lease states l k ≡ None → IsSlabs (with_state states slab (Mapped l k 0))
+pub lent_slabs :
+    (states : List SlabState) (slab : Slab) (l : Lender) (k : Lease) → slab.0 < length states → IsSlabs states → l.0 < MOST_LENDERS → by_lease states l k ≡ None
+    → IsSlabs (with_state states slab (Mapped l k 0))
 lent_slabs states slab l k lt h within new =
-    slabs_after states slab (Mapped l k 0) lt h (within, omega arith) (lent_single states slab l k 0 (none_of (λ n. record { 0 = n }) (position (λ state. has_lease l k state) states) new))
+    slabs_after states slab (Mapped l k 0) lt h (within, omega arith)
+    (lent_single states slab l k 0 (none_of (λ n. record { 0 = n }) (position (λ state. has_lease l k state) states) new))
 
 and_true : (b : Bool) → (b && true) ≡ b
 and_true true = refl
 and_true false = refl
 
-lent_entry : (states : List SlabState) (slab : Slab) (l : Lender) (k : Lease) (leases : List Leased) (i : ℕ) → slab.0 < length states → state_of states slab ≡ Borrowing l → ((j : Lease) (s : Slab) → count_by (λ e. is_entry j s e) leases ≡ one (has_lease l j (state_of states s)))
-    → (j : Lease) (s : Slab) → count_by (λ e. is_entry j s e) (insert leases i (record { lease = k; slab = slab })) ≡ one (has_lease l j (state_of (set states slab.0 (Mapped l k 0)) s))
+lent_entry :
+    (states : List SlabState) (slab : Slab) (l : Lender) (k : Lease) (leases : List Leased) (i : ℕ) → slab.0 < length states
+    → state_of states slab ≡ Borrowing l
+    → ((j : Lease) (s : Slab) → count_by (λ e. is_entry j s e) leases ≡ one (has_lease l j (state_of states s)))
+    → (j : Lease) (s : Slab)
+    → count_by (λ e. is_entry j s e) (insert leases i (record { lease = k; slab = slab })) ≡ one (has_lease l j (state_of (set states slab.0 (Mapped l k 0)) s))
 lent_entry states slab l k leases i lt was each j s =
     let added = sum_by-insert (λ (e : Leased). one (is_entry j s e)) leases i (record { lease = k; slab = slab }) in
     ⊎_elim
     (λ (e : s.0 ≡ slab.0).
     let old_ : one (has_lease l j (state_of states s)) ≡ 0 = ap (λ n. one (has_lease l j (get_or states n Local))) e ∙ ap (λ x. one (has_lease l j x)) was in
-    let new_ : one (has_lease l j (state_of (set states slab.0 (Mapped l k 0)) s)) ≡ one (k.0 == j.0) = ap (λ x. one (has_lease l j x)) (state_here states slab (Mapped l k 0) lt s e) ∙ ap (λ b. one (b && (k.0 == j.0))) (is_lender_self l) in
-    let more : one ((k.0 == j.0) && (slab.0 == s.0)) ≡ one (k.0 == j.0) = ap (λ b. one ((k.0 == j.0) && b)) (eq-eqb slab.0 s.0 (sym e)) ∙ ap one (and_true (k.0 == j.0)) in
+    let new_ : one (has_lease l j (state_of (set states slab.0 (Mapped l k 0)) s)) ≡ one (k.0 == j.0) =
+    ap (λ x. one (has_lease l j x)) (state_here states slab (Mapped l k 0) lt s e) ∙ ap (λ b. one (b && (k.0 == j.0))) (is_lender_self l) in
+    let more : one ((k.0 == j.0) && (slab.0 == s.0)) ≡ one (k.0 == j.0) =
+    ap (λ b. one ((k.0 == j.0) && b)) (eq-eqb slab.0 s.0 (sym e)) ∙ ap one (and_true (k.0 == j.0)) in
     omega (arith, added, each j s, old_, new_, more))
     (λ (ne : s.0 ≢ slab.0).
-    let new_ : one (has_lease l j (state_of (set states slab.0 (Mapped l k 0)) s)) ≡ one (has_lease l j (state_of states s)) = ap (λ x. one (has_lease l j x)) (state_other states slab (Mapped l k 0) lt s ne) in
+    let new_ : one (has_lease l j (state_of (set states slab.0 (Mapped l k 0)) s)) ≡ one (has_lease l j (state_of states s)) =
+    ap (λ x. one (has_lease l j x)) (state_other states slab (Mapped l k 0) lt s ne) in
     let more : one ((k.0 == j.0) && (slab.0 == s.0)) ≡ 0 = ap one (and_right (k.0 == j.0) (slab.0 == s.0) (ne_eqb slab.0 s.0 (λ e. ne (sym e)))) in
     omega (arith, added, each j s, new_, more))
     (cases_eq s.0 slab.0)
 
-pub lent_fits : (states : List SlabState) (slab : Slab) (table : List LenderRow) (m : ℕ) (l : Lender) (k : Lease) (row' : LenderRow) → slab.0 < length states → Fits states table m → state_of states slab ≡ Borrowing l → l.0 < MOST_LENDERS → by_lease states l k ≡ None
+pub lent_fits :
+    (states : List SlabState) (slab : Slab) (table : List LenderRow) (m : ℕ) (l : Lender) (k : Lease) (row' : LenderRow) → slab.0 < length states
+    → Fits states table m → state_of states slab ≡ Borrowing l → l.0 < MOST_LENDERS → by_lease states l k ≡ None
     → Puts (row_of table l) (record { lease = k; slab = slab }) row' → Fits (with_state states slab (Mapped l k 0)) (set table l.0 row') (m + 1)
 lent_fits states slab table m l k row' lt h was within new (i, le, made) =
     let row : RowFits states l (row_of table l) = h.row l within in
     let st : SlabState = Mapped l k 0 in
     let P : LenderRow → Type 0 = λ r. Fits (with_state states slab (Mapped l k 0)) (set table l.0 r) (m + 1) in
     subst P (sym made)
-    (fits_row states slab (Mapped l k 0) lt table m (m + 1) l (record (row_of table l) { leases = insert (row_of table l).leases i (record { lease = k; slab = slab }) }) h (lent_slabs states slab l k lt h.slabs within new) within
+    (fits_row states slab (Mapped l k 0) lt table m (m + 1) l
+    (record (row_of table l) { leases = insert (row_of table l).leases i (record { lease = k; slab = slab }) }) h
+    (lent_slabs states slab l k lt h.slabs within new) within
     (λ other ne. (lender_at (state_of states slab) other l (ap lender_of was) ne, not_other other l ne))
     (record {
       held = omega (arith, row.held, count_after states slab (Mapped l k 0) lt (λ state. is_at l state), ap (λ x. one (is_at l x)) was);
       leases = lent_entry states slab l k (row_of table l).leases i lt was row.leases;
-      number = omega (arith, row.number, count_after states slab (Mapped l k 0) lt (λ state. has_lease_at l state), ap (λ x. one (has_lease_at l x)) was, ap one (is_lender_self l), length-insert (row_of table l).leases i (record { lease = k; slab = slab }) le);
+      number =
+          omega (
+            arith,
+            row.number,
+            count_after states slab (Mapped l k 0) lt (λ state. has_lease_at l state),
+            ap (λ x. one (has_lease_at l x)) was,
+            ap one (is_lender_self l),
+            length-insert (row_of table l).leases i (record { lease = k; slab = slab }) le,
+          );
       room = omega (arith, row.room, length-set states slab.0 (Mapped l k 0));
     })
     (omega (arith, ap (λ x. one (is_mapped x)) was)))
 
-pub lent_room : (states : List SlabState) (slab : Slab) (table : List LenderRow) (m : ℕ) (l : Lender) (k : Lease) → slab.0 < length states → Fits states table m → state_of states slab ≡ Borrowing l → l.0 < MOST_LENDERS
+pub lent_room :
+    (states : List SlabState) (slab : Slab) (table : List LenderRow) (m : ℕ) (l : Lender) (k : Lease) → slab.0 < length states → Fits states table m
+    → state_of states slab ≡ Borrowing l → l.0 < MOST_LENDERS
     → (length (row_of table l).leases < (row_of table l).room) × (m + 1 < 2 ^ 32)
 lent_room states slab table m l k lt h was within =
     let row : RowFits states l (row_of table l) = h.row l within in (
-      omega
-          (arith, row.number, row.room, count_after states slab (Mapped l k 0) lt (λ state. has_lease_at l state), ap (λ x. one (has_lease_at l x)) was, ap one (is_lender_self l), count_by-le-length (λ state. has_lease_at l state) (with_state states slab (Mapped l k 0)), length-set states slab.0 (Mapped l k 0)),
-      omega
-          (arith, h.mapped, h.few, count_after states slab (Mapped l k 0) lt is_mapped, ap (λ x. one (is_mapped x)) was, count_by-le-length is_mapped (with_state states slab (Mapped l k 0)), length-set states slab.0 (Mapped l k 0)),
+      omega (
+        arith,
+        row.number,
+        row.room,
+        count_after states slab (Mapped l k 0) lt (λ state. has_lease_at l state),
+        ap (λ x. one (has_lease_at l x)) was,
+        ap one (is_lender_self l),
+        count_by-le-length (λ state. has_lease_at l state) (with_state states slab (Mapped l k 0)),
+        length-set states slab.0 (Mapped l k 0),
+      ),
+      omega (
+        arith,
+        h.mapped,
+        h.few,
+        count_after states slab (Mapped l k 0) lt is_mapped,
+        ap (λ x. one (is_mapped x)) was,
+        count_by-le-length is_mapped (with_state states slab (Mapped l k 0)),
+        length-set states slab.0 (Mapped l k 0),
+      ),
     )
 
 -- a slab that has a lease gives it up
-module _ (states : List SlabState) (slab : Slab) (table : List LenderRow) (m m' : ℕ) (l : Lender) (k : Lease) (lt : slab.0 < length states) (h : Fits states table m) (was : leased_of (state_of states slab) ≡ Some (l, k)) (within : l.0 < MOST_LENDERS) where
+module _ (states : List SlabState) (slab : Slab) (table : List LenderRow) (m m' : ℕ) (l : Lender) (k : Lease) (lt : slab.0 < length states)
+    (h : Fits states table m) (was : leased_of (state_of states slab) ≡ Some (l, k)) (within : l.0 < MOST_LENDERS) where
   here_lease : has_lease l k (state_of states slab) ≡ true
   here_lease = ap (λ o. is_lease l k o) was ∙ and_from (l.0 == l.0) (k.0 == k.0) (eq-eqb l.0 l.0 refl) (eq-eqb k.0 k.0 refl)
 
   pub lease_found : IsSome (find (has_number k) (row_of table l).leases)
   lease_found = entry_of states l (row_of table l) k slab h.slabs (h.row l within) here_lease (find (has_number k) (row_of table l).leases) refl
 
-  given_leases : (e : Leased) → find (has_number k) (row_of table l).leases ≡ Some e → (j : Lease) (s : Slab) → count_by (λ x. is_entry j s x) (without k (row_of table l).leases) ≡ one (has_lease l j (state_of (set states slab.0 Local) s))
+  given_leases :
+      (e : Leased) → find (has_number k) (row_of table l).leases ≡ Some e → (j : Lease) (s : Slab)
+      → count_by (λ x. is_entry j s x) (without k (row_of table l).leases) ≡ one (has_lease l j (state_of (set states slab.0 Local) s))
   given_leases e found j s =
       let row : RowFits states l (row_of table l) = h.row l within in
       let which_ = entry_slab states l (row_of table l) k slab e h.slabs row here_lease found in
@@ -207,65 +293,93 @@ module _ (states : List SlabState) (slab : Slab) (table : List LenderRow) (m m' 
       ⊎_elim
       (λ (same : s.0 ≡ slab.0).
       let new_ : one (has_lease l j (state_of (set states slab.0 Local) s)) ≡ 0 = ap (λ x. one (has_lease l j x)) (state_here states slab Local lt s same) in
-      let old_ : one (has_lease l j (state_of states s)) ≡ one (k.0 == j.0) = ap (λ n. one (has_lease l j (get_or states n Local))) same ∙ ap (λ o. one (is_lease l j o)) was ∙ ap (λ b. one (b && (k.0 == j.0))) (eq-eqb l.0 l.0 refl) in
-      let it : one (is_entry j s e) ≡ one (k.0 == j.0) = ap (λ n. one ((n == j.0) && (e.slab.0 == s.0))) number ∙ ap (λ b. one ((k.0 == j.0) && b)) (eq-eqb e.slab.0 s.0 (which_.0 ∙ sym same)) ∙ ap one (and_true (k.0 == j.0)) in
+      let old_ : one (has_lease l j (state_of states s)) ≡ one (k.0 == j.0) =
+      ap (λ n. one (has_lease l j (get_or states n Local))) same ∙ ap (λ o. one (is_lease l j o)) was
+      ∙ ap (λ b. one (b && (k.0 == j.0))) (eq-eqb l.0 l.0 refl) in
+      let it : one (is_entry j s e) ≡ one (k.0 == j.0) =
+      ap (λ n. one ((n == j.0) && (e.slab.0 == s.0))) number ∙ ap (λ b. one ((k.0 == j.0) && b)) (eq-eqb e.slab.0 s.0 (which_.0 ∙ sym same))
+      ∙ ap one (and_true (k.0 == j.0)) in
       omega (arith, gone, row.leases j s, new_, old_, it))
       (λ (ne : s.0 ≢ slab.0).
-      let new_ : one (has_lease l j (state_of (set states slab.0 Local) s)) ≡ one (has_lease l j (state_of states s)) = ap (λ x. one (has_lease l j x)) (state_other states slab Local lt s ne) in
+      let new_ : one (has_lease l j (state_of (set states slab.0 Local) s)) ≡ one (has_lease l j (state_of states s)) =
+      ap (λ x. one (has_lease l j x)) (state_other states slab Local lt s ne) in
       let it : one (is_entry j s e) ≡ 0 = ap one (and_right (e.lease.0 == j.0) (e.slab.0 == s.0) (ne_eqb e.slab.0 s.0 (λ x. ne (sym x ∙ which_.0)))) in
       omega (arith, gone, row.leases j s, new_, it))
       (cases_eq s.0 slab.0)
 
-  given_row : (o : Option Leased) → find (has_number k) (row_of table l).leases ≡ o → IsSome o → RowFits (set states slab.0 Local) l (record (row_of table l) { held = (row_of table l).held - 1; leases = without k (row_of table l).leases })
+  given_row :
+      (o : Option Leased) → find (has_number k) (row_of table l).leases ≡ o → IsSome o
+      → RowFits (set states slab.0 Local) l (record (row_of table l) { held = (row_of table l).held - 1; leases = without k (row_of table l).leases })
   given_row None found some = absurd (false≢true some)
   given_row (Some e) found some =
       let row : RowFits states l (row_of table l) = h.row l within in
-      let at_l : one (is_at l (state_of states slab)) ≡ 1 = ap (λ o. one (is_lender l o)) (leased_lender (state_of states slab) l k was) ∙ ap one (is_lender_self l) in
+      let at_l : one (is_at l (state_of states slab)) ≡ 1 =
+      ap (λ o. one (is_lender l o)) (leased_lender (state_of states slab) l k was) ∙ ap one (is_lender_self l) in
       let leased_l : one (has_lease_at l (state_of states slab)) ≡ 1 = ap (λ o. one (is_leased_at l o)) was ∙ ap one (is_lender_self l) in
       record {
         held = omega (arith, row.held, count_after states slab Local lt (λ state. is_at l state), at_l);
         leases = given_leases e found;
-        number = omega (arith, row.number, count_after states slab Local lt (λ state. has_lease_at l state), leased_l, length-without k (row_of table l).leases e found);
+        number =
+            omega
+            (arith, row.number, count_after states slab Local lt (λ state. has_lease_at l state), leased_l, length-without k (row_of table l).leases e found);
         room = omega (arith, row.room, length-set states slab.0 Local);
       }
 
-  pub given_fits : (row' : LenderRow) → row' ≡ record (row_of table l) { held = (row_of table l).held - 1; leases = without k (row_of table l).leases } → m' + one (is_mapped (state_of states slab)) ≡ m → Fits (with_state states slab Local) (set table l.0 row') m'
+  pub given_fits :
+      (row' : LenderRow) → row' ≡ record (row_of table l) { held = (row_of table l).held - 1; leases = without k (row_of table l).leases }
+      → m' + one (is_mapped (state_of states slab)) ≡ m → Fits (with_state states slab Local) (set table l.0 row') m'
   given_fits row' made counted =
       let P : LenderRow → Type 0 = λ r. Fits (with_state states slab Local) (set table l.0 r) m' in
       subst P (sym made)
-      (fits_row states slab Local lt table m m' l (record (row_of table l) { held = (row_of table l).held - 1; leases = without k (row_of table l).leases }) h (slabs_none states slab Local lt h.slabs tt refl) within
-      (λ other ne. (lender_at (state_of states slab) other l (leased_lender (state_of states slab) l k was) ne, refl)) (given_row (find (has_number k) (row_of table l).leases) refl lease_found) (omega (arith, counted)))
+      (fits_row states slab Local lt table m m' l (record (row_of table l) { held = (row_of table l).held - 1; leases = without k (row_of table l).leases }) h
+      (slabs_none states slab Local lt h.slabs tt refl) within
+      (λ other ne. (lender_at (state_of states slab) other l (leased_lender (state_of states slab) l k was) ne, refl))
+      (given_row (find (has_number k) (row_of table l).leases) refl lease_found) (omega (arith, counted)))
 
 -- a slab that is leased is of a lender in range, with as many flying as may be
-pub leased_range : (state : SlabState) (l : Lender) (k : Lease) → StateFits state → leased_of state ≡ Some (l, k) → (l.0 < MOST_LENDERS) × (flying_of state ≤ MOST_FLYING)
+pub leased_range :
+    (state : SlabState) (l : Lender) (k : Lease) → StateFits state → leased_of state ≡ Some (l, k) → (l.0 < MOST_LENDERS) × (flying_of state ≤ MOST_FLYING)
 leased_range Local l k fits e = cc
 leased_range (Asking pair) l k fits e = cc
 leased_range (Borrowing lender) l k fits e = cc
-leased_range (Mapped lender lease flying) l k fits e = let same : lender.0 ≡ l.0 = ap (λ (x : Lender × Lease). x.0.0) (some_is (lender, lease) (l, k) e) in (omega (arith, same, fits.0), fits.1)
-leased_range (Draining lender lease flying) l k fits e = let same : lender.0 ≡ l.0 = ap (λ (x : Lender × Lease). x.0.0) (some_is (lender, lease) (l, k) e) in (omega (arith, same, fits.0), fits.2)
+leased_range (Mapped lender lease flying) l k fits e =
+    let same : lender.0 ≡ l.0 = ap (λ (x : Lender × Lease). x.0.0) (some_is (lender, lease) (l, k) e) in (omega (arith, same, fits.0), fits.1)
+leased_range (Draining lender lease flying) l k fits e =
+    let same : lender.0 ≡ l.0 = ap (λ (x : Lender × Lease). x.0.0) (some_is (lender, lease) (l, k) e) in (omega (arith, same, fits.0), fits.2)
 
-pub mapped_some : (states : List SlabState) (slab : Slab) (table : List LenderRow) (m : ℕ) → slab.0 < length states → Fits states table m → one (is_mapped (state_of states slab)) ≤ m
+pub mapped_some :
+    (states : List SlabState) (slab : Slab) (table : List LenderRow) (m : ℕ) → slab.0 < length states → Fits states table m
+    → one (is_mapped (state_of states slab)) ≤ m
 mapped_some states slab table m lt h = omega (arith, h.mapped, get_or-le-sum_by (λ (x : SlabState). one (is_mapped x)) states slab.0 Local lt)
 
-pub drain_fits : (states : List SlabState) (slab : Slab) (table : List LenderRow) (m m' : ℕ) (l : Lender) (k : Lease) (n : ℕ) → slab.0 < length states → Fits states table m → leased_of (state_of states slab) ≡ Some (l, k) → 1 ≤ n → n ≤ flying_of (state_of states slab)
+pub drain_fits :
+    (states : List SlabState) (slab : Slab) (table : List LenderRow) (m m' : ℕ) (l : Lender) (k : Lease) (n : ℕ) → slab.0 < length states → Fits states table m
+    → leased_of (state_of states slab) ≡ Some (l, k) → 1 ≤ n → n ≤ flying_of (state_of states slab)
     → m' + one (is_mapped (state_of states slab)) ≡ m → Fits (with_state states slab (Draining l k n)) table m'
 drain_fits states slab table m m' l k n lt h was some le counted =
     let range = leased_range (state_of states slab) l k (h.slabs.fits slab) was in
-    fits_kept states slab (Draining l k n) table m m' lt h (range.0, some, omega (arith, le, range.1)) (sym (leased_lender (state_of states slab) l k was)) (sym was) (omega (arith, counted))
+    fits_kept states slab (Draining l k n) table m m' lt h (range.0, some, omega (arith, le, range.1)) (sym (leased_lender (state_of states slab) l k was))
+    (sym was) (omega (arith, counted))
 
 -- the pair of a slab that asks
-pub asked_fits : (states : List SlabState) (slab : Slab) (table : List LenderRow) (m : ℕ) (st : SlabState) → slab.0 < length states → Fits states table m → StateFits st → lender_of (state_of states slab) ≡ None → leased_of (state_of states slab) ≡ None → is_mapped (state_of states slab) ≡ false
+pub asked_fits :
+    (states : List SlabState) (slab : Slab) (table : List LenderRow) (m : ℕ) (st : SlabState) → slab.0 < length states → Fits states table m → StateFits st
+    → lender_of (state_of states slab) ≡ None → leased_of (state_of states slab) ≡ None → is_mapped (state_of states slab) ≡ false
     → lender_of st ≡ None → leased_of st ≡ None → is_mapped st ≡ false → Fits (with_state states slab st) table m
 asked_fits states slab table m st lt h fits at leased unmapped at' leased' unmapped' =
     fits_kept states slab st table m m lt h fits (at' ∙ sym at) (leased' ∙ sym leased) (omega (arith, ap one unmapped, ap one unmapped'))
 
-pub replied_fits : (pair : Pair) (l : Lender) (reply : Reply) → (pair.first.0 < MOST_LENDERS) × IsSecond pair.first pair.second × (waits pair ≡ true) → waits (replied pair l reply) ≡ true → StateFits (Asking (replied pair l reply))
+pub replied_fits :
+    (pair : Pair) (l : Lender) (reply : Reply) → (pair.first.0 < MOST_LENDERS) × IsSecond pair.first pair.second × (waits pair ≡ true)
+    → waits (replied pair l reply) ≡ true → StateFits (Asking (replied pair l reply))
 replied_fits pair l reply fits waiting =
     ⊎_elim
     (λ (t : (pair.first.0 == l.0) ≡ true).
-    let same : replied pair l reply ≡ record pair { one = reply } = cond-true (pair.first.0 == l.0) (record pair { one = reply }) (record pair { two = reply }) t in
+    let same : replied pair l reply ≡ record pair { one = reply } =
+    cond-true (pair.first.0 == l.0) (record pair { one = reply }) (record pair { two = reply }) t in
     subst (λ p. StateFits (Asking p)) (sym same) (fits.0, fits.1, ap waits (sym same) ∙ waiting))
     (λ (t : (pair.first.0 == l.0) ≡ false).
-    let same : replied pair l reply ≡ record pair { two = reply } = cond-false (pair.first.0 == l.0) (record pair { one = reply }) (record pair { two = reply }) t in
+    let same : replied pair l reply ≡ record pair { two = reply } =
+    cond-false (pair.first.0 == l.0) (record pair { one = reply }) (record pair { two = reply }) t in
     subst (λ p. StateFits (Asking p)) (sym same) (fits.0, fits.1, ap waits (sym same) ∙ waiting))
     (cases_Bool (pair.first.0 == l.0))

@@ -14,7 +14,8 @@ abbrev pub IsSecond : Lender → Option Lender → Type 0
 IsSecond first None = Unit {0}
 IsSecond first (Some second) = (second.0 ≢ first.0) × (second.0 < MOST_LENDERS)
 
--- a state by itself: lenders are in range, an asking slab waits for a reply, at most so many requests fly, and at least one for a slab that drains
+-- a state by itself: lenders are in range, an asking slab waits for a reply, at most so many requests fly, and at least
+-- one for a slab that drains
 abbrev pub StateFits : SlabState → Type 0
 StateFits Local = Unit {0}
 StateFits (Asking pair) = (pair.first.0 < MOST_LENDERS) × IsSecond pair.first pair.second × (waits pair ≡ true)
@@ -39,7 +40,9 @@ IsNew states (Draining lender other flying) lease = Unit {0}
 abbrev pub SetsState : Type 0
 SetsState =
     (states : List SlabState) (slab : Slab) (state : SlabState) → slab.0 < length states
-    → (state_of (with_state states slab state) slab ≡ state) × ((other : Slab) → other.0 ≢ slab.0 → state_of (with_state states slab state) other ≡ state_of states other) × (length (with_state states slab state) ≡ length states)
+    → (state_of (with_state states slab state) slab ≡ state)
+    × ((other : Slab) → other.0 ≢ slab.0 → state_of (with_state states slab state) other ≡ state_of states other)
+    × (length (with_state states slab state) ≡ length states)
 
 -- what each move keeps
 abbrev pub AllLocalKeeps : Type 0
@@ -47,28 +50,41 @@ AllLocalKeeps = (slabs : ℕ) → IsSlabs (all_local slabs)
 
 abbrev pub AskKeeps : Type 0
 AskKeeps =
-    (states : List SlabState) (slab : Slab) (first : Lender) (second : Option Lender) → IsSlabs states → slab.0 < length states → first.0 < MOST_LENDERS → IsSecond first second → IsSlabs (asked states slab first second)
+    (states : List SlabState) (slab : Slab) (first : Lender) (second : Option Lender) → IsSlabs states
+    → slab.0 < length states → first.0 < MOST_LENDERS → IsSecond first second → IsSlabs (asked states slab first second)
 
 abbrev pub AnswerKeeps : Type 0
-AnswerKeeps = (states : List SlabState) (slab : Slab) (lender : Lender) (reply : Reply) → IsSlabs states → slab.0 < length states → asks lender (state_of states slab) ≡ true → IsSlabs (answered states slab lender reply)
+AnswerKeeps =
+    (states : List SlabState) (slab : Slab) (lender : Lender) (reply : Reply) → IsSlabs states → slab.0 < length states
+    → asks lender (state_of states slab) ≡ true → IsSlabs (answered states slab lender reply)
 
 abbrev pub BorrowKeeps : Type 0
-BorrowKeeps = (states : List SlabState) (slab : Slab) (lender : Lender) → IsSlabs states → slab.0 < length states → lender.0 < MOST_LENDERS → IsSlabs (borrowed states slab lender)
+BorrowKeeps =
+    (states : List SlabState) (slab : Slab) (lender : Lender) → IsSlabs states → slab.0 < length states
+    → lender.0 < MOST_LENDERS → IsSlabs (borrowed states slab lender)
 
 abbrev pub LentKeeps : Type 0
-LentKeeps = (states : List SlabState) (slab : Slab) (lease : Lease) → IsSlabs states → slab.0 < length states → is_borrowing (state_of states slab) ≡ true → IsNew states (state_of states slab) lease → IsSlabs (lent states slab lease)
+LentKeeps =
+    (states : List SlabState) (slab : Slab) (lease : Lease) → IsSlabs states → slab.0 < length states
+    → is_borrowing (state_of states slab) ≡ true → IsNew states (state_of states slab) lease
+    → IsSlabs (lent states slab lease)
 
 abbrev pub RefusedKeeps : Type 0
-RefusedKeeps = (states : List SlabState) (slab : Slab) → IsSlabs states → slab.0 < length states → IsSlabs (refused states slab)
+RefusedKeeps =
+    (states : List SlabState) (slab : Slab) → IsSlabs states → slab.0 < length states → IsSlabs (refused states slab)
 
 abbrev pub BeginKeeps : Type 0
-BeginKeeps = (states : List SlabState) (slab : Slab) → IsSlabs states → slab.0 < length states → flying_of (state_of states slab) < MOST_FLYING → IsSlabs (begun states slab)
+BeginKeeps =
+    (states : List SlabState) (slab : Slab) → IsSlabs states → slab.0 < length states
+    → flying_of (state_of states slab) < MOST_FLYING → IsSlabs (begun states slab)
 
 abbrev pub SettledKeeps : Type 0
-SettledKeeps = (states : List SlabState) (slab : Slab) → IsSlabs states → slab.0 < length states → IsSlabs (settled states slab)
+SettledKeeps =
+    (states : List SlabState) (slab : Slab) → IsSlabs states → slab.0 < length states → IsSlabs (settled states slab)
 
 abbrev pub EvictKeeps : Type 0
-EvictKeeps = (states : List SlabState) (slab : Slab) → IsSlabs states → slab.0 < length states → IsSlabs (evicted states slab)
+EvictKeeps =
+    (states : List SlabState) (slab : Slab) → IsSlabs states → slab.0 < length states → IsSlabs (evicted states slab)
 
 abbrev pub LostKeeps : Type 0
 LostKeeps = (states : List SlabState) (lender : Lender) → IsSlabs states → IsSlabs (lost states lender)

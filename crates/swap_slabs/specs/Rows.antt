@@ -42,7 +42,8 @@ IsPlace lease leases i = IsPartitionPoint (λ l. is_below lease l ≡ true) (λ 
 
 -- one lease more stands somewhere among the others
 abbrev pub Puts : LenderRow → Leased → LenderRow → Type 0
-Puts before leased after = (i : ℕ) × (i ≤ length before.leases) × (after ≡ record before { leases = insert before.leases i leased })
+Puts before leased after =
+    (i : ℕ) × (i ≤ length before.leases) × (after ≡ record before { leases = insert before.leases i leased })
 
 -- the leases without the first of this number
 abbrev pub without : Lease → List Leased → List Leased
@@ -61,7 +62,9 @@ one b = if b then 1 else 0
 -- a lender's row agrees with the states
 pub record RowFits (states : List SlabState) (lender : Lender) (row : LenderRow) : Type 0 where
   pub held : row.held ≡ count_by (λ state. is_at lender state) states
-  pub leases : (lease : Lease) (slab : Slab) → count_by (λ l. is_entry lease slab l) row.leases ≡ one (has_lease lender lease (state_of states slab))
+  pub leases :
+      (lease : Lease) (slab : Slab)
+      → count_by (λ l. is_entry lease slab l) row.leases ≡ one (has_lease lender lease (state_of states slab))
   pub number : length row.leases ≡ count_by (λ state. has_lease_at lender state) states
   pub room : length states ≤ row.room
 

@@ -113,7 +113,8 @@ waits pair = is_waiting pair.one || is_waiting pair.two
 
 -- a reply of this lender is waited for
 abbrev pub waits_for : Pair → Lender → Bool
-waits_for pair lender = ((pair.first.0 == lender.0) && is_waiting pair.one) || (is_lender lender pair.second && is_waiting pair.two)
+waits_for pair lender =
+    ((pair.first.0 == lender.0) && is_waiting pair.one) || (is_lender lender pair.second && is_waiting pair.two)
 
 abbrev pub asks : Lender → SlabState → Bool
 asks lender Local = false
@@ -124,7 +125,8 @@ asks lender (Draining other lease flying) = false
 
 -- the pair with this lender's reply
 abbrev pub replied : Pair → Lender → Reply → Pair
-replied pair lender reply = if pair.first.0 == lender.0 then record pair { one = reply } else record pair { two = reply }
+replied pair lender reply =
+    if pair.first.0 == lender.0 then record pair { one = reply } else record pair { two = reply }
 
 -- how many slots a lender told to be free
 abbrev pub free_in : Reply → ℕ
@@ -250,7 +252,8 @@ holds states lender = list_any (λ state. is_at lender state) states
 
 -- the slab that has this lease of the lender
 abbrev pub by_lease : List SlabState → Lender → Lease → Option Slab
-by_lease states lender lease = option_map (λ (n : ℕ). record { 0 = n }) (position (λ state. has_lease lender lease state) states)
+by_lease states lender lease =
+    option_map (λ (n : ℕ). record { 0 = n }) (position (λ state. has_lease lender lease state) states)
 
 -- how many slabs are mapped
 abbrev pub mapped : List SlabState → ℕ

@@ -59,7 +59,8 @@ pub enum Chosen {
     Nobody,
 }
 
-/// Each move of a table of slabs keeps what a table is, and changes one slab alone, but for a lender that is lost.
+/// Each move of a table of slabs keeps what a table is, and changes one slab alone, but for a
+/// lender that is lost.
 pub fn moves_keep()
     ensures sets { SetsState }
     ensures all_local { AllLocalKeeps }

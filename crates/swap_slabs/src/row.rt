@@ -12,9 +12,9 @@ pub(crate) struct Leased {
     pub(crate) slab: Slab,
 }
 
-/// What one lender has of the slabs: how many are borrowed from it, mapped to it or drain at it, and the
-/// leases of those that are mapped or drain, ascending, so that one is found by halving. It has room for a lease
-/// of every slab.
+/// What one lender has of the slabs: how many are borrowed from it, mapped to it or drain at it,
+/// and the leases of those that are mapped or drain, ascending, so that one is found by halving. It
+/// has room for a lease of every slab.
 #[derive(Drop)]
 pub(crate) struct Row {
     held: u32,
@@ -80,7 +80,9 @@ impl Row {
     pub(crate) fn give_up(&mut self, lease: Lease)
         requires held { 0 < self.old.held }
         requires lease { IsSome (find (has_number lease) self.old.leases) }
-        ensures { self.new ≡ record self.old { held = self.old.held - 1; leases = without lease self.old.leases } }
+        ensures { self.new
+            ≡ record self.old
+            { held = self.old.held - 1; leases = without lease self.old.leases } }
     {
         let place = place_of(&self.leases, lease).unwrap();
         self.leases.remove(place);

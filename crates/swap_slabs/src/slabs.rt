@@ -203,8 +203,8 @@ impl Slabs {
         });
     }
 
-    /// A lender that was asked has replied, or is gone. Once no reply is waited for the slab is local, and the
-    /// answer is the choice.
+    /// A lender that was asked has replied, or is gone. Once no reply is waited for the slab is
+    /// local, and the answer is the choice.
     pub fn answer(&mut self, slab: Slab, lender: Lender, reply: Reply) -> Option<Chosen>
         requires slab { slab.0 < length self.old }
         requires state { IsTrue (asks lender (state_of self.old slab)) }
@@ -322,7 +322,8 @@ impl Slabs {
         }
     }
 
-    /// A mapped slab is taken back: it is local and gives its lease where no request flies, else it drains.
+    /// A mapped slab is taken back: it is local and gives its lease where no request flies, else it
+    /// drains.
     pub fn evict(&mut self, slab: Slab) -> Option<Lease>
         requires slab { slab.0 < length self.old }
         requires state { IsTrue (is_mapped (state_of self.old slab)) }

@@ -11,9 +11,9 @@ pub use draws::{Draw, DrillDraws};
 use swap_script::traces_are_checked;
 pub use trace::{CallerWalk, Trace, read_trace};
 
-/// What holds of every trace: its events name what its sizes and lenders have, its page-outs hand in
-/// whole pages, its lenders may lend, and it holds calls and an operator's events alone, over TCP none
-/// that moves a far side.
+/// What holds of every trace: its events name what its sizes and lenders have, its page-outs hand
+/// in whole pages, its lenders may lend, and it holds calls and an operator's events alone, over
+/// TCP none that moves a far side.
 pub fn traces_are_whole()
     ensures range { AreInRange }
     ensures pages { HandInPages }

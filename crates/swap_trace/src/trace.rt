@@ -64,8 +64,8 @@ impl<'t> Model for CallerWalk<'t> {
 }
 
 impl<'t> CallerWalk<'t> {
-    /// The caller's next call; None exactly at the end. The page of a page-out is filled into `page`,
-    /// which has the trace's `page_bytes`; a page-in leaves it.
+    /// The caller's next call; None exactly at the end. The page of a page-out is filled into
+    /// `page`, which has the trace's `page_bytes`; a page-in leaves it.
     pub fn next(&mut self, page: &mut [u8]) -> Option<Event>
         requires { length page.old ≡ self.old.sizes.page_bytes }
         ensures event { result ≡ first_event self.old.inputs }
@@ -77,9 +77,10 @@ impl<'t> CallerWalk<'t> {
     }
 }
 
-/// Reads a text of at most `TEXT_LIMIT` bytes as a trace: a geometry line, lender lines, then lines of
-/// calls, which begin with their caller, and of an operator's events. Where `tcp` is the number of
-/// addresses by which lenders are reached, there are as many lenders, and no line moves their far side.
+/// Reads a text of at most `TEXT_LIMIT` bytes as a trace: a geometry line, lender lines, then lines
+/// of calls, which begin with their caller, and of an operator's events. Where `tcp` is the number
+/// of addresses by which lenders are reached, there are as many lenders, and no line moves their
+/// far side.
 /// Else the first line at fault is named, with the first fault of that line.
 ///
 /// The text is checked whole, and no memory is taken: walks read it again.

@@ -21,13 +21,18 @@ use Rattle.swap_transcript.specs.Printed.{shown_words, HasOpWords, MayBeSent, Ha
 use Rattle.swap_transcript.proofs.Front.{bind_some, bound, small-only, small-back, small_at-only, small_at-back, wide_at-back}
 use Rattle.swap_transcript.proofs.EntryWords.{bytes_at-back, named_at-back, origin-back, did-only}
 
-out-back : (size page : ℕ) (bytes : List ℕ) (rest : Words) → page < 2 ^ 32 → HasOpWords size bytes op.PageOut → out_at size (decimal page ∷ shortest bytes ∷ rest) ≡ Some (did page op.PageOut bytes, rest)
+out-back :
+    (size page : ℕ) (bytes : List ℕ) (rest : Words) → page < 2 ^ 32 → HasOpWords size bytes op.PageOut
+    → out_at size (decimal page ∷ shortest bytes ∷ rest) ≡ Some (did page op.PageOut bytes, rest)
 out-back size page bytes rest l h =
-    bound (small_at (decimal page ∷ shortest bytes ∷ rest)) (λ p. option_and_then (λ b. Some (did p.0 op.PageOut b.0, b.1)) (bytes_at size p.1)) (page, shortest bytes ∷ rest) (small_at-back page (shortest bytes ∷ rest) l)
+    bound (small_at (decimal page ∷ shortest bytes ∷ rest)) (λ p. option_and_then (λ b. Some (did p.0 op.PageOut b.0, b.1)) (bytes_at size p.1))
+    (page, shortest bytes ∷ rest) (small_at-back page (shortest bytes ∷ rest) l)
     ∙ bound (bytes_at size (shortest bytes ∷ rest)) (λ b. Some (did page op.PageOut b.0, b.1)) (bytes, rest) (bytes_at-back size bytes rest h)
 
-in-back : (size page : ℕ) (bytes : List ℕ) (named : Option EntryNo) (from : Origin) (rest : Words) → page < 2 ^ 32 → HasOpWords size bytes (op.PageIn named from)
-    → in_at size (decimal page ∷ codes "of" ∷ text.named_word named ∷ (origin_words from ++ shortest bytes ∷ rest)) ≡ Some (did page (op.PageIn named from) bytes, rest)
+in-back :
+    (size page : ℕ) (bytes : List ℕ) (named : Option EntryNo) (from : Origin) (rest : Words) → page < 2 ^ 32 → HasOpWords size bytes (op.PageIn named from)
+    → in_at size (decimal page ∷ codes "of" ∷ text.named_word named ∷ (origin_words from ++ shortest bytes ∷ rest))
+    ≡ Some (did page (op.PageIn named from) bytes, rest)
 in-back size page bytes named from rest l h =
     let last = shortest bytes ∷ rest in
     let third = origin_words from ++ last in
@@ -42,7 +47,8 @@ fault_out-back : (size page since at : ℕ) (bytes : List ℕ) (rest : Words) �
     → fault_out_at size (decimal page ∷ decimal since ∷ decimal at ∷ shortest bytes ∷ rest) ≡ Some (did page (op.Failed kind.PageOut since at) bytes, rest)
 fault_out-back size page since at bytes rest l h =
     let last = shortest bytes ∷ rest in
-    bound (small_at (decimal page ∷ decimal since ∷ decimal at ∷ last)) _ (page, decimal since ∷ decimal at ∷ last) (small_at-back page (decimal since ∷ decimal at ∷ last) l)
+    bound (small_at (decimal page ∷ decimal since ∷ decimal at ∷ last)) _ (page, decimal since ∷ decimal at ∷ last)
+    (small_at-back page (decimal since ∷ decimal at ∷ last) l)
     ∙ bound (wide_at (decimal since ∷ decimal at ∷ last)) _ (since, decimal at ∷ last) (wide_at-back since (decimal at ∷ last) h.0)
     ∙ bound (wide_at (decimal at ∷ last)) _ (at, last) (wide_at-back at last h.1)
     ∙ bound (bytes_at size last) (λ b. Some (did page (op.Failed kind.PageOut since at) b.0, b.1)) (bytes, rest) (bytes_at-back size bytes rest h.2)
@@ -50,15 +56,19 @@ fault_out-back size page since at bytes rest l h =
 fault_in-back : (size page since at : ℕ) (bytes : List ℕ) (rest : Words) → page < 2 ^ 32 → HasOpWords size bytes (op.Failed kind.PageIn since at)
     → fault_in_at size (decimal page ∷ decimal since ∷ decimal at ∷ rest) ≡ Some (did page (op.Failed kind.PageIn since at) bytes, rest)
 fault_in-back size page since at bytes rest l h =
-    bound (small_at (decimal page ∷ decimal since ∷ decimal at ∷ rest)) _ (page, decimal since ∷ decimal at ∷ rest) (small_at-back page (decimal since ∷ decimal at ∷ rest) l)
+    bound (small_at (decimal page ∷ decimal since ∷ decimal at ∷ rest)) _ (page, decimal since ∷ decimal at ∷ rest)
+    (small_at-back page (decimal since ∷ decimal at ∷ rest) l)
     ∙ bound (wide_at (decimal since ∷ decimal at ∷ rest)) _ (since, decimal at ∷ rest) (wide_at-back since (decimal at ∷ rest) h.0)
     ∙ bound (wide_at (decimal at ∷ rest)) (λ a. Some (did page (op.Failed kind.PageIn since a.0) (replicate size 0), a.1)) (at, rest) (wide_at-back at rest h.1)
     ∙ ap (λ b. Some (did page (op.Failed kind.PageIn since at) b, rest)) (sym h.2)
 
-did-back : (size page : ℕ) (bytes : List ℕ) (o : Op) (rest : Words) → page < 2 ^ 32 → HasOpWords size bytes o → by_rows (did_rows size) (op_words page bytes o ++ rest) ≡ Some (did page o bytes, rest)
+did-back :
+    (size page : ℕ) (bytes : List ℕ) (o : Op) (rest : Words) → page < 2 ^ 32 → HasOpWords size bytes o
+    → by_rows (did_rows size) (op_words page bytes o ++ rest) ≡ Some (did page o bytes, rest)
 did-back size page bytes op.PageOut rest l h = out-back size page bytes rest l h
 did-back size page bytes (op.PageIn named from) rest l h =
-    ap (λ w. in_at size (decimal page ∷ codes "of" ∷ text.named_word named ∷ w)) (append_assoc (origin_words from) (shortest bytes ∷ []) rest) ∙ in-back size page bytes named from rest l h
+    ap (λ w. in_at size (decimal page ∷ codes "of" ∷ text.named_word named ∷ w)) (append_assoc (origin_words from) (shortest bytes ∷ []) rest)
+    ∙ in-back size page bytes named from rest l h
 did-back size page bytes (op.Failed kind.PageOut since at) rest l h = fault_out-back size page since at bytes rest l h
 did-back size page bytes (op.Failed kind.PageIn since at) rest l h = fault_in-back size page since at bytes rest l h
 
@@ -103,11 +113,14 @@ sent-back op.PageOut sent h = sent_by-back sent h
 sent-back (op.PageIn named from) sent h = ap (λ o. not_sent (sent_words o)) h ∙ ap (λ o. Some o) (sym h)
 sent-back (op.Failed kind since at) sent h = ap (λ o. not_sent (sent_words o)) h ∙ ap (λ o. Some o) (sym h)
 
-pub entry_of-only : (size : ℕ) (words : Words) (shown : Shown) → entry_of size words ≡ Some shown → HasShownWords size shown × (codes "entry" ∷ words ≡ shown_words shown)
+pub entry_of-only :
+    (size : ℕ) (words : Words) (shown : Shown) → entry_of size words ≡ Some shown → HasShownWords size shown × (codes "entry" ∷ words ≡ shown_words shown)
 entry_of-only size words shown e =
     let n = bind_some (small_at words) _ shown e in
     let d = bind_some (by_rows (did_rows size) n.0.1) _ shown n.2 in
-    let sent = bind_some (sent_of d.0.0.op d.0.1) (λ s. Some (record { no = record { 0 = n.0.0 }; page = d.0.0.page; op = d.0.0.op; bytes = d.0.0.bytes; sent = s })) shown d.2 in
+    let sent =
+    bind_some (sent_of d.0.0.op d.0.1)
+    (λ s. Some (record { no = record { 0 = n.0.0 }; page = d.0.0.page; op = d.0.0.op; bytes = d.0.0.bytes; sent = s })) shown d.2 in
     let first = small_at-only words n.0 n.1 in
     let second = did-only size n.0.1 d.0 d.1 in
     let third = sent-only d.0.0.op d.0.1 sent.0 sent.1 in
@@ -124,4 +137,5 @@ entry_of-back size shown h =
     let words = op_words shown.page.0 shown.bytes shown.op ++ last in
     bound (small_at (decimal shown.no.0 ∷ words)) _ (shown.no.0, words) (small_at-back shown.no.0 words h.no)
     ∙ bound (by_rows (did_rows size) words) _ (did shown.page.0 shown.op shown.bytes, last) (did-back size shown.page.0 shown.bytes shown.op last h.page h.op)
-    ∙ bound (sent_of shown.op last) (λ s. Some (record { no = shown.no; page = shown.page; op = shown.op; bytes = shown.bytes; sent = s })) shown.sent (sent-back shown.op shown.sent h.sent)
+    ∙ bound (sent_of shown.op last) (λ s. Some (record { no = shown.no; page = shown.page; op = shown.op; bytes = shown.bytes; sent = s })) shown.sent
+    (sent-back shown.op shown.sent h.sent)

@@ -54,7 +54,8 @@ page_word-only size word page e =
 
 page_word-back : (size : ℕ) (page : List ℕ) → HasPageWord size page → page_word size (shortest page) ≡ Some page
 page_word-back size page h =
-    bound (pattern size (shortest page)) (λ p. cond (is_word (shortest p) (shortest page)) (Some p) None) page h ∙ cond_true (is_word (shortest page) (shortest page)) (Some page) None (is_same_word (shortest page))
+    bound (pattern size (shortest page)) (λ p. cond (is_word (shortest p) (shortest page)) (Some p) None) page h
+    ∙ cond_true (is_word (shortest page) (shortest page)) (Some page) None (is_same_word (shortest page))
 
 bytes_at-only : (size : ℕ) (words : Words) (x : List ℕ × Words) → bytes_at size words ≡ Some x → HasPageWord size x.0 × (words ≡ shortest x.0 ∷ x.1)
 bytes_at-only size [] x e = cc
@@ -68,7 +69,9 @@ pub bytes_at-back : (size : ℕ) (page : List ℕ) (rest : Words) → HasPageWor
 bytes_at-back size page rest h = bound (page_word size (shortest page)) (λ b. Some (b, rest)) page (page_word-back size page h)
 
 -- the entry that is named
-named_word-if : (word : List ℕ) (named : Option EntryNo) (b : Bool) → is_word (codes "none") word ≡ b → cond b (Some None) (option_and_then (λ n. Some (Some (record { 0 = n }))) (small word)) ≡ Some named → HasNamedWord named × (word ≡ text.named_word named)
+named_word-if :
+    (word : List ℕ) (named : Option EntryNo) (b : Bool) → is_word (codes "none") word ≡ b
+    → cond b (Some None) (option_and_then (λ n. Some (Some (record { 0 = n }))) (small word)) ≡ Some named → HasNamedWord named × (word ≡ text.named_word named)
 named_word-if word named true is e =
     let same : None ≡ named = cc in
     subst (λ n. HasNamedWord n × (word ≡ text.named_word n)) same (tt, sym ((bytes_eq-Decides (codes "none") word).0 is))
@@ -89,7 +92,9 @@ named_at-only (word ∷ words) x e =
 named_word-back : (named : Option EntryNo) → HasNamedWord named → named_word (text.named_word named) ≡ Some named
 named_word-back None h = refl
 named_word-back (Some e) h =
-    ap (λ b. cond b (Some None) (option_and_then (λ n. Some (Some (record { 0 = n }))) (small (decimal e.0)))) (is_not_decimal (codes "none") e.0 refl (omega arith)) ∙ bound (small (decimal e.0)) (λ n. Some (Some (record { 0 = n }))) e.0 (small-back e.0 h)
+    ap (λ b. cond b (Some None) (option_and_then (λ n. Some (Some (record { 0 = n }))) (small (decimal e.0))))
+    (is_not_decimal (codes "none") e.0 refl (omega arith))
+    ∙ bound (small (decimal e.0)) (λ n. Some (Some (record { 0 = n }))) e.0 (small-back e.0 h)
 
 pub named_at-back : (named : Option EntryNo) (rest : Words) → HasNamedWord named → named_at (text.named_word named ∷ rest) ≡ Some (named, rest)
 named_at-back named rest h = bound (named_word (text.named_word named)) (λ n. Some (n, rest)) named (named_word-back named h)
@@ -97,7 +102,14 @@ named_at-back named rest h = bound (named_word (text.named_word named)) (λ n. S
 -- where a page came from
 origin-only : (words : Words) (x : Origin × Words) → by_rows origin_rows words ≡ Some x → Prints origin_words HasOriginWords words x
 origin-only words x e =
-    by_rows-only (Prints origin_words HasOriginWords) origin_rows (from-row origin_words HasOriginWords _ _ refl tt, (from-row origin_words HasOriginWords _ _ refl tt, (from-row origin_words HasOriginWords _ _ refl tt, (one-row origin_words HasOriginWords _ _ (λ n. refl) (λ n l. l), tt)))) words x e
+    by_rows-only (Prints origin_words HasOriginWords) origin_rows (
+      from-row origin_words HasOriginWords _ _ refl tt,
+      (
+        from-row origin_words HasOriginWords _ _ refl tt,
+        (from-row origin_words HasOriginWords _ _ refl tt, (one-row origin_words HasOriginWords _ _ (λ n. refl) (λ n l. l), tt)),
+      ),
+    )
+    words x e
 
 pub origin-back : (o : Origin) (rest : Words) → HasOriginWords o → by_rows origin_rows (origin_words o ++ rest) ≡ Some (o, rest)
 origin-back origin.Zero rest h = refl
@@ -135,9 +147,11 @@ in-row size words x e =
     let page = bytes_at-only size from.0.1 b.0 b.1 in
     let same : (did p.0.0 (op.PageIn named.0.0 from.0.0) b.0.0, b.0.1) ≡ x = cc in
     let tail : from.0.1 ≡ (shortest b.0.0 ∷ []) ++ b.0.1 = page.1 in
-    let spelled : words ≡ decimal p.0.0 ∷ codes "of" ∷ text.named_word named.0.0 ∷ ((origin_words from.0.0 ++ shortest b.0.0 ∷ []) ++ b.0.1) = first.spelled ∙ ap (λ r. decimal p.0.0 ∷ r) (word_at-only (codes "of") p.0.1 of.0 of.1)
+    let spelled : words ≡ decimal p.0.0 ∷ codes "of" ∷ text.named_word named.0.0 ∷ ((origin_words from.0.0 ++ shortest b.0.0 ∷ []) ++ b.0.1) =
+    first.spelled ∙ ap (λ r. decimal p.0.0 ∷ r) (word_at-only (codes "of") p.0.1 of.0 of.1)
     ∙ ap (λ r. decimal p.0.0 ∷ codes "of" ∷ r) name.1
-    ∙ ap (λ r. decimal p.0.0 ∷ codes "of" ∷ text.named_word named.0.0 ∷ r) (origin.1 ∙ ap (λ r. origin_words from.0.0 ++ r) tail ∙ sym (append_assoc (origin_words from.0.0) (shortest b.0.0 ∷ []) b.0.1)) in
+    ∙ ap (λ r. decimal p.0.0 ∷ codes "of" ∷ text.named_word named.0.0 ∷ r)
+    (origin.1 ∙ ap (λ r. origin_words from.0.0 ++ r) tail ∙ sym (append_assoc (origin_words from.0.0) (shortest b.0.0 ∷ []) b.0.1)) in
     subst (DidPrints size (codes "in" ∷ words)) same ((first.within, (name.0, origin.0, page.0)), ap (λ r. codes "in" ∷ r) spelled)
 
 -- the words behind `fault`
@@ -157,7 +171,9 @@ fault_out-row size words x e =
     let same : (did p.0.0 (op.Failed kind.PageOut since.0.0 at.0.0) b.0.0, b.0.1) ≡ x = cc in
     subst (FaultPrints size (codes "out" ∷ words)) same (
       (first.within, (second.within, third.within, page.0)),
-      ap (λ r. codes "fault" ∷ codes "out" ∷ r) (first.spelled ∙ ap (λ r. decimal p.0.0 ∷ r) (second.spelled ∙ ap (λ r. decimal since.0.0 ∷ r) (third.spelled ∙ ap (λ r. decimal at.0.0 ∷ r) page.1))),
+      ap (λ r. codes "fault" ∷ codes "out" ∷ r)
+          (first.spelled
+          ∙ ap (λ r. decimal p.0.0 ∷ r) (second.spelled ∙ ap (λ r. decimal since.0.0 ∷ r) (third.spelled ∙ ap (λ r. decimal at.0.0 ∷ r) page.1))),
     )
 
 fault_in-row : (size : ℕ) → RowSays (FaultPrints size) (row (codes "in") (fault_in_at size))
@@ -177,4 +193,5 @@ fault_in-row size words x e =
 pub did-only : (size : ℕ) (words : Words) (x : Did × Words) → by_rows (did_rows size) words ≡ Some x → DidPrints size words x
 did-only size words x e =
     by_rows-only (DidPrints size) (did_rows size)
-    (out-row size, (in-row size, ((λ ws y f. by_rows-only (FaultPrints size) (fault_rows size) (fault_out-row size, (fault_in-row size, tt)) ws y f), tt))) words x e
+    (out-row size, (in-row size, ((λ ws y f. by_rows-only (FaultPrints size) (fault_rows size) (fault_out-row size, (fault_in-row size, tt)) ws y f), tt)))
+    words x e

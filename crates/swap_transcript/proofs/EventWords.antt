@@ -16,7 +16,10 @@ use Rattle.swap_transcript.specs.Events.{ok_at, which_rows, disk_at, host_at, st
 use Rattle.swap_transcript.specs.Printed.{HasWhichWords, HasEventWords}
 use Rattle.swap_transcript.proofs.Front.{bind_some, bound, small_at-only, wide_at-only, small_at-back, wide_at-back, RowSays, Prints, one-row, one_wide-row, two-row, by_rows-only, one-back, one_wide-back, two-back, two-only}
 
-three-row : {A : Type 0} (prints : A → Words) (P : A → Type 0) (name : List ℕ) (f : ℕ → ℕ → ℕ → A) → ((a b c : ℕ) → prints (f a b c) ≡ name ∷ decimal a ∷ decimal b ∷ decimal c ∷ []) → ((a b c : ℕ) → a < 2 ^ 32 → b < 2 ^ 32 → c < 2 ^ 32 → P (f a b c)) → RowSays (Prints prints P) (row name (three_of f))
+three-row :
+    {A : Type 0} (prints : A → Words) (P : A → Type 0) (name : List ℕ) (f : ℕ → ℕ → ℕ → A)
+    → ((a b c : ℕ) → prints (f a b c) ≡ name ∷ decimal a ∷ decimal b ∷ decimal c ∷ []) → ((a b c : ℕ) → a < 2 ^ 32 → b < 2 ^ 32 → c < 2 ^ 32 → P (f a b c))
+    → RowSays (Prints prints P) (row name (three_of f))
 three-row prints P name f spells fits words x e =
     let a = bind_some (small_at words) (λ a. two_of (f a.0) a.1) x e in
     let first = small_at-only words a.0 a.1 in
@@ -25,11 +28,17 @@ three-row prints P name f spells fits words x e =
       ap (λ w. name ∷ w) (first.spelled ∙ ap (λ w. decimal a.0.0 ∷ w) t.spelled) ∙ sym (ap (λ p. p ++ x.1) (ap prints t.is ∙ spells a.0.0 t.a t.b)),
     )
 
-three-back : {A : Type 0} (f : ℕ → ℕ → ℕ → A) (a b c : ℕ) (rest : Words) → a < 2 ^ 32 → b < 2 ^ 32 → c < 2 ^ 32 → three_of f (decimal a ∷ decimal b ∷ decimal c ∷ rest) ≡ Some (f a b c, rest)
+three-back :
+    {A : Type 0} (f : ℕ → ℕ → ℕ → A) (a b c : ℕ) (rest : Words) → a < 2 ^ 32 → b < 2 ^ 32 → c < 2 ^ 32
+    → three_of f (decimal a ∷ decimal b ∷ decimal c ∷ rest) ≡ Some (f a b c, rest)
 three-back f a b c rest la lb lc =
-    bound (small_at (decimal a ∷ decimal b ∷ decimal c ∷ rest)) (λ x. two_of (f x.0) x.1) (a, decimal b ∷ decimal c ∷ rest) (small_at-back a (decimal b ∷ decimal c ∷ rest) la) ∙ two-back (f a) b c rest lb lc
+    bound (small_at (decimal a ∷ decimal b ∷ decimal c ∷ rest)) (λ x. two_of (f x.0) x.1) (a, decimal b ∷ decimal c ∷ rest)
+    (small_at-back a (decimal b ∷ decimal c ∷ rest) la)
+    ∙ two-back (f a) b c rest lb lc
 
-ok_word-only : (how : List ℕ) (ok b c : Bool) → is_word (codes "ok") how ≡ b → is_word (codes "bad") how ≡ c → cond b (Some true) (cond c (Some false) None) ≡ Some ok → how ≡ ok_or_bad ok
+ok_word-only :
+    (how : List ℕ) (ok b c : Bool) → is_word (codes "ok") how ≡ b → is_word (codes "bad") how ≡ c → cond b (Some true) (cond c (Some false) None) ≡ Some ok
+    → how ≡ ok_or_bad ok
 ok_word-only how ok true c is other e =
     let same : true ≡ ok = cc in
     sym ((bytes_eq-Decides (codes "ok") how).0 is) ∙ ap ok_or_bad same
@@ -57,7 +66,8 @@ which_words (which.Read c) = codes "read" ∷ decimal c.0 ∷ []
 which-only : (words : Words) (x : DiskWhich × Words) → by_rows which_rows words ≡ Some x → HasWhichWords x.0 × (words ≡ which_words x.0 ++ x.1)
 unfolding which_words
 which-only words x e =
-    by_rows-only (Prints which_words HasWhichWords) which_rows (one-row which_words HasWhichWords _ _ (λ n. refl) (λ n l. l), (one-row which_words HasWhichWords _ _ (λ n. refl) (λ n l. l), tt)) words x e
+    by_rows-only (Prints which_words HasWhichWords) which_rows
+    (one-row which_words HasWhichWords _ _ (λ n. refl) (λ n l. l), (one-row which_words HasWhichWords _ _ (λ n. refl) (λ n l. l), tt)) words x e
 
 which-back : (w : DiskWhich) (rest : Words) → HasWhichWords w → by_rows which_rows (which_words w ++ rest) ≡ Some (w, rest)
 unfolding which_words
@@ -80,15 +90,19 @@ disk-row words x e =
 
 host-row : RowSays (Prints event_words HasEventWords) (row (codes "host") host_at)
 host-row words x e =
-    let l = bind_some (small_at words) (λ l. option_and_then (λ u. option_and_then (λ w. Some (event.Host (record { 0 = l.0 }) u.0 w.0, w.1)) (wide_at u.1)) (small_at l.1)) x e in
+    let l =
+    bind_some (small_at words)
+    (λ l. option_and_then (λ u. option_and_then (λ w. Some (event.Host (record { 0 = l.0 }) u.0 w.0, w.1)) (wide_at u.1)) (small_at l.1)) x e in
     let u = bind_some (small_at l.0.1) (λ u. option_and_then (λ w. Some (event.Host (record { 0 = l.0.0 }) u.0 w.0, w.1)) (wide_at u.1)) x l.2 in
     let w = bind_some (wide_at u.0.1) (λ w. Some (event.Host (record { 0 = l.0.0 }) u.0.0 w.0, w.1)) x u.2 in
     let first = small_at-only words l.0 l.1 in
     let second = small_at-only l.0.1 u.0 u.1 in
     let third = wide_at-only u.0.1 w.0 w.1 in
     let same : (event.Host (record { 0 = l.0.0 }) u.0.0 w.0.0, w.0.1) ≡ x = cc in
-    subst (Prints event_words HasEventWords (codes "host" ∷ words)) same
-    ((first.within, second.within, third.within), ap (λ r. codes "host" ∷ r) (first.spelled ∙ ap (λ r. decimal l.0.0 ∷ r) (second.spelled ∙ ap (λ r. decimal u.0.0 ∷ r) third.spelled)))
+    subst (Prints event_words HasEventWords (codes "host" ∷ words)) same (
+      (first.within, second.within, third.within),
+      ap (λ r. codes "host" ∷ r) (first.spelled ∙ ap (λ r. decimal l.0.0 ∷ r) (second.spelled ∙ ap (λ r. decimal u.0.0 ∷ r) third.spelled)),
+    )
 
 start-row : RowSays (Prints event_words HasEventWords) (row (codes "start") start_at)
 start-row words x e =
@@ -149,13 +163,19 @@ event_at-only words x e = by_rows-only (Prints event_words HasEventWords) event_
 disk-back : (w : DiskWhich) (ok : Bool) (rest : Words) → HasWhichWords w → disk_at (disk_words w ok ++ rest) ≡ Some (event.Disk w ok, rest)
 disk-back w ok rest h =
     ap disk_at (sym (disk_words-is w ok rest))
-    ∙ bound (by_rows which_rows (which_words w ++ ok_or_bad ok ∷ rest)) (λ w. option_and_then (λ ok. Some (event.Disk w.0 ok.0, ok.1)) (ok_at w.1)) (w, ok_or_bad ok ∷ rest) (which-back w (ok_or_bad ok ∷ rest) h)
+    ∙ bound (by_rows which_rows (which_words w ++ ok_or_bad ok ∷ rest)) (λ w. option_and_then (λ ok. Some (event.Disk w.0 ok.0, ok.1)) (ok_at w.1))
+    (w, ok_or_bad ok ∷ rest) (which-back w (ok_or_bad ok ∷ rest) h)
     ∙ bound (ok_at (ok_or_bad ok ∷ rest)) (λ ok. Some (event.Disk w ok.0, ok.1)) (ok, rest) (ok_at-back ok rest)
 
-host-back : (l u w : ℕ) (rest : Words) → l < 2 ^ 32 → u < 2 ^ 32 → w < 2 ^ 64 → host_at (decimal l ∷ decimal u ∷ decimal w ∷ rest) ≡ Some (event.Host (record { 0 = l }) u w, rest)
+host-back :
+    (l u w : ℕ) (rest : Words) → l < 2 ^ 32 → u < 2 ^ 32 → w < 2 ^ 64
+    → host_at (decimal l ∷ decimal u ∷ decimal w ∷ rest) ≡ Some (event.Host (record { 0 = l }) u w, rest)
 host-back l u w rest ll lu lw =
-    bound (small_at (decimal l ∷ decimal u ∷ decimal w ∷ rest)) (λ l. option_and_then (λ u. option_and_then (λ w. Some (event.Host (record { 0 = l.0 }) u.0 w.0, w.1)) (wide_at u.1)) (small_at l.1)) (l, decimal u ∷ decimal w ∷ rest) (small_at-back l (decimal u ∷ decimal w ∷ rest) ll)
-    ∙ bound (small_at (decimal u ∷ decimal w ∷ rest)) (λ u. option_and_then (λ w. Some (event.Host (record { 0 = l }) u.0 w.0, w.1)) (wide_at u.1)) (u, decimal w ∷ rest) (small_at-back u (decimal w ∷ rest) lu)
+    bound (small_at (decimal l ∷ decimal u ∷ decimal w ∷ rest))
+    (λ l. option_and_then (λ u. option_and_then (λ w. Some (event.Host (record { 0 = l.0 }) u.0 w.0, w.1)) (wide_at u.1)) (small_at l.1))
+    (l, decimal u ∷ decimal w ∷ rest) (small_at-back l (decimal u ∷ decimal w ∷ rest) ll)
+    ∙ bound (small_at (decimal u ∷ decimal w ∷ rest)) (λ u. option_and_then (λ w. Some (event.Host (record { 0 = l }) u.0 w.0, w.1)) (wide_at u.1))
+    (u, decimal w ∷ rest) (small_at-back u (decimal w ∷ rest) lu)
     ∙ bound (wide_at (decimal w ∷ rest)) (λ w. Some (event.Host (record { 0 = l }) u w.0, w.1)) (w, rest) (wide_at-back w rest lw)
 
 pub event_at-back : (e : Event) (rest : Words) → HasEventWords e → event_at (event_words e ++ rest) ≡ Some (e, rest)

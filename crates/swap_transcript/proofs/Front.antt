@@ -29,7 +29,8 @@ small-only word n e =
     ((number_one word n same).0, subst (λ m. m < 2 ^ 32) fits.1 (ltb-true read.0 (2 ^ 32) fits.0))
 
 pub small-back : (n : ℕ) → n < 2 ^ 32 → small (decimal n) ≡ Some n
-small-back n l = bound (number (decimal n)) (below (2 ^ 32)) n (number_again n (omega arith)) ∙ cond_true (nat_lt n (2 ^ 32)) (Some n) None (lt-ltb n (2 ^ 32) l)
+small-back n l =
+    bound (number (decimal n)) (below (2 ^ 32)) n (number_again n (omega arith)) ∙ cond_true (nat_lt n (2 ^ 32)) (Some n) None (lt-ltb n (2 ^ 32) l)
 
 -- one number in front of other words
 pub record Number (limit : ℕ) (words : Words) (n : ℕ) (rest : Words) : Type 0 where
@@ -103,28 +104,39 @@ one_wide-back f n rest l = bound (wide_at (decimal n ∷ rest)) (λ a. Some (f a
 
 pub two-back : {A : Type 0} (f : ℕ → ℕ → A) (a b : ℕ) (rest : Words) → a < 2 ^ 32 → b < 2 ^ 32 → two_of f (decimal a ∷ decimal b ∷ rest) ≡ Some (f a b, rest)
 two-back f a b rest la lb =
-    bound (small_at (decimal a ∷ decimal b ∷ rest)) (λ x. option_and_then (λ y. Some (f x.0 y.0, y.1)) (small_at x.1)) (a, decimal b ∷ rest) (small_at-back a (decimal b ∷ rest) la)
+    bound (small_at (decimal a ∷ decimal b ∷ rest)) (λ x. option_and_then (λ y. Some (f x.0 y.0, y.1)) (small_at x.1)) (a, decimal b ∷ rest)
+    (small_at-back a (decimal b ∷ rest) la)
     ∙ one-back (f a) b rest lb
 
 -- rows: what each reads is what is said of its word and those behind it
 abbrev pub RowSays : {R : Type 0} → (Words → R → Type 0) → Row R → Type 0
 RowSays {R} Says r = (words : Words) (x : R) → r.reads words ≡ Some x → Says (r.word ∷ words) x
 
-chosen : {R : Type 0} (Says : Words → R → Type 0) (name word : List ℕ) (words : Words) (x : R) (this other : Option R) (b : Bool) → is_word name word ≡ b → (this ≡ Some x → Says (name ∷ words) x) → (other ≡ Some x → Says (word ∷ words) x) → cond b this other ≡ Some x → Says (word ∷ words) x
+chosen :
+    {R : Type 0} (Says : Words → R → Type 0) (name word : List ℕ) (words : Words) (x : R) (this other : Option R) (b : Bool) → is_word name word ≡ b
+    → (this ≡ Some x → Says (name ∷ words) x) → (other ≡ Some x → Says (word ∷ words) x) → cond b this other ≡ Some x → Says (word ∷ words) x
 chosen Says name word words x this other true is now later e = subst (λ w. Says (w ∷ words) x) ((bytes_eq-Decides name word).0 is) (now e)
 chosen Says name word words x this other false is now later e = later e
 
-pub by_row-only : {R : Type 0} (Says : Words → R → Type 0) (rows : List (Row R)) → AllByRecursion (RowSays Says) rows → (word : List ℕ) (words : Words) (x : R) → by_row rows word words ≡ Some x → Says (word ∷ words) x
+pub by_row-only :
+    {R : Type 0} (Says : Words → R → Type 0) (rows : List (Row R)) → AllByRecursion (RowSays Says) rows → (word : List ℕ) (words : Words) (x : R)
+    → by_row rows word words ≡ Some x → Says (word ∷ words) x
 by_row-only Says [] h word words x e = cc
 by_row-only Says (r ∷ rows) h word words x e =
     chosen Says r.word word words x (r.reads words) (by_row rows word words) (is_word r.word word) refl (h.0 words x) (by_row-only Says rows h.1 word words x) e
 
-pub by_row_or-only : {R : Type 0} (Says : Words → R → Type 0) (rows : List (Row R)) (other : List ℕ → Words → Option R) → AllByRecursion (RowSays Says) rows → ((word : List ℕ) (words : Words) (x : R) → other word words ≡ Some x → Says (word ∷ words) x) → (word : List ℕ) (words : Words) (x : R) → by_row_or rows other word words ≡ Some x → Says (word ∷ words) x
+pub by_row_or-only :
+    {R : Type 0} (Says : Words → R → Type 0) (rows : List (Row R)) (other : List ℕ → Words → Option R) → AllByRecursion (RowSays Says) rows
+    → ((word : List ℕ) (words : Words) (x : R) → other word words ≡ Some x → Says (word ∷ words) x) → (word : List ℕ) (words : Words) (x : R)
+    → by_row_or rows other word words ≡ Some x → Says (word ∷ words) x
 by_row_or-only Says [] other h k word words x e = k word words x e
 by_row_or-only Says (r ∷ rows) other h k word words x e =
-    chosen Says r.word word words x (r.reads words) (by_row_or rows other word words) (is_word r.word word) refl (h.0 words x) (by_row_or-only Says rows other h.1 k word words x) e
+    chosen Says r.word word words x (r.reads words) (by_row_or rows other word words) (is_word r.word word) refl (h.0 words x)
+    (by_row_or-only Says rows other h.1 k word words x) e
 
-pub by_rows-only : {R : Type 0} (Says : Words → R → Type 0) (rows : List (Row R)) → AllByRecursion (RowSays Says) rows → (words : Words) (x : R) → by_rows rows words ≡ Some x → Says words x
+pub by_rows-only :
+    {R : Type 0} (Says : Words → R → Type 0) (rows : List (Row R)) → AllByRecursion (RowSays Says) rows → (words : Words) (x : R) → by_rows rows words ≡ Some x
+    → Says words x
 by_rows-only Says rows h [] x e = cc
 by_rows-only Says rows h (word ∷ words) x e = by_row-only Says rows h word words x e
 
@@ -132,22 +144,30 @@ by_rows-only Says rows h (word ∷ words) x e = by_row-only Says rows h word wor
 abbrev pub Prints : {A : Type 0} → (A → Words) → (A → Type 0) → Words → A × Words → Type 0
 Prints prints P words x = P x.0 × (words ≡ prints x.0 ++ x.1)
 
-pub from-row : {A : Type 0} (prints : A → Words) (P : A → Type 0) (name : List ℕ) (o : A) → prints o ≡ name ∷ [] → P o → RowSays (Prints prints P) (row name (λ words. Some (o, words)))
+pub from-row :
+    {A : Type 0} (prints : A → Words) (P : A → Type 0) (name : List ℕ) (o : A) → prints o ≡ name ∷ [] → P o
+    → RowSays (Prints prints P) (row name (λ words. Some (o, words)))
 from-row prints P name o spells p words x e =
     let same : (o, words) ≡ x = cc in
     subst (Prints prints P (name ∷ words)) same (p, sym (ap (λ w. w ++ words) spells))
 
-pub one-row : {A : Type 0} (prints : A → Words) (P : A → Type 0) (name : List ℕ) (f : ℕ → A) → ((n : ℕ) → prints (f n) ≡ name ∷ decimal n ∷ []) → ((n : ℕ) → n < 2 ^ 32 → P (f n)) → RowSays (Prints prints P) (row name (one_of f))
+pub one-row :
+    {A : Type 0} (prints : A → Words) (P : A → Type 0) (name : List ℕ) (f : ℕ → A) → ((n : ℕ) → prints (f n) ≡ name ∷ decimal n ∷ [])
+    → ((n : ℕ) → n < 2 ^ 32 → P (f n)) → RowSays (Prints prints P) (row name (one_of f))
 one-row prints P name f spells fits words x e =
     let o = one-only f words x e in
     (subst P (sym o.2) (fits o.0 o.1.within), ap (λ w. name ∷ w) o.1.spelled ∙ sym (ap (λ p. p ++ x.1) (ap prints o.2 ∙ spells o.0)))
 
-pub one_wide-row : {A : Type 0} (prints : A → Words) (P : A → Type 0) (name : List ℕ) (f : ℕ → A) → ((n : ℕ) → prints (f n) ≡ name ∷ decimal n ∷ []) → ((n : ℕ) → n < 2 ^ 64 → P (f n)) → RowSays (Prints prints P) (row name (one_wide f))
+pub one_wide-row :
+    {A : Type 0} (prints : A → Words) (P : A → Type 0) (name : List ℕ) (f : ℕ → A) → ((n : ℕ) → prints (f n) ≡ name ∷ decimal n ∷ [])
+    → ((n : ℕ) → n < 2 ^ 64 → P (f n)) → RowSays (Prints prints P) (row name (one_wide f))
 one_wide-row prints P name f spells fits words x e =
     let o = one_wide-only f words x e in
     (subst P (sym o.2) (fits o.0 o.1.within), ap (λ w. name ∷ w) o.1.spelled ∙ sym (ap (λ p. p ++ x.1) (ap prints o.2 ∙ spells o.0)))
 
-pub two-row : {A : Type 0} (prints : A → Words) (P : A → Type 0) (name : List ℕ) (f : ℕ → ℕ → A) → ((a b : ℕ) → prints (f a b) ≡ name ∷ decimal a ∷ decimal b ∷ []) → ((a b : ℕ) → a < 2 ^ 32 → b < 2 ^ 32 → P (f a b)) → RowSays (Prints prints P) (row name (two_of f))
+pub two-row :
+    {A : Type 0} (prints : A → Words) (P : A → Type 0) (name : List ℕ) (f : ℕ → ℕ → A) → ((a b : ℕ) → prints (f a b) ≡ name ∷ decimal a ∷ decimal b ∷ [])
+    → ((a b : ℕ) → a < 2 ^ 32 → b < 2 ^ 32 → P (f a b)) → RowSays (Prints prints P) (row name (two_of f))
 two-row prints P name f spells fits words x e =
     let t = two-only f words x e in
     (subst P (sym t.is) (fits t.a t.b t.a_within t.b_within), ap (λ w. name ∷ w) t.spelled ∙ sym (ap (λ p. p ++ x.1) (ap prints t.is ∙ spells t.a t.b)))

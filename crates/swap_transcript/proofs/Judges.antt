@@ -31,6 +31,8 @@ answers_err (Ok t) refused.NoMemory h = h
 answers_err (Err at) (refused.Line line) h = h
 answers_err (Err at) refused.NoMemory h = h
 
-pub answers_ok : (read : Result Transcript ScriptRefused) (book : Book) (j : Judgement) → Gives read (Ok book) → j.entries ≡ length book.history → Judges book j.verdict → Answers read (Ok j)
+pub answers_ok :
+    (read : Result Transcript ScriptRefused) (book : Book) (j : Judgement) → Gives read (Ok book) → j.entries ≡ length book.history → Judges book j.verdict
+    → Answers read (Ok j)
 answers_ok (Ok t) book j h entries judges = (entries ∙ ap (λ x. length x.history) h.1, judges_same book (book_of t) j.verdict h.0 h.1 judges)
 answers_ok (Err at) book j h entries judges = h

@@ -26,19 +26,27 @@ pair_line s end above n rest read = at n read >>= λ pair. before pair (pairs_fr
 
 abbrev either : Sizes → ℕ → Above → ℕ → List ℕ → List (ℕ × List ℕ) → Option Words → Result (List Pair) ScriptRefused
 either s end above n text rest o =
-    option_map_or (λ behind. ended_at n (counts above.entries (end_number behind)) rest) o (pair_line s end above n rest (checked s above (pair_of s (words_of text))))
+    option_map_or (λ behind. ended_at n (counts above.entries (end_number behind)) rest) o
+    (pair_line s end above n rest (checked s above (pair_of s (words_of text))))
 
-pub line-on : (s : Sizes) (end : ℕ) (above : Above) (j : Judged) (n : ℕ) (text : List ℕ) (rest : List (ℕ × List ℕ)) (pair : Pair) → end_rest (words_of text) ≡ None → checked s above (pair_of s (words_of text)) ≡ Ok pair
+pub line-on :
+    (s : Sizes) (end : ℕ) (above : Above) (j : Judged) (n : ℕ) (text : List ℕ) (rest : List (ℕ × List ℕ)) (pair : Pair) → end_rest (words_of text) ≡ None
+    → checked s above (pair_of s (words_of text)) ≡ Ok pair
     → judging j (pairs_from s end above ((n, text) ∷ rest)) ≡ judging (with_pair j pair) (pairs_from s end (counted above pair) rest)
 line-on s end above j n text rest pair none is =
-    ap (λ o. judging j (either s end above n text rest o)) none ∙ ap (λ r. judging j (pair_line s end above n rest r)) is ∙ judging-before j pair (pairs_from s end (counted above pair) rest)
+    ap (λ o. judging j (either s end above n text rest o)) none ∙ ap (λ r. judging j (pair_line s end above n rest r)) is
+    ∙ judging-before j pair (pairs_from s end (counted above pair) rest)
 
-pub line-off : (s : Sizes) (end : ℕ) (above : Above) (j : Judged) (n : ℕ) (text : List ℕ) (rest : List (ℕ × List ℕ)) (w : Why) → end_rest (words_of text) ≡ None → checked s above (pair_of s (words_of text)) ≡ Err w
+pub line-off :
+    (s : Sizes) (end : ℕ) (above : Above) (j : Judged) (n : ℕ) (text : List ℕ) (rest : List (ℕ × List ℕ)) (w : Why) → end_rest (words_of text) ≡ None
+    → checked s above (pair_of s (words_of text)) ≡ Err w
     → judging j (pairs_from s end above ((n, text) ∷ rest)) ≡ Err (record { line = n; why = w })
 line-off s end above j n text rest w none is =
     ap (λ o. judging j (either s end above n text rest o)) none ∙ ap (λ r. judging j (pair_line s end above n rest r)) is
 
-pub line-end : (s : Sizes) (end : ℕ) (above : Above) (j : Judged) (n : ℕ) (text : List ℕ) (rest : List (ℕ × List ℕ)) (behind : Words) → end_rest (words_of text) ≡ Some behind
+pub line-end :
+    (s : Sizes) (end : ℕ) (above : Above) (j : Judged) (n : ℕ) (text : List ℕ) (rest : List (ℕ × List ℕ)) (behind : Words)
+    → end_rest (words_of text) ≡ Some behind
     → judging j (pairs_from s end above ((n, text) ∷ rest)) ≡ judging j (ended_at n (counts above.entries (end_number behind)) rest)
 line-end s end above j n text rest behind is = ap (λ o. judging j (either s end above n text rest o)) is
 
@@ -50,9 +58,12 @@ four v w x y true false c d e = cc
 four v w x y false b c d e = cc
 
 -- what a line owes that has no fault
-pub owes_nothing : (s : Sizes) (above : Above) (pair : Pair) → first_beyond (tests s above pair) ≡ None → (has_caller s pair.event ≡ true) × (above.events < 4_194_304)
+pub owes_nothing :
+    (s : Sizes) (above : Above) (pair : Pair) → first_beyond (tests s above pair) ≡ None → (has_caller s pair.event ≡ true) × (above.events < 4_194_304)
 owes_nothing s above pair e =
-    let parts = four why.Caller why.Page why.Calls why.Events (has_caller s pair.event) (has_page s pair.event && tells_page s pair.told) (nat_le ((above.entries + entries_in pair.told) * s.page_bytes) 1_073_741_824) (nat_lt above.events 4_194_304) e in
+    let parts =
+    four why.Caller why.Page why.Calls why.Events (has_caller s pair.event) (has_page s pair.event && tells_page s pair.told)
+    (nat_le ((above.entries + entries_in pair.told) * s.page_bytes) 1_073_741_824) (nat_lt above.events 4_194_304) e in
     (parts.0, ltb-true above.events 4_194_304 parts.1)
 
 -- a caller in range is one of the callers that a record tells apart
@@ -64,6 +75,9 @@ pub caller_few : (s : Sizes) (e : Event) → s.callers ≤ 16 → has_caller s e
 caller_few s e few h = few_callers s (caller_of e) few h
 
 -- the page of a word
-pub page_word-is : (size : ℕ) (word page text : List ℕ) (b : Bool) → pattern size word ≡ Some page → text ≡ shortest page → bytes_eq text word ≡ b → page_word size word ≡ cond b (Some page) None
+pub page_word-is :
+    (size : ℕ) (word page text : List ℕ) (b : Bool) → pattern size word ≡ Some page → text ≡ shortest page → bytes_eq text word ≡ b
+    → page_word size word ≡ cond b (Some page) None
 page_word-is size word page text b read spelled eq =
-    ap (option_and_then (λ p. cond (is_word (shortest p) word) (Some p) None)) read ∙ ap (λ t. cond (bytes_eq t word) (Some page) None) (sym spelled) ∙ ap (λ c. cond c (Some page) None) eq
+    ap (option_and_then (λ p. cond (is_word (shortest p) word) (Some p) None)) read ∙ ap (λ t. cond (bytes_eq t word) (Some page) None) (sym spelled)
+    ∙ ap (λ c. cond c (Some page) None) eq

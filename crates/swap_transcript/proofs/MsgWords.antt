@@ -74,12 +74,14 @@ msg_at-only s words x e = by_rows-only (Prints msg_words (HasMsgWords s)) (msg_r
 
 rates-back : (k v : ℕ) (rest : Words) → k < 2 ^ 32 → v < 2 ^ 64 → rates_at (decimal k ∷ decimal v ∷ rest) ≡ Some (msg.Rates (record { 0 = k }) v, rest)
 rates-back k v rest lk lv =
-    bound (small_at (decimal k ∷ decimal v ∷ rest)) (λ k. option_and_then (λ v. Some (msg.Rates (record { 0 = k.0 }) v.0, v.1)) (wide_at k.1)) (k, decimal v ∷ rest) (small_at-back k (decimal v ∷ rest) lk)
+    bound (small_at (decimal k ∷ decimal v ∷ rest)) (λ k. option_and_then (λ v. Some (msg.Rates (record { 0 = k.0 }) v.0, v.1)) (wide_at k.1))
+    (k, decimal v ∷ rest) (small_at-back k (decimal v ∷ rest) lk)
     ∙ bound (wide_at (decimal v ∷ rest)) (λ v. Some (msg.Rates (record { 0 = k }) v.0, v.1)) (v, rest) (wide_at-back v rest lv)
 
 pub msg_at-back : (s : Sizes) (m : Msg) (rest : Words) → HasMsgWords s m → msg_at s (msg_words m ++ rest) ≡ Some (m, rest)
 msg_at-back s (msg.Hello version page_bytes pages_per_slab) rest h =
-    one-back (λ v. msg.Hello v s.page_bytes s.pages_per_slab) version rest h.0 ∙ ap (λ p. Some (msg.Hello version p s.pages_per_slab, rest)) (sym h.1) ∙ ap (λ p. Some (msg.Hello version page_bytes p, rest)) (sym h.2)
+    one-back (λ v. msg.Hello v s.page_bytes s.pages_per_slab) version rest h.0 ∙ ap (λ p. Some (msg.Hello version p s.pages_per_slab, rest)) (sym h.1)
+    ∙ ap (λ p. Some (msg.Hello version page_bytes p, rest)) (sym h.2)
 msg_at-back s (msg.Query n) rest h = one-back (λ n. msg.Query (record { 0 = n })) n.0 rest h
 msg_at-back s (msg.Borrow n) rest h = one-back (λ n. msg.Borrow (record { 0 = n })) n.0 rest h
 msg_at-back s (msg.Write k i) rest h = two-back (λ k i. msg.Write (record { 0 = k }) i) k.0 i rest h.0 h.1

@@ -37,7 +37,9 @@ onto : (b : ℕ) (first : List ℕ) (others : Words) → spaced ((b ∷ first) �
 onto b first [] = refl
 onto b first (next ∷ others) = refl
 
-spaced_if : (b : ℕ) (t : Bool) (first : List ℕ) (others : Words) → eqb b 32 ≡ t → spaced (cond t ([] ∷ first ∷ others) ((b ∷ first) ∷ others)) ≡ b ∷ spaced (first ∷ others)
+spaced_if :
+    (b : ℕ) (t : Bool) (first : List ℕ) (others : Words) → eqb b 32 ≡ t
+    → spaced (cond t ([] ∷ first ∷ others) ((b ∷ first) ∷ others)) ≡ b ∷ spaced (first ∷ others)
 spaced_if b true first others is = ap (λ x. x ∷ spaced (first ∷ others)) (sym (eqb-true b 32 is))
 spaced_if b false first others is = onto b first others
 
@@ -45,7 +47,8 @@ spaced-words_of : (line : List ℕ) → spaced (words_of line) ≡ line
 spaced-words_of [] = refl
 spaced-words_of (b ∷ line) =
     let some = some_words line in
-    ap (λ w. spaced (cond (eqb b 32) ([] ∷ w) (onto_first b w))) some.are ∙ spaced_if b (eqb b 32) some.first some.others refl ∙ ap (λ w. b ∷ spaced w) (sym some.are) ∙ ap (λ l. b ∷ l) (spaced-words_of line)
+    ap (λ w. spaced (cond (eqb b 32) ([] ∷ w) (onto_first b w))) some.are ∙ spaced_if b (eqb b 32) some.first some.others refl
+    ∙ ap (λ w. b ∷ spaced w) (sym some.are) ∙ ap (λ l. b ∷ l) (spaced-words_of line)
 
 texts_are : (lines : List (ℕ × List ℕ)) → map (λ numbered. numbered.1) lines ≡ map spaced (words_in lines)
 texts_are [] = refl
@@ -60,21 +63,29 @@ plain_words H (seen.Done e sent) h = absurd h
 plain_words H (seen.Fault e) h = absurd h
 plain_words H x h = refl
 
-row-are : (n : ℕ) (row : Row) (page : Page) (bytes : List ℕ) (o : Op) → row.entry.page ≡ page → row.entry.op ≡ o → row.bytes ≡ bytes → row_words n (Some row) ≡ codes "entry" ∷ decimal n ∷ op_words page.0 bytes o
+row-are :
+    (n : ℕ) (row : Row) (page : Page) (bytes : List ℕ) (o : Op) → row.entry.page ≡ page → row.entry.op ≡ o → row.bytes ≡ bytes
+    → row_words n (Some row) ≡ codes "entry" ∷ decimal n ∷ op_words page.0 bytes o
 row-are n row page bytes o same_page same_op same_bytes =
-    ap (λ p. codes "entry" ∷ decimal n ∷ op_words p.0 row.bytes row.entry.op) same_page ∙ ap (λ b. codes "entry" ∷ decimal n ∷ op_words page.0 b row.entry.op) same_bytes ∙ ap (λ q. codes "entry" ∷ decimal n ∷ op_words page.0 bytes q) same_op
+    ap (λ p. codes "entry" ∷ decimal n ∷ op_words p.0 row.bytes row.entry.op) same_page
+    ∙ ap (λ b. codes "entry" ∷ decimal n ∷ op_words page.0 b row.entry.op) same_bytes ∙ ap (λ q. codes "entry" ∷ decimal n ∷ op_words page.0 bytes q) same_op
 
-entered-are : (H : History) (e : EntryNo) (page : Page) (bytes : List ℕ) (o : Op) (sent : Option Lender) → MayBeSent o sent → row_words e.0 (named H e.0) ≡ codes "entry" ∷ decimal e.0 ∷ op_words page.0 bytes o
+entered-are :
+    (H : History) (e : EntryNo) (page : Page) (bytes : List ℕ) (o : Op) (sent : Option Lender) → MayBeSent o sent
+    → row_words e.0 (named H e.0) ≡ codes "entry" ∷ decimal e.0 ∷ op_words page.0 bytes o
     → seen_words H (seen_by o e sent) ≡ codes "entry" ∷ decimal e.0 ∷ (op_words page.0 bytes o ++ sent_words sent)
 entered-are H e page bytes op.PageOut sent may row = ap (λ w. w ++ sent_words sent) row
 entered-are H e page bytes (op.PageIn named from) sent may row = ap (λ w. w ++ sent_words sent) row
 entered-are H e page bytes (op.Failed kind since at) sent may row =
-    row ∙ ap (λ w. codes "entry" ∷ decimal e.0 ∷ w) (sym (append-nil (op_words page.0 bytes (op.Failed kind since at))) ∙ ap (λ x. op_words page.0 bytes (op.Failed kind since at) ++ sent_words x) (sym may))
+    row
+    ∙ ap (λ w. codes "entry" ∷ decimal e.0 ∷ w)
+    (sym (append-nil (op_words page.0 bytes (op.Failed kind since at))) ∙ ap (λ x. op_words page.0 bytes (op.Failed kind since at) ++ sent_words x) (sym may))
 
 told_are : (H : History) (told : Told) → IsToldOf H told → seen_words H (seen_told told) ≡ told_words told
 told_are H (Saw x) h = plain_words H x h
 told_are H (Entered shown) h =
-    entered-are H shown.no shown.page shown.bytes shown.op shown.sent h.sent (ap (row_words shown.no.0) h.is ∙ row-are shown.no.0 h.row shown.page shown.bytes shown.op h.page h.op h.bytes)
+    entered-are H shown.no shown.page shown.bytes shown.op shown.sent h.sent
+    (ap (row_words shown.no.0) h.is ∙ row-are shown.no.0 h.row shown.page shown.bytes shown.op h.page h.op h.bytes)
 
 pub lines_are_printed : LinesArePrinted
 lines_are_printed H pair h = ap (λ w. ended (spaced (event_words pair.event ++ codes "=" ∷ w))) (told_are H pair.told h)

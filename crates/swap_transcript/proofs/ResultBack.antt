@@ -45,14 +45,17 @@ last-back : (f : ℕ → Seen) (n : ℕ) → n < 2 ^ 32 → one_number f (decima
 last-back f n l = ap (λ o. option_and_then (λ m. Some (f m)) (option_and_then whole o)) (small_at-back n [] l)
 
 -- what a call waits for
-via-back : (f : Via → Seen) (l : Lender) → l.0 < 2 ^ 32 → option_and_then (λ v. Some (f v)) (option_and_then whole (one_of (λ n. via.Lender (record { 0 = n })) (decimal l.0 ∷ []))) ≡ Some (f (via.Lender l))
+via-back :
+    (f : Via → Seen) (l : Lender) → l.0 < 2 ^ 32
+    → option_and_then (λ v. Some (f v)) (option_and_then whole (one_of (λ n. via.Lender (record { 0 = n })) (decimal l.0 ∷ []))) ≡ Some (f (via.Lender l))
 via-back f l h = ap (λ o. option_and_then (λ v. Some (f v)) (option_and_then whole o)) (one-back (λ n. via.Lender (record { 0 = n })) l.0 [] h)
 
 wait-back : (s : Sizes) (c : Caller) (v : Via) → HasViaWords v → told_of s (event.Finish c) (seen_words [] (seen.Wait v)) ≡ Some (Saw (seen.Wait v))
 wait-back s c via.Disk h = refl
 wait-back s c (via.Lender l) h = ap (option_map Saw) (via-back seen.Wait l h)
 
-wait_in-back : (s : Sizes) (c : Caller) (p : Page) (v : Via) → HasViaWords v → told_of s (event.PageIn c p) (seen_words [] (seen.Wait v)) ≡ Some (Saw (seen.Wait v))
+wait_in-back :
+    (s : Sizes) (c : Caller) (p : Page) (v : Via) → HasViaWords v → told_of s (event.PageIn c p) (seen_words [] (seen.Wait v)) ≡ Some (Saw (seen.Wait v))
 wait_in-back s c p via.Disk h = refl
 wait_in-back s c p (via.Lender l) h = ap (option_map Saw) (via-back seen.Wait l h)
 
@@ -60,20 +63,27 @@ again-back : (s : Sizes) (c : Caller) (v : Via) → HasViaWords v → told_of s 
 again-back s c via.Disk h = refl
 again-back s c (via.Lender l) h = ap (option_map Saw) (via-back seen.Again l h)
 
-asked-back : (s : Sizes) (w : ℕ) (slab : Slab) (first : Lender) (second : Option Lender) → MaySee s (event.Tick w) (seen.Asked slab first second) → told_of s (event.Tick w) (seen_words [] (seen.Asked slab first second)) ≡ Some (Saw (seen.Asked slab first second))
+asked-back :
+    (s : Sizes) (w : ℕ) (slab : Slab) (first : Lender) (second : Option Lender) → MaySee s (event.Tick w) (seen.Asked slab first second)
+    → told_of s (event.Tick w) (seen_words [] (seen.Asked slab first second)) ≡ Some (Saw (seen.Asked slab first second))
 asked-back s w slab first None h =
     ap (option_map Saw)
-    (bound (small_at (decimal slab.0 ∷ decimal first.0 ∷ [])) (λ a. option_and_then (λ b. second_of a.0 b.0 b.1) (small_at a.1)) (slab.0, decimal first.0 ∷ []) (small_at-back slab.0 (decimal first.0 ∷ []) h.0)
+    (bound (small_at (decimal slab.0 ∷ decimal first.0 ∷ [])) (λ a. option_and_then (λ b. second_of a.0 b.0 b.1) (small_at a.1)) (slab.0, decimal first.0 ∷ [])
+    (small_at-back slab.0 (decimal first.0 ∷ []) h.0)
     ∙ bound (small_at (decimal first.0 ∷ [])) (λ b. second_of slab.0 b.0 b.1) (first.0, []) (small_at-back first.0 [] h.1))
 asked-back s w slab first (Some second) h =
     ap (option_map Saw)
-    (bound (small_at (decimal slab.0 ∷ decimal first.0 ∷ decimal second.0 ∷ [])) (λ a. option_and_then (λ b. second_of a.0 b.0 b.1) (small_at a.1)) (slab.0, decimal first.0 ∷ decimal second.0 ∷ []) (small_at-back slab.0 (decimal first.0 ∷ decimal second.0 ∷ []) h.0)
-    ∙ bound (small_at (decimal first.0 ∷ decimal second.0 ∷ [])) (λ b. second_of slab.0 b.0 b.1) (first.0, decimal second.0 ∷ []) (small_at-back first.0 (decimal second.0 ∷ []) h.1)
+    (bound (small_at (decimal slab.0 ∷ decimal first.0 ∷ decimal second.0 ∷ [])) (λ a. option_and_then (λ b. second_of a.0 b.0 b.1) (small_at a.1))
+    (slab.0, decimal first.0 ∷ decimal second.0 ∷ []) (small_at-back slab.0 (decimal first.0 ∷ decimal second.0 ∷ []) h.0)
+    ∙ bound (small_at (decimal first.0 ∷ decimal second.0 ∷ [])) (λ b. second_of slab.0 b.0 b.1) (first.0, decimal second.0 ∷ [])
+    (small_at-back first.0 (decimal second.0 ∷ []) h.1)
     ∙ last-back (λ n. seen.Asked slab first (Some (record { 0 = n }))) second.0 h.2)
 
 -- no message begins as another result does
 abbrev Apart : List ℕ → Type 0
-Apart name = (is_word (codes "entry") name ≡ false) × (is_word (codes "end") name ≡ false) × (is_word (codes "-") name ≡ false) × (is_word (codes "lost") name ≡ false) × (is_word (codes "lied") name ≡ false)
+Apart name =
+    (is_word (codes "entry") name ≡ false) × (is_word (codes "end") name ≡ false) × (is_word (codes "-") name ≡ false) × (is_word (codes "lost") name ≡ false)
+    × (is_word (codes "lied") name ≡ false)
 
 apart : (m : Msg) → Apart (msg_name m)
 apart (msg.Hello version page_bytes pages_per_slab) = (refl, refl, refl, refl, refl)
@@ -96,45 +106,71 @@ else_if true x y e = cc
 else_if false x y e = refl
 
 -- what a lender did with a message is read behind the message
-give-at : (s : Sizes) (l : Lender) (word : List ℕ) (words : Words) → Apart word → told_of s (event.Give l) (word ∷ words) ≡ option_map Saw (gave_of s word words)
+give-at :
+    (s : Sizes) (l : Lender) (word : List ℕ) (words : Words) → Apart word → told_of s (event.Give l) (word ∷ words) ≡ option_map Saw (gave_of s word words)
 give-at s l word words h =
-    else_if (is_word (codes "entry") word) _ _ h.0 ∙ ap (option_map Saw) (else_if (is_word (codes "end") word) _ _ h.1 ∙ else_if (is_word (codes "-") word) _ _ h.2)
+    else_if (is_word (codes "entry") word) _ _ h.0
+    ∙ ap (option_map Saw) (else_if (is_word (codes "end") word) _ _ h.1 ∙ else_if (is_word (codes "-") word) _ _ h.2)
 
-take-at : (s : Sizes) (l : Lender) (word : List ℕ) (words : Words) → Apart word → told_of s (event.Take l) (word ∷ words) ≡ option_map Saw (took_of s word words)
+take-at :
+    (s : Sizes) (l : Lender) (word : List ℕ) (words : Words) → Apart word → told_of s (event.Take l) (word ∷ words) ≡ option_map Saw (took_of s word words)
 take-at s l word words h =
-    else_if (is_word (codes "entry") word) _ _ h.0 ∙ ap (option_map Saw) (else_if (is_word (codes "lost") word) _ _ h.3 ∙ else_if (is_word (codes "lied") word) _ _ h.4 ∙ else_if (is_word (codes "-") word) _ _ h.2)
+    else_if (is_word (codes "entry") word) _ _ h.0
+    ∙ ap (option_map Saw)
+    (else_if (is_word (codes "lost") word) _ _ h.3 ∙ else_if (is_word (codes "lied") word) _ _ h.4 ∙ else_if (is_word (codes "-") word) _ _ h.2)
 
-give-behind : (s : Sizes) (l : Lender) (m : Msg) (words : Words) → HasMsgWords s m → told_of s (event.Give l) (msg_words m ++ words) ≡ option_map Saw (gave_behind s m words)
+give-behind :
+    (s : Sizes) (l : Lender) (m : Msg) (words : Words) → HasMsgWords s m
+    → told_of s (event.Give l) (msg_words m ++ words) ≡ option_map Saw (gave_behind s m words)
 give-behind s l m words h =
-    give-at s l (msg_name m) _ (apart m) ∙ ap (option_map Saw) (bound (msg_at s (msg_words m ++ words)) (λ x. gave_behind s x.0 x.1) (m, words) (msg_at-back s m words h))
+    give-at s l (msg_name m) _ (apart m)
+    ∙ ap (option_map Saw) (bound (msg_at s (msg_words m ++ words)) (λ x. gave_behind s x.0 x.1) (m, words) (msg_at-back s m words h))
 
-evicted_if : (m : Msg) (reply : Option Msg) (set : ℕ) (b : Bool) → set < 2 ^ 64 → eqb set 0 ≡ b → evicted_of m reply (cond b [] (codes "evict" ∷ map decimal (slots set))) ≡ Some (seen.Gave m reply set)
+evicted_if :
+    (m : Msg) (reply : Option Msg) (set : ℕ) (b : Bool) → set < 2 ^ 64 → eqb set 0 ≡ b
+    → evicted_of m reply (cond b [] (codes "evict" ∷ map decimal (slots set))) ≡ Some (seen.Gave m reply set)
 evicted_if m reply set true l is = ap (λ n. Some (seen.Gave m reply n)) (sym (eqb-true set 0 is))
 evicted_if m reply set false l is = bound (slots_of (map decimal (slots set))) (λ n. Some (seen.Gave m reply n)) set (slots_of-back set l is)
 
-behind_if : (s : Sizes) (m : Msg) (set : ℕ) (b : Bool) → set < 2 ^ 64 → eqb set 0 ≡ b → gave_behind s m (cond b [] (codes "evict" ∷ map decimal (slots set))) ≡ Some (seen.Gave m None set)
+behind_if :
+    (s : Sizes) (m : Msg) (set : ℕ) (b : Bool) → set < 2 ^ 64 → eqb set 0 ≡ b
+    → gave_behind s m (cond b [] (codes "evict" ∷ map decimal (slots set))) ≡ Some (seen.Gave m None set)
 behind_if s m set true l is = evicted_if m None set true l is
 behind_if s m set false l is = evicted_if m None set false l is
 
-gave-back : (s : Sizes) (m : Msg) (reply : Option Msg) (set : ℕ) → IfSome reply (HasMsgWords s) → set < 2 ^ 64 → gave_behind s m (reply_words reply ++ evicted_words set) ≡ Some (seen.Gave m reply set)
+gave-back :
+    (s : Sizes) (m : Msg) (reply : Option Msg) (set : ℕ) → IfSome reply (HasMsgWords s) → set < 2 ^ 64
+    → gave_behind s m (reply_words reply ++ evicted_words set) ≡ Some (seen.Gave m reply set)
 gave-back s m None set h l = behind_if s m set (eqb set 0) l refl
 gave-back s m (Some r) set h l =
-    bound (msg_at s (msg_words r ++ evicted_words set)) (λ x. evicted_of m (Some x.0) x.1) (r, evicted_words set) (msg_at-back s r (evicted_words set) h) ∙ evicted_if m (Some r) set (eqb set 0) l refl
+    bound (msg_at s (msg_words r ++ evicted_words set)) (λ x. evicted_of m (Some x.0) x.1) (r, evicted_words set) (msg_at-back s r (evicted_words set) h)
+    ∙ evicted_if m (Some r) set (eqb set 0) l refl
 
-hosted_if : (mean set : ℕ) (b : Bool) → set < 2 ^ 64 → eqb set 0 ≡ b → hosted_behind mean (cond b [] (codes "ask" ∷ map decimal (slots set))) ≡ Some (seen.Hosted mean set)
+hosted_if :
+    (mean set : ℕ) (b : Bool) → set < 2 ^ 64 → eqb set 0 ≡ b
+    → hosted_behind mean (cond b [] (codes "ask" ∷ map decimal (slots set))) ≡ Some (seen.Hosted mean set)
 hosted_if mean set true l is = ap (λ n. Some (seen.Hosted mean n)) (sym (eqb-true set 0 is))
 hosted_if mean set false l is = bound (slots_of (map decimal (slots set))) (λ n. Some (seen.Hosted mean n)) set (slots_of-back set l is)
 
-hosted-back : (s : Sizes) (l : Lender) (u w mean set : ℕ) → mean < 2 ^ 64 → set < 2 ^ 64 → told_of s (event.Host l u w) (decimal mean ∷ slots_behind (codes "ask") set) ≡ Some (Saw (seen.Hosted mean set))
+hosted-back :
+    (s : Sizes) (l : Lender) (u w mean set : ℕ) → mean < 2 ^ 64 → set < 2 ^ 64
+    → told_of s (event.Host l u w) (decimal mean ∷ slots_behind (codes "ask") set) ≡ Some (Saw (seen.Hosted mean set))
 hosted-back s l u w mean set lm ls =
     else_if (is_word (codes "entry") (decimal mean)) _ _ (is_not_decimal (codes "entry") mean refl lm)
     ∙ ap (option_map Saw) (else_if (is_word (codes "-") (decimal mean)) _ _ (is_not_decimal (codes "-") mean refl lm)
-    ∙ bound (number (decimal mean)) (λ n. hosted_behind n (slots_behind (codes "ask") set)) mean (number_again mean lm) ∙ hosted_if mean set (eqb set 0) ls refl)
+    ∙ bound (number (decimal mean)) (λ n. hosted_behind n (slots_behind (codes "ask") set)) mean (number_again mean lm)
+    ∙ hosted_if mean set (eqb set 0) ls refl)
 
-rounded-back : (s : Sizes) (w effects mapped : ℕ) → effects < 2 ^ 32 → mapped < 2 ^ 32 → told_of s (event.Round w) (decimal effects ∷ codes "mapped" ∷ decimal mapped ∷ []) ≡ Some (Saw (seen.Rounded effects mapped))
+rounded-back :
+    (s : Sizes) (w effects mapped : ℕ) → effects < 2 ^ 32 → mapped < 2 ^ 32
+    → told_of s (event.Round w) (decimal effects ∷ codes "mapped" ∷ decimal mapped ∷ []) ≡ Some (Saw (seen.Rounded effects mapped))
 rounded-back s w effects mapped le lm =
     else_if (is_word (codes "entry") (decimal effects)) _ _ (is_not_decimal (codes "entry") effects refl (omega arith))
-    ∙ ap (option_map Saw) (bound (small (decimal effects)) (λ n. option_and_then (λ behind. one_number (λ m. seen.Rounded n m) behind) (word_at (codes "mapped") (codes "mapped" ∷ decimal mapped ∷ []))) effects (small-back effects le) ∙ last-back (λ m. seen.Rounded effects m) mapped lm)
+    ∙ ap (option_map Saw)
+    (bound (small (decimal effects))
+    (λ n. option_and_then (λ behind. one_number (λ m. seen.Rounded n m) behind) (word_at (codes "mapped") (codes "mapped" ∷ decimal mapped ∷ []))) effects
+    (small-back effects le)
+    ∙ last-back (λ m. seen.Rounded effects m) mapped lm)
 
 seen-back : (s : Sizes) (e : Event) (x : Seen) → MaySee s e x → told_of s e (seen_words [] x) ≡ Some (Saw x)
 seen-back s (event.PageOut c p) seen.Room h = refl
@@ -175,7 +211,8 @@ seen-back s (event.Connect l) (seen.Linked n) h = ap (option_map Saw) (last-back
 seen-back s (event.Connect l) seen.Nothing h = refl
 seen-back s (event.Connect l) x h = absurd h
 seen-back s (event.Give l) (seen.Gave m reply evicted) h =
-    ap (told_of s (event.Give l)) (append_assoc (msg_words m) (reply_words reply) (evicted_words evicted)) ∙ give-behind s l m (reply_words reply ++ evicted_words evicted) h.0 ∙ ap (option_map Saw) (gave-back s m reply evicted h.1 h.2)
+    ap (told_of s (event.Give l)) (append_assoc (msg_words m) (reply_words reply) (evicted_words evicted))
+    ∙ give-behind s l m (reply_words reply ++ evicted_words evicted) h.0 ∙ ap (option_map Saw) (gave-back s m reply evicted h.1 h.2)
 seen-back s (event.Give l) seen.GaveEnd h = refl
 seen-back s (event.Give l) (seen.GaveEnded m) h = give-behind s l m (codes "ended" ∷ []) h
 seen-back s (event.Give l) seen.Nothing h = refl
@@ -202,9 +239,13 @@ seen-back s (event.Round w) x h = absurd h
 pub told_of-back : (s : Sizes) (e : Event) (t : Told) → MayTell s e t → told_of s e (told_words t) ≡ Some t
 told_of-back s e (Saw x) h = seen-back s e x h
 told_of-back s e (Entered shown) h =
-    bound (entry_of s.page_bytes (decimal shown.no.0 ∷ (op_words shown.page.0 shown.bytes shown.op ++ sent_words shown.sent))) (λ x. cond (agrees e x) (Some (Entered x)) None) shown (entry_of-back s.page_bytes shown h.1) ∙ cond_true (agrees e shown) (Some (Entered shown)) None h.0
+    bound (entry_of s.page_bytes (decimal shown.no.0 ∷ (op_words shown.page.0 shown.bytes shown.op ++ sent_words shown.sent)))
+    (λ x. cond (agrees e x) (Some (Entered x)) None) shown (entry_of-back s.page_bytes shown h.1)
+    ∙ cond_true (agrees e shown) (Some (Entered shown)) None h.0
 
 pub pair_of-back : (s : Sizes) (pair : Pair) → HasPairWords s pair → pair_of s (pair_words pair) ≡ Some pair
 pair_of-back s pair h =
-    bound (event_at (pair_words pair)) (λ e. pair_behind s e.0 e.1) (pair.event, codes "=" ∷ told_words pair.told) (event_at-back pair.event (codes "=" ∷ told_words pair.told) h.event)
-    ∙ bound (told_of s pair.event (told_words pair.told)) (λ told. Some (record { event = pair.event; told = told })) pair.told (told_of-back s pair.event pair.told h.told)
+    bound (event_at (pair_words pair)) (λ e. pair_behind s e.0 e.1) (pair.event, codes "=" ∷ told_words pair.told)
+    (event_at-back pair.event (codes "=" ∷ told_words pair.told) h.event)
+    ∙ bound (told_of s pair.event (told_words pair.told)) (λ told. Some (record { event = pair.event; told = told })) pair.told
+    (told_of-back s pair.event pair.told h.told)

@@ -56,14 +56,18 @@ last_number-only words n e =
     let a = bind_some (small_at words) whole n e in
     subst (λ y. Number (2 ^ 32) words y.0 y.1) (whole-only a.0 n a.2) (small_at-only words a.0 a.1)
 
-number-row : (s : Sizes) (e : Event) (name : List ℕ) (f : ℕ → Seen) → ((n : ℕ) → name ∷ decimal n ∷ [] ≡ seen_words [] (f n)) → ((n : ℕ) → n < 2 ^ 32 → MaySee s e (f n)) → RowSays (Sees s e) (row name (one_number f))
+number-row :
+    (s : Sizes) (e : Event) (name : List ℕ) (f : ℕ → Seen) → ((n : ℕ) → name ∷ decimal n ∷ [] ≡ seen_words [] (f n)) → ((n : ℕ) → n < 2 ^ 32 → MaySee s e (f n))
+    → RowSays (Sees s e) (row name (one_number f))
 number-row s e name f spells fits words x is =
     let n = bind_some (last_number words) (λ n. Some (f n)) x is in
     let one = last_number-only words n.0 n.1 in
     let same : f n.0 ≡ x = cc in
     subst (Sees s e (name ∷ words)) same (fits n.0 one.within, ap (λ w. name ∷ w) one.spelled ∙ spells n.0)
 
-numbers-row : (s : Sizes) (e : Event) (name : List ℕ) (f : ℕ → ℕ → Seen) → ((a b : ℕ) → name ∷ decimal a ∷ decimal b ∷ [] ≡ seen_words [] (f a b)) → ((a b : ℕ) → a < 2 ^ 32 → b < 2 ^ 32 → MaySee s e (f a b)) → RowSays (Sees s e) (row name (two_numbers f))
+numbers-row :
+    (s : Sizes) (e : Event) (name : List ℕ) (f : ℕ → ℕ → Seen) → ((a b : ℕ) → name ∷ decimal a ∷ decimal b ∷ [] ≡ seen_words [] (f a b))
+    → ((a b : ℕ) → a < 2 ^ 32 → b < 2 ^ 32 → MaySee s e (f a b)) → RowSays (Sees s e) (row name (two_numbers f))
 numbers-row s e name f spells fits words x is =
     let t = bind_some (two_of f words) whole x is in
     let two = two-only f words t.0 t.1 in
@@ -99,7 +103,9 @@ again-row s e may words x is =
     subst (Sees s e (codes "again" ∷ words)) same (may v.0 one.0, ap (λ w. codes "again" ∷ w) one.1)
 
 -- whom a tick asked
-second-only : (s : Sizes) (w slab first : ℕ) (words : Words) (x : Seen) → slab < 2 ^ 32 → first < 2 ^ 32 → second_of slab first words ≡ Some x → Sees s (event.Tick w) (codes "ask" ∷ decimal slab ∷ decimal first ∷ words) x
+second-only :
+    (s : Sizes) (w slab first : ℕ) (words : Words) (x : Seen) → slab < 2 ^ 32 → first < 2 ^ 32 → second_of slab first words ≡ Some x
+    → Sees s (event.Tick w) (codes "ask" ∷ decimal slab ∷ decimal first ∷ words) x
 second-only s w slab first [] x ls lf is =
     let same : seen.Asked (record { 0 = slab }) (record { 0 = first }) None ≡ x = cc in
     subst (Sees s (event.Tick w) (codes "ask" ∷ decimal slab ∷ decimal first ∷ [])) same ((ls, lf, tt), refl)
@@ -107,7 +113,8 @@ second-only s w slab first (word ∷ words) x ls lf is =
     let n = bind_some (last_number (word ∷ words)) (λ n. Some (seen.Asked (record { 0 = slab }) (record { 0 = first }) (Some (record { 0 = n })))) x is in
     let one = last_number-only (word ∷ words) n.0 n.1 in
     let same : seen.Asked (record { 0 = slab }) (record { 0 = first }) (Some (record { 0 = n.0 })) ≡ x = cc in
-    subst (Sees s (event.Tick w) (codes "ask" ∷ decimal slab ∷ decimal first ∷ word ∷ words)) same ((ls, lf, one.within), ap (λ r. codes "ask" ∷ decimal slab ∷ decimal first ∷ r) one.spelled)
+    subst (Sees s (event.Tick w) (codes "ask" ∷ decimal slab ∷ decimal first ∷ word ∷ words)) same
+    ((ls, lf, one.within), ap (λ r. codes "ask" ∷ decimal slab ∷ decimal first ∷ r) one.spelled)
 
 asked-row : (s : Sizes) (w : ℕ) → RowSays (Sees s (event.Tick w)) (row (codes "ask") asked_of)
 asked-row s w words x is =
@@ -115,39 +122,59 @@ asked-row s w words x is =
     let first = bind_some (small_at slab.0.1) (λ b. second_of slab.0.0 b.0 b.1) x slab.2 in
     let one = small_at-only words slab.0 slab.1 in
     let two = small_at-only slab.0.1 first.0 first.1 in
-    subst (λ r. Sees s (event.Tick w) (codes "ask" ∷ r) x) (sym (one.spelled ∙ ap (λ r. decimal slab.0.0 ∷ r) two.spelled)) (second-only s w slab.0.0 first.0.0 first.0.1 x one.within two.within first.2)
+    subst (λ r. Sees s (event.Tick w) (codes "ask" ∷ r) x) (sym (one.spelled ∙ ap (λ r. decimal slab.0.0 ∷ r) two.spelled))
+    (second-only s w slab.0.0 first.0.0 first.0.1 x one.within two.within first.2)
 
 -- what a lender did with a message
-evicted_of-only : (s : Sizes) (l : Lender) (m : Msg) (reply : Option Msg) (words : Words) (x : Seen) → HasMsgWords s m → IfSome reply (HasMsgWords s) → evicted_of m reply words ≡ Some x → Sees s (event.Give l) (msg_words m ++ (reply_words reply ++ words)) x
+evicted_of-only :
+    (s : Sizes) (l : Lender) (m : Msg) (reply : Option Msg) (words : Words) (x : Seen) → HasMsgWords s m → IfSome reply (HasMsgWords s)
+    → evicted_of m reply words ≡ Some x → Sees s (event.Give l) (msg_words m ++ (reply_words reply ++ words)) x
 evicted_of-only s l m reply [] x hm hr is =
     let same : seen.Gave m reply 0 ≡ x = cc in
-    subst (Sees s (event.Give l) (msg_words m ++ (reply_words reply ++ []))) same ((hm, hr, omega arith), sym (append_assoc (msg_words m) (reply_words reply) []))
+    subst (Sees s (event.Give l) (msg_words m ++ (reply_words reply ++ []))) same
+    ((hm, hr, omega arith), sym (append_assoc (msg_words m) (reply_words reply) []))
 evicted_of-only s l m reply (word ∷ words) x hm hr is =
     let c = cond_then (is_word (codes "evict") word) (option_and_then (λ set. Some (seen.Gave m reply set)) (slots_of words)) x is in
     let set = bind_some (slots_of words) (λ set. Some (seen.Gave m reply set)) x c.1 in
     let slot = slots_of-only words set.0 set.1 in
     let same : seen.Gave m reply set.0 ≡ x = cc in
-    let spelled : word ∷ words ≡ evicted_words set.0 = ap (λ w. w ∷ words) (sym ((bytes_eq-Decides (codes "evict") word).0 c.0)) ∙ ap (λ w. codes "evict" ∷ w) slot.spelled ∙ sym (ap (λ b. cond b [] (codes "evict" ∷ map decimal (slots set.0))) slot.some) in
-    subst (Sees s (event.Give l) (msg_words m ++ (reply_words reply ++ word ∷ words))) same ((hm, hr, slot.small), ap (λ r. msg_words m ++ (reply_words reply ++ r)) spelled ∙ sym (append_assoc (msg_words m) (reply_words reply) (evicted_words set.0)))
+    let spelled : word ∷ words ≡ evicted_words set.0 =
+    ap (λ w. w ∷ words) (sym ((bytes_eq-Decides (codes "evict") word).0 c.0)) ∙ ap (λ w. codes "evict" ∷ w) slot.spelled
+    ∙ sym (ap (λ b. cond b [] (codes "evict" ∷ map decimal (slots set.0))) slot.some) in
+    subst (Sees s (event.Give l) (msg_words m ++ (reply_words reply ++ word ∷ words))) same (
+      (hm, hr, slot.small),
+      ap (λ r. msg_words m ++ (reply_words reply ++ r)) spelled ∙ sym (append_assoc (msg_words m) (reply_words reply) (evicted_words set.0)),
+    )
 
-reply_of-only : (s : Sizes) (l : Lender) (m : Msg) (words : Words) (x : Seen) → HasMsgWords s m → reply_of s m words ≡ Some x → Sees s (event.Give l) (msg_words m ++ codes ">" ∷ words) x
+reply_of-only :
+    (s : Sizes) (l : Lender) (m : Msg) (words : Words) (x : Seen) → HasMsgWords s m → reply_of s m words ≡ Some x
+    → Sees s (event.Give l) (msg_words m ++ codes ">" ∷ words) x
 reply_of-only s l m words x hm is =
     let reply = bind_some (msg_at s words) (λ reply. evicted_of m (Some reply.0) reply.1) x is in
     let one = msg_at-only s words reply.0 reply.1 in
     subst (λ r. Sees s (event.Give l) (msg_words m ++ codes ">" ∷ r) x) (sym one.1) (evicted_of-only s l m (Some reply.0.0) reply.0.1 x hm one.0 reply.2)
 
-ended_of-only : (s : Sizes) (l : Lender) (m : Msg) (words : Words) (x : Seen) → HasMsgWords s m → ended_of m words ≡ Some x → Sees s (event.Give l) (msg_words m ++ codes "ended" ∷ words) x
+ended_of-only :
+    (s : Sizes) (l : Lender) (m : Msg) (words : Words) (x : Seen) → HasMsgWords s m → ended_of m words ≡ Some x
+    → Sees s (event.Give l) (msg_words m ++ codes "ended" ∷ words) x
 ended_of-only s l m [] x hm is =
     let same : seen.GaveEnded m ≡ x = cc in
     subst (Sees s (event.Give l) (msg_words m ++ codes "ended" ∷ [])) same (hm, refl)
 ended_of-only s l m (word ∷ words) x hm is = cc
 
-behind_if : (s : Sizes) (l : Lender) (m : Msg) (word : List ℕ) (words : Words) (x : Seen) (b c : Bool) → HasMsgWords s m → is_word (codes ">") word ≡ b → is_word (codes "ended") word ≡ c → cond b (reply_of s m words) (cond c (ended_of m words) (evicted_of m None (word ∷ words))) ≡ Some x → Sees s (event.Give l) (msg_words m ++ word ∷ words) x
-behind_if s l m word words x true c hm is other e = subst (λ w. Sees s (event.Give l) (msg_words m ++ w ∷ words) x) ((bytes_eq-Decides (codes ">") word).0 is) (reply_of-only s l m words x hm e)
-behind_if s l m word words x false true hm is other e = subst (λ w. Sees s (event.Give l) (msg_words m ++ w ∷ words) x) ((bytes_eq-Decides (codes "ended") word).0 other) (ended_of-only s l m words x hm e)
+behind_if :
+    (s : Sizes) (l : Lender) (m : Msg) (word : List ℕ) (words : Words) (x : Seen) (b c : Bool) → HasMsgWords s m → is_word (codes ">") word ≡ b
+    → is_word (codes "ended") word ≡ c → cond b (reply_of s m words) (cond c (ended_of m words) (evicted_of m None (word ∷ words))) ≡ Some x
+    → Sees s (event.Give l) (msg_words m ++ word ∷ words) x
+behind_if s l m word words x true c hm is other e =
+    subst (λ w. Sees s (event.Give l) (msg_words m ++ w ∷ words) x) ((bytes_eq-Decides (codes ">") word).0 is) (reply_of-only s l m words x hm e)
+behind_if s l m word words x false true hm is other e =
+    subst (λ w. Sees s (event.Give l) (msg_words m ++ w ∷ words) x) ((bytes_eq-Decides (codes "ended") word).0 other) (ended_of-only s l m words x hm e)
 behind_if s l m word words x false false hm is other e = evicted_of-only s l m None (word ∷ words) x hm tt e
 
-gave_behind-only : (s : Sizes) (l : Lender) (m : Msg) (words : Words) (x : Seen) → HasMsgWords s m → gave_behind s m words ≡ Some x → Sees s (event.Give l) (msg_words m ++ words) x
+gave_behind-only :
+    (s : Sizes) (l : Lender) (m : Msg) (words : Words) (x : Seen) → HasMsgWords s m → gave_behind s m words ≡ Some x
+    → Sees s (event.Give l) (msg_words m ++ words) x
 gave_behind-only s l m [] x hm is =
     let same : seen.Gave m None 0 ≡ x = cc in
     subst (Sees s (event.Give l) (msg_words m ++ [])) same ((hm, tt, omega arith), sym (append-nil (msg_words m ++ [])))
@@ -169,7 +196,9 @@ took_of-only s l word words x is =
     subst (Sees s (event.Take l) (word ∷ words)) same (read.0, read.1 ∙ append-nil (msg_words msg.0))
 
 -- the mean of a host, and the slots that were asked
-hosted_behind-only : (s : Sizes) (l : Lender) (u w mean : ℕ) (words : Words) (x : Seen) → mean < 2 ^ 64 → hosted_behind mean words ≡ Some x → Sees s (event.Host l u w) (decimal mean ∷ words) x
+hosted_behind-only :
+    (s : Sizes) (l : Lender) (u w mean : ℕ) (words : Words) (x : Seen) → mean < 2 ^ 64 → hosted_behind mean words ≡ Some x
+    → Sees s (event.Host l u w) (decimal mean ∷ words) x
 hosted_behind-only s l u w mean [] x lm is =
     let same : seen.Hosted mean 0 ≡ x = cc in
     subst (Sees s (event.Host l u w) (decimal mean ∷ [])) same ((lm, omega arith), refl)
@@ -178,10 +207,13 @@ hosted_behind-only s l u w mean (word ∷ words) x lm is =
     let set = bind_some (slots_of words) (λ set. Some (seen.Hosted mean set)) x c.1 in
     let slot = slots_of-only words set.0 set.1 in
     let same : seen.Hosted mean set.0 ≡ x = cc in
-    let spelled : word ∷ words ≡ slots_behind (codes "ask") set.0 = ap (λ w. w ∷ words) (sym ((bytes_eq-Decides (codes "ask") word).0 c.0)) ∙ ap (λ w. codes "ask" ∷ w) slot.spelled ∙ sym (ap (λ b. cond b [] (codes "ask" ∷ map decimal (slots set.0))) slot.some) in
+    let spelled : word ∷ words ≡ slots_behind (codes "ask") set.0 =
+    ap (λ w. w ∷ words) (sym ((bytes_eq-Decides (codes "ask") word).0 c.0)) ∙ ap (λ w. codes "ask" ∷ w) slot.spelled
+    ∙ sym (ap (λ b. cond b [] (codes "ask" ∷ map decimal (slots set.0))) slot.some) in
     subst (Sees s (event.Host l u w) (decimal mean ∷ word ∷ words)) same ((lm, slot.small), ap (λ r. decimal mean ∷ r) spelled)
 
-hosted_of-only : (s : Sizes) (l : Lender) (u w : ℕ) (word : List ℕ) (words : Words) (x : Seen) → hosted_of word words ≡ Some x → Sees s (event.Host l u w) (word ∷ words) x
+hosted_of-only :
+    (s : Sizes) (l : Lender) (u w : ℕ) (word : List ℕ) (words : Words) (x : Seen) → hosted_of word words ≡ Some x → Sees s (event.Host l u w) (word ∷ words) x
 hosted_of-only s l u w word words x is =
     let mean = bind_some (number word) (λ mean. hosted_behind mean words) x is in
     let one = number_one word mean.0 mean.1 in
@@ -189,14 +221,19 @@ hosted_of-only s l u w word words x is =
 
 rounded_of-only : (s : Sizes) (w : ℕ) (word : List ℕ) (words : Words) (x : Seen) → rounded_of word words ≡ Some x → Sees s (event.Round w) (word ∷ words) x
 rounded_of-only s w word words x is =
-    let effects = bind_some (small word) (λ effects. option_and_then (λ behind. one_number (λ mapped. seen.Rounded effects mapped) behind) (word_at (codes "mapped") words)) x is in
+    let effects =
+    bind_some (small word)
+    (λ effects. option_and_then (λ behind. one_number (λ mapped. seen.Rounded effects mapped) behind) (word_at (codes "mapped") words)) x is in
     let behind = bind_some (word_at (codes "mapped") words) (λ behind. one_number (λ mapped. seen.Rounded effects.0 mapped) behind) x effects.2 in
     let mapped = bind_some (last_number behind.0) (λ mapped. Some (seen.Rounded effects.0 mapped)) x behind.2 in
     let first = small-only word effects.0 effects.1 in
     let last = last_number-only behind.0 mapped.0 mapped.1 in
     let same : seen.Rounded effects.0 mapped.0 ≡ x = cc in
-    subst (Sees s (event.Round w) (word ∷ words)) same
-    ((first.1, last.within), ap (λ r. r ∷ words) first.0 ∙ ap (λ r. decimal effects.0 ∷ r) (word_at-only (codes "mapped") words behind.0 behind.1 ∙ ap (λ r. codes "mapped" ∷ r) last.spelled))
+    subst (Sees s (event.Round w) (word ∷ words)) same (
+      (first.1, last.within),
+      ap (λ r. r ∷ words) first.0
+          ∙ ap (λ r. decimal effects.0 ∷ r) (word_at-only (codes "mapped") words behind.0 behind.1 ∙ ap (λ r. codes "mapped" ∷ r) last.spelled),
+    )
 
 -- each kind of event
 seen_of-only : (s : Sizes) (e : Event) (word : List ℕ) (words : Words) (x : Seen) → seen_of s e word words ≡ Some x → Sees s e (word ∷ words) x
@@ -342,18 +379,23 @@ seen_of-only s (event.Host l u w) word words x is =
     (hosted_of-only s l u w) word words x is
 seen_of-only s (event.Round w) word words x is = rounded_of-only s w word words x is
 
-saw_only : (s : Sizes) (e : Event) (word : List ℕ) (words : Words) (t : Told) (o : Option Seen) → seen_of s e word words ≡ o → option_map Saw o ≡ Some t → MayTell s e t × (word ∷ words ≡ told_words t)
+saw_only :
+    (s : Sizes) (e : Event) (word : List ℕ) (words : Words) (t : Told) (o : Option Seen) → seen_of s e word words ≡ o → option_map Saw o ≡ Some t
+    → MayTell s e t × (word ∷ words ≡ told_words t)
 saw_only s e word words t None is read = cc
 saw_only s e word words t (Some x) is read =
     let same : Saw x ≡ t = cc in
     subst (λ o. MayTell s e o × (word ∷ words ≡ told_words o)) same (seen_of-only s e word words x is)
 
-told_if : (s : Sizes) (e : Event) (word : List ℕ) (words : Words) (t : Told) (b : Bool) → is_word (codes "entry") word ≡ b → cond b (entered_at s.page_bytes e words) (option_map Saw (seen_of s e word words)) ≡ Some t → MayTell s e t × (word ∷ words ≡ told_words t)
+told_if :
+    (s : Sizes) (e : Event) (word : List ℕ) (words : Words) (t : Told) (b : Bool) → is_word (codes "entry") word ≡ b
+    → cond b (entered_at s.page_bytes e words) (option_map Saw (seen_of s e word words)) ≡ Some t → MayTell s e t × (word ∷ words ≡ told_words t)
 told_if s e word words t true is read =
     let shown = bind_some (entry_of s.page_bytes words) (λ shown. cond (agrees e shown) (Some (Entered shown)) None) t read in
     let one = entry_of-only s.page_bytes words shown.0 shown.1 in
     let c = cond_some (agrees e shown.0) (Entered shown.0) t shown.2 in
-    subst (λ o. MayTell s e o × (word ∷ words ≡ told_words o)) c.1 ((c.0, one.0), ap (λ w. w ∷ words) (sym ((bytes_eq-Decides (codes "entry") word).0 is)) ∙ one.1)
+    subst (λ o. MayTell s e o × (word ∷ words ≡ told_words o)) c.1
+    ((c.0, one.0), ap (λ w. w ∷ words) (sym ((bytes_eq-Decides (codes "entry") word).0 is)) ∙ one.1)
 told_if s e word words t false is read = saw_only s e word words t (seen_of s e word words) refl read
 
 pub told_of-only : (s : Sizes) (e : Event) (words : Words) (t : Told) → told_of s e words ≡ Some t → MayTell s e t × (words ≡ told_words t)
@@ -364,10 +406,14 @@ told_of-only s e (word ∷ words) t is = told_if s e word words t (is_word (code
 pub pair_of-only : (s : Sizes) (words : Words) (pair : Pair) → pair_of s words ≡ Some pair → HasPairWords s pair × (words ≡ pair_words pair)
 pair_of-only s words pair is =
     let e = bind_some (event_at words) (λ e. pair_behind s e.0 e.1) pair is in
-    let behind = bind_some (word_at (codes "=") e.0.1) (λ behind. option_and_then (λ told. Some (record { event = e.0.0; told = told })) (told_of s e.0.0 behind)) pair e.2 in
+    let behind =
+    bind_some (word_at (codes "=") e.0.1)
+    (λ behind. option_and_then (λ told. Some (record { event = e.0.0; told = told })) (told_of s e.0.0 behind)) pair e.2 in
     let told = bind_some (told_of s e.0.0 behind.0) (λ told. Some (record { event = e.0.0; told = told })) pair behind.2 in
     let first = event_at-only words e.0 e.1 in
     let last = told_of-only s e.0.0 behind.0 told.0 told.1 in
     let same : record { event = e.0.0; told = told.0 } ≡ pair = cc in
-    subst (λ p. HasPairWords s p × (words ≡ pair_words p)) same
-    (record { event = first.0; told = last.0 }, first.1 ∙ ap (λ r. event_words e.0.0 ++ r) (word_at-only (codes "=") e.0.1 behind.0 behind.1 ∙ ap (λ r. codes "=" ∷ r) last.1))
+    subst (λ p. HasPairWords s p × (words ≡ pair_words p)) same (
+      record { event = first.0; told = last.0 },
+      first.1 ∙ ap (λ r. event_words e.0.0 ++ r) (word_at-only (codes "=") e.0.1 behind.0 behind.1 ∙ ap (λ r. codes "=" ∷ r) last.1),
+    )

@@ -28,7 +28,8 @@ Empty set least = (i : ℕ) → least ≤ i → i < 64 → has set i ≡ false
 none_upwards : (set least many : ℕ) → least + many ≤ 64 → Empty set least → upwards set least many ≡ []
 none_upwards set least zero l h = refl
 none_upwards set least (suc many) l h =
-    ap₂ (λ b rest. cond b (least ∷ rest) rest) (h least (omega arith) (omega arith)) (none_upwards set (least + 1) many (omega arith) (λ i low high. h i (omega arith) high))
+    ap₂ (λ b rest. cond b (least ∷ rest) rest) (h least (omega arith) (omega arith))
+    (none_upwards set (least + 1) many (omega arith) (λ i low high. h i (omega arith) high))
 
 or_false : (b : Bool) → (b || false) ≡ b
 or_false true = refl
@@ -48,13 +49,19 @@ has_this : (set slot : ℕ) → has (bit_or set (2 ^ slot)) slot ≡ true
 has_this set slot = has_more set slot slot ∙ ap (λ b. has set slot || b) (eq-eqb slot slot refl) ∙ or_true (has set slot)
 
 -- the first that is there
-first_upwards : (set least slot many rest : ℕ) → least ≤ slot → least + many ≡ slot + 1 + rest → least + many ≤ 64 → ((i : ℕ) → least ≤ i → i < slot → has set i ≡ false) → has set slot ≡ true
+first_upwards :
+    (set least slot many rest : ℕ) → least ≤ slot → least + many ≡ slot + 1 + rest → least + many ≤ 64 → ((i : ℕ) → least ≤ i → i < slot → has set i ≡ false)
+    → has set slot ≡ true
     → upwards set least many ≡ slot ∷ upwards set (slot + 1) rest
 first_upwards set least slot zero rest low same l none is = absurd (omega arith)
 first_upwards set least slot (suc many) rest low same l none is =
     elim (cases_eq least slot) [
-      | inl here ↦ ap (λ b. cond b (least ∷ upwards set (least + 1) many) (upwards set (least + 1) many)) (ap (has set) here ∙ is) ∙ ap₂ (λ a m. a ∷ upwards set (a + 1) m) here (omega arith)
-      | inr later ↦ ap (λ b. cond b (least ∷ upwards set (least + 1) many) (upwards set (least + 1) many)) (none least (omega arith) (omega arith)) ∙ first_upwards set (least + 1) slot many rest (omega arith) (omega arith) (omega arith) (λ i a b. none i (omega arith) b) is
+      | inl here ↦
+          ap (λ b. cond b (least ∷ upwards set (least + 1) many) (upwards set (least + 1) many)) (ap (has set) here ∙ is)
+          ∙ ap₂ (λ a m. a ∷ upwards set (a + 1) m) here (omega arith)
+      | inr later ↦
+          ap (λ b. cond b (least ∷ upwards set (least + 1) many) (upwards set (least + 1) many)) (none least (omega arith) (omega arith))
+          ∙ first_upwards set (least + 1) slot many rest (omega arith) (omega arith) (omega arith) (λ i a b. none i (omega arith) b) is
     ]
 
 -- what was read: the slots below are as before, and the words are those of the others
@@ -66,7 +73,8 @@ record ReadFrom (least set r : ℕ) (words : Words) : Type 0 where
 slots_from-only : (words : Words) (least set r : ℕ) → least ≤ 64 → Empty set least → slots_from least set words ≡ Some r → ReadFrom least set r words
 slots_from-only [] least set r l empty e =
     let same : set ≡ r = cc in
-    subst (λ x. ReadFrom least set x []) same (record { same = λ i a. refl; spelled = sym (ap (map decimal) (none_upwards set least (64 - least) (omega arith) empty)); small = λ a. a })
+    subst (λ x. ReadFrom least set x []) same
+    (record { same = λ i a. refl; spelled = sym (ap (map decimal) (none_upwards set least (64 - least) (omega arith) empty)); small = λ a. a })
 slots_from-only (word ∷ words) least set r l empty e =
     let read = bind_some (small word) (λ slot. cond (nat_le least slot && nat_lt slot 64) (slots_from (slot + 1) (bit_or set (2 ^ slot)) words) None) r e in
     let slot = read.0 in
@@ -76,7 +84,10 @@ slots_from-only (word ∷ words) least set r l empty e =
     let low : least ≤ slot = leb-true least slot parts.0 in
     let high : slot < 64 = ltb-true slot 64 parts.1 in
     let later = slots_from-only words (slot + 1) more r (omega arith) (λ i a b. has_other set slot i (omega arith) ∙ empty i (omega arith) b) c.1 in
-    let first = first_upwards r least slot (64 - least) (64 - (slot + 1)) low (omega arith) (omega arith) (λ i a b. later.same i (omega arith) ∙ has_other set slot i (omega arith) ∙ empty i a (omega arith)) (later.same slot (omega arith) ∙ has_this set slot) in
+    let first =
+    first_upwards r least slot (64 - least) (64 - (slot + 1)) low (omega arith) (omega arith)
+    (λ i a b. later.same i (omega arith) ∙ has_other set slot i (omega arith) ∙ empty i a (omega arith))
+    (later.same slot (omega arith) ∙ has_this set slot) in
     record {
       same = λ i a. later.same i (omega arith) ∙ has_other set slot i (omega arith);
       spelled = ap (λ w. w ∷ words) (small-only word slot read.1).0 ∙ ap (λ ws. decimal slot ∷ ws) later.spelled ∙ sym (ap (map decimal) first);
@@ -111,14 +122,23 @@ agree_less set part least i is out l agree =
 
 -- what is left to be shown of the slots from one on
 abbrev ReadsBack : ℕ → ℕ → ℕ → Type 0
-ReadsBack set least many = (low part : ℕ) → low ≤ least → part < 2 ^ 64 → Agree part set least → Empty part least → slots_from low part (map decimal (upwards set least many)) ≡ Some set
+ReadsBack set least many =
+    (low part : ℕ) → low ≤ least → part < 2 ^ 64 → Agree part set least → Empty part least
+    → slots_from low part (map decimal (upwards set least many)) ≡ Some set
 
-back_at : (many least set low part : ℕ) (b : Bool) → ReadsBack set (least + 1) many → has set least ≡ b → low ≤ least → least < 64 → part < 2 ^ 64 → Agree part set least → Empty part least
+back_at :
+    (many least set low part : ℕ) (b : Bool) → ReadsBack set (least + 1) many → has set least ≡ b → low ≤ least → least < 64 → part < 2 ^ 64
+    → Agree part set least → Empty part least
     → slots_from low part (map decimal (cond b (least ∷ upwards set (least + 1) many) (upwards set (least + 1) many))) ≡ Some set
 back_at many least set low part true later is l within smaller agree empty =
-    bound (small (decimal least)) (λ slot. cond (nat_le low slot && nat_lt slot 64) (slots_from (slot + 1) (bit_or part (2 ^ slot)) (map decimal (upwards set (least + 1) many))) None) least (small-back least (omega arith))
-    ∙ ap (λ b. cond b (slots_from (least + 1) (bit_or part (2 ^ least)) (map decimal (upwards set (least + 1) many))) None) (and_from (nat_le low least) (nat_lt least 64) (le-leb low least l) (lt-ltb least 64 within))
-    ∙ later (least + 1) (bit_or part (2 ^ least)) (omega arith) (or_lt 64 part (2 ^ least) smaller (pow_below least 64 within)) (λ i a. agree_more set part least i is a agree) (λ i a b. has_other part least i (omega arith) ∙ empty i (omega arith) b)
+    bound (small (decimal least))
+    (λ slot. cond (nat_le low slot && nat_lt slot 64) (slots_from (slot + 1) (bit_or part (2 ^ slot)) (map decimal (upwards set (least + 1) many))) None)
+    least
+    (small-back least (omega arith))
+    ∙ ap (λ b. cond b (slots_from (least + 1) (bit_or part (2 ^ least)) (map decimal (upwards set (least + 1) many))) None)
+    (and_from (nat_le low least) (nat_lt least 64) (le-leb low least l) (lt-ltb least 64 within))
+    ∙ later (least + 1) (bit_or part (2 ^ least)) (omega arith) (or_lt 64 part (2 ^ least) smaller (pow_below least 64 within))
+    (λ i a. agree_more set part least i is a agree) (λ i a b. has_other part least i (omega arith) ∙ empty i (omega arith) b)
 back_at many least set low part false later is l within smaller agree empty =
     later low part (omega arith) smaller (λ i a. agree_less set part least i is (empty least (omega arith) within) a agree) (λ i a b. empty i (omega arith) b)
 
@@ -152,10 +172,12 @@ slots_of-only words set e =
     let read = bind_some (slots_from 0 0 words) (λ set. cond (eqb set 0) None (Some set)) set e in
     let same = not_zero read.0 set (eqb read.0 0) refl read.2 in
     let from = slots_from-only words 0 0 read.0 (omega arith) (none_yet 0) read.1 in
-    subst (λ s. AreSlots s words) same.0 (record { small = from.small (omega arith); some = ap (λ n. eqb n 0) same.0 ∙ same.1; spelled = from.spelled ∙ ap (map decimal) (whole_slots read.0) })
+    subst (λ s. AreSlots s words) same.0
+    (record { small = from.small (omega arith); some = ap (λ n. eqb n 0) same.0 ∙ same.1; spelled = from.spelled ∙ ap (map decimal) (whole_slots read.0) })
 
 pub slots_of-back : (set : ℕ) → set < 2 ^ 64 → eqb set 0 ≡ false → slots_of (map decimal (slots set)) ≡ Some set
 slots_of-back set small some =
     ap (λ s. slots_of (map decimal s)) (sym (whole_slots set))
-    ∙ bound (slots_from 0 0 (map decimal (upwards set 0 64))) (λ set. cond (eqb set 0) None (Some set)) set (slots_from-back 64 0 set refl small 0 0 (omega arith) (omega arith) (λ i a. absurd (omega arith)) (none_yet 0))
+    ∙ bound (slots_from 0 0 (map decimal (upwards set 0 64))) (λ set. cond (eqb set 0) None (Some set)) set
+    (slots_from-back 64 0 set refl small 0 0 (omega arith) (omega arith) (λ i a. absurd (omega arith)) (none_yet 0))
     ∙ ap (λ b. cond b None (Some set)) some

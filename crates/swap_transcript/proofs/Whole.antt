@@ -53,12 +53,16 @@ spec_words-only (a ∷ b ∷ c ∷ []) spec e =
     let y = bind_some (small b) _ spec x.2 in
     let z = bind_some (small c) (λ extra. Some (record { slots = x.0; headroom = y.0; extra = extra })) spec y.2 in
     let same : record { slots = x.0; headroom = y.0; extra = z.0 } ≡ spec = cc in
-    ap (λ w. w ∷ b ∷ c ∷ []) (small_words-only a x.0 x.1) ∙ ap (λ w. decimal x.0 ∷ w ∷ c ∷ []) (small_words-only b y.0 y.1) ∙ ap (λ w. decimal x.0 ∷ decimal y.0 ∷ w ∷ []) (small_words-only c z.0 z.1) ∙ ap spec_rest same
+    ap (λ w. w ∷ b ∷ c ∷ []) (small_words-only a x.0 x.1) ∙ ap (λ w. decimal x.0 ∷ w ∷ c ∷ []) (small_words-only b y.0 y.1)
+    ∙ ap (λ w. decimal x.0 ∷ decimal y.0 ∷ w ∷ []) (small_words-only c z.0 z.1) ∙ ap spec_rest same
 spec_words-only (a ∷ b ∷ c ∷ d ∷ rest) spec e = cc
 
 spec_words-back : (spec : LenderSpec) → spec.slots < 2 ^ 32 → spec.headroom < 2 ^ 32 → spec.extra < 2 ^ 32 → spec_words (spec_rest spec) ≡ Some spec
 spec_words-back spec x y z =
-    bound (small (decimal spec.slots)) _ spec.slots (small-back spec.slots x) ∙ bound (small (decimal spec.headroom)) _ spec.headroom (small-back spec.headroom y) ∙ bound (small (decimal spec.extra)) (λ extra. Some (record { slots = spec.slots; headroom = spec.headroom; extra = extra })) spec.extra (small-back spec.extra z)
+    bound (small (decimal spec.slots)) _ spec.slots (small-back spec.slots x)
+    ∙ bound (small (decimal spec.headroom)) _ spec.headroom (small-back spec.headroom y)
+    ∙ bound (small (decimal spec.extra)) (λ extra. Some (record { slots = spec.slots; headroom = spec.headroom; extra = extra })) spec.extra
+    (small-back spec.extra z)
 
 sizes_words-only : (words : Words) (s : Sizes) → sizes_words words ≡ Some s → words ≡ sizes_rest s
 sizes_words-only [] s h = cc
@@ -75,7 +79,9 @@ sizes_words-only (a ∷ b ∷ c ∷ d ∷ e ∷ f ∷ g ∷ []) s h =
     let t = bind_some (small d) _ s r.2 in
     let u = bind_some (small e) _ s t.2 in
     let v = bind_some (small f) _ s u.2 in
-    let w = bind_some (small g) (λ hot. Some (record { page_bytes = p.0; pages_per_slab = q.0; slabs = r.0; queue = t.0; callers = u.0; window = v.0; hot = hot })) s v.2 in
+    let w =
+    bind_some (small g)
+    (λ hot. Some (record { page_bytes = p.0; pages_per_slab = q.0; slabs = r.0; queue = t.0; callers = u.0; window = v.0; hot = hot })) s v.2 in
     let same : record { page_bytes = p.0; pages_per_slab = q.0; slabs = r.0; queue = t.0; callers = u.0; window = v.0; hot = w.0 } ≡ s = cc in
     ap (λ x. x ∷ b ∷ c ∷ d ∷ e ∷ f ∷ g ∷ []) (small_words-only a p.0 p.1)
     ∙ ap (λ x. decimal p.0 ∷ x ∷ c ∷ d ∷ e ∷ f ∷ g ∷ []) (small_words-only b q.0 q.1)
@@ -95,7 +101,20 @@ sizes_words-back s h =
     ∙ bound (small (decimal s.queue)) _ s.queue (small-back s.queue (omega (arith, h.queue.1)))
     ∙ bound (small (decimal s.callers)) _ s.callers (small-back s.callers (omega (arith, h.callers.1)))
     ∙ bound (small (decimal s.window)) _ s.window (small-back s.window (omega (arith, h.window.1)))
-    ∙ bound (small (decimal s.hot)) (λ hot. Some (record { page_bytes = s.page_bytes; pages_per_slab = s.pages_per_slab; slabs = s.slabs; queue = s.queue; callers = s.callers; window = s.window; hot = hot })) s.hot (small-back s.hot (omega (arith, h.hot.1)))
+    ∙ bound (small (decimal s.hot))
+    (λ hot.
+    Some
+    (record {
+      page_bytes = s.page_bytes;
+      pages_per_slab = s.pages_per_slab;
+      slabs = s.slabs;
+      queue = s.queue;
+      callers = s.callers;
+      window = s.window;
+      hot = hot;
+    }))
+    s.hot
+    (small-back s.hot (omega (arith, h.hot.1)))
 
 -- the geometry's line
 fielded_ok : (o : Option Field) (x s : Sizes) → fielded (unless o x) ≡ Ok s → (o ≡ None) × (x ≡ s)
@@ -108,7 +127,9 @@ sizes_if words s (Some x) is e =
     let ok = fielded_ok (first_beyond (limits x)) x s e in
     (sym (ap (λ y. first_beyond (limits y)) ok.1) ∙ ok.0, sizes_words-only words s (is ∙ ap (λ y. Some y) ok.1))
 
-geometry_if : (word : List ℕ) (words : Words) (s : Sizes) (b : Bool) → is_word (codes "geometry") word ≡ b → cond b (sizes_within (sizes_words words)) (Err why.Geometry) ≡ Ok s → AreInLimits s × (word ∷ words ≡ geometry_words s)
+geometry_if :
+    (word : List ℕ) (words : Words) (s : Sizes) (b : Bool) → is_word (codes "geometry") word ≡ b
+    → cond b (sizes_within (sizes_words words)) (Err why.Geometry) ≡ Ok s → AreInLimits s × (word ∷ words ≡ geometry_words s)
 geometry_if word words s true is e =
     let read = sizes_if words s (sizes_words words) refl e in
     (read.0, ap (λ w. w ∷ words) (sym ((bytes_eq-Decides (codes "geometry") word).0 is)) ∙ ap (λ w. codes "geometry" ∷ w) read.1)
@@ -141,13 +162,19 @@ field_none : (o : Option Field) → option_map why.Field o ≡ None → o ≡ No
 field_none None e = refl
 field_none (Some f) e = cc
 
-spec_if : (words : Words) (spec : LenderSpec) (o : Option LenderSpec) → spec_words words ≡ o → spec_within o ≡ Ok spec → IsWithinLimits spec × (words ≡ spec_rest spec)
+spec_if :
+    (words : Words) (spec : LenderSpec) (o : Option LenderSpec) → spec_words words ≡ o → spec_within o ≡ Ok spec
+    → IsWithinLimits spec × (words ≡ spec_rest spec)
 spec_if words spec None is e = cc
 spec_if words spec (Some x) is e =
-    let ok = unless_ok (option_map why.Field (first_beyond (lender_limits x))) x spec e in
-    (sym (ap (λ y. first_beyond (lender_limits y)) ok.1) ∙ field_none (first_beyond (lender_limits x)) ok.0, spec_words-only words spec (is ∙ ap (λ y. Some y) ok.1))
+    let ok = unless_ok (option_map why.Field (first_beyond (lender_limits x))) x spec e in (
+      sym (ap (λ y. first_beyond (lender_limits y)) ok.1) ∙ field_none (first_beyond (lender_limits x)) ok.0,
+      spec_words-only words spec (is ∙ ap (λ y. Some y) ok.1),
+    )
 
-lender-only : (s : Sizes) (others : List LenderSpec) (words : Words) (spec : LenderSpec) → lender_line s others words ≡ Ok spec → MayStand s others spec × (words ≡ spec_rest spec)
+lender-only :
+    (s : Sizes) (others : List LenderSpec) (words : Words) (spec : LenderSpec) → lender_line s others words ≡ Ok spec
+    → MayStand s others spec × (words ≡ spec_rest spec)
 lender-only s others words spec e =
     let x = bind_ok (spec_within (spec_words words)) (λ spec. unless (first_beyond (lending_tests s (others ++ spec ∷ []))) spec) spec e in
     let ok = unless_ok (first_beyond (lending_tests s (others ++ x.0 ∷ []))) x.0 spec x.2 in
@@ -158,7 +185,8 @@ lender-back : (s : Sizes) (others : List LenderSpec) (spec : LenderSpec) → May
 lender-back s others spec h =
     let few = spec_small spec h.0 in
     ap (λ o. spec_within o >>= λ spec. unless (first_beyond (lending_tests s (others ++ spec ∷ []))) spec) (spec_words-back spec few.0 few.1 few.2)
-    ∙ ap (λ o. unless (option_map why.Field o) spec >>= λ spec. unless (first_beyond (lending_tests s (others ++ spec ∷ []))) spec) h.0 ∙ ap (λ o. unless o spec) h.1
+    ∙ ap (λ o. unless (option_map why.Field o) spec >>= λ spec. unless (first_beyond (lending_tests s (others ++ spec ∷ []))) spec) h.0
+    ∙ ap (λ o. unless o spec) h.1
 
 named_rest : (name word : List ℕ) (words rest : Words) → cond (is_word name word) (Some words) None ≡ Some rest → word ∷ words ≡ name ∷ rest
 named_rest name word words rest e =
@@ -180,9 +208,13 @@ pub record Lenders (s : Sizes) (others : List LenderSpec) (lines : List (ℕ × 
   pub stand : MayStandBelow s others specs
   pub spelled : words_in lines ≡ map lender_words specs ++ words_in front.lines
 
-front_if : (s : Sizes) (others : List LenderSpec) (n : ℕ) (text : List ℕ) (rest : List (ℕ × List ℕ)) (front : Front) (o : Option Words) → lender_rest (words_of text) ≡ o
+front_if :
+    (s : Sizes) (others : List LenderSpec) (n : ℕ) (text : List ℕ) (rest : List (ℕ × List ℕ)) (front : Front) (o : Option Words)
+    → lender_rest (words_of text) ≡ o
     → ((more : List LenderSpec) → front_from s more rest ≡ Ok front → Lenders s more rest front)
-    → option_map_or (λ words. at n (lender_line s others words) >>= λ spec. front_from s (others ++ spec ∷ []) rest) o (Ok (record { lenders = others; lines = (n, text) ∷ rest })) ≡ Ok front
+    → option_map_or (λ words. at n (lender_line s others words) >>= λ spec. front_from s (others ++ spec ∷ []) rest) o
+    (Ok (record { lenders = others; lines = (n, text) ∷ rest }))
+    ≡ Ok front
     → Lenders s others ((n, text) ∷ rest) front
 front_if s others n text rest front None is later e =
     let same : record { lenders = others; lines = (n, text) ∷ rest } ≡ front = cc in
@@ -199,7 +231,8 @@ front_if s others n text rest front (Some words) is later e =
       spelled = ap₂ (λ w ws. w ∷ ws) line below.spelled;
     }
 
-pub front-only : (s : Sizes) (lines : List (ℕ × List ℕ)) (others : List LenderSpec) (front : Front) → front_from s others lines ≡ Ok front → Lenders s others lines front
+pub front-only :
+    (s : Sizes) (lines : List (ℕ × List ℕ)) (others : List LenderSpec) (front : Front) → front_from s others lines ≡ Ok front → Lenders s others lines front
 front-only s [] others front e =
     let same : record { lenders = others; lines = [] } ≡ front = cc in
     subst (Lenders s others []) same (record { specs = []; are = sym (append-nil others); stand = tt; spelled = refl })
@@ -219,14 +252,21 @@ pub record FrontIs (s : Sizes) (others specs : List LenderSpec) (lines : List (�
 pub parts : {A : Type 0} (x y : A) (xs ys : List A) → x ∷ xs ≡ y ∷ ys → (x ≡ y) × (xs ≡ ys)
 parts x y xs ys e = (cc, cc)
 
-pub front-back : (s : Sizes) (specs others : List LenderSpec) (lines : List (ℕ × List ℕ)) (behind : List Words) → MayStandBelow s others specs → NoLender behind → words_in lines ≡ map lender_words specs ++ behind → FrontIs s others specs lines behind
+pub front-back :
+    (s : Sizes) (specs others : List LenderSpec) (lines : List (ℕ × List ℕ)) (behind : List Words) → MayStandBelow s others specs → NoLender behind
+    → words_in lines ≡ map lender_words specs ++ behind → FrontIs s others specs lines behind
 front-back s [] others [] behind h none e = record { rest = []; is = ap (λ l. Ok (record { lenders = l; lines = [] })) (sym (append-nil others)); spelled = e }
 front-back s [] others ((n, text) ∷ rest) [] h none e = cc
 front-back s [] others ((n, text) ∷ rest) (words ∷ behind) h none e =
     let head = parts (words_of text) words (words_in rest) behind e in
     record {
       rest = (n, text) ∷ rest;
-      is = ap (λ o. option_map_or (λ words. at n (lender_line s others words) >>= λ spec. front_from s (others ++ spec ∷ []) rest) o (Ok (record { lenders = others; lines = (n, text) ∷ rest }))) (ap lender_rest head.0 ∙ none)
+      is =
+          ap
+          (λ o.
+          option_map_or (λ words. at n (lender_line s others words) >>= λ spec. front_from s (others ++ spec ∷ []) rest) o
+          (Ok (record { lenders = others; lines = (n, text) ∷ rest })))
+          (ap lender_rest head.0 ∙ none)
           ∙ ap (λ l. Ok (record { lenders = l; lines = (n, text) ∷ rest })) (sym (append-nil others));
       spelled = e;
     }
@@ -236,8 +276,14 @@ front-back s (spec ∷ specs) others ((n, text) ∷ rest) behind h none e =
     let later = front-back s specs (others ++ spec ∷ []) rest behind h.2 none head.1 in
     record {
       rest = later.rest;
-      is = ap (λ o. option_map_or (λ words. at n (lender_line s others words) >>= λ spec. front_from s (others ++ spec ∷ []) rest) o (Ok (record { lenders = others; lines = (n, text) ∷ rest }))) (ap lender_rest head.0)
-          ∙ ap (λ r. at n r >>= λ spec. front_from s (others ++ spec ∷ []) rest) (lender-back s others spec (h.0, h.1)) ∙ later.is ∙ ap (λ l. Ok (record { lenders = l; lines = later.rest })) (append_assoc others (spec ∷ []) specs);
+      is =
+          ap
+          (λ o.
+          option_map_or (λ words. at n (lender_line s others words) >>= λ spec. front_from s (others ++ spec ∷ []) rest) o
+          (Ok (record { lenders = others; lines = (n, text) ∷ rest })))
+          (ap lender_rest head.0)
+          ∙ ap (λ r. at n r >>= λ spec. front_from s (others ++ spec ∷ []) rest) (lender-back s others spec (h.0, h.1)) ∙ later.is
+          ∙ ap (λ l. Ok (record { lenders = l; lines = later.rest })) (append_assoc others (spec ∷ []) specs);
       spelled = later.spelled;
     }
 
@@ -246,13 +292,15 @@ abbrev pub entries_after : Above → List Pair → ℕ
 entries_after above [] = above.entries
 entries_after above (pair ∷ pairs) = entries_after (counted above pair) pairs
 
-checked_ok : (s : Sizes) (above : Above) (o : Option Pair) (pair : Pair) → checked s above o ≡ Ok pair → (o ≡ Some pair) × (first_beyond (tests s above pair) ≡ None)
+checked_ok :
+    (s : Sizes) (above : Above) (o : Option Pair) (pair : Pair) → checked s above o ≡ Ok pair → (o ≡ Some pair) × (first_beyond (tests s above pair) ≡ None)
 checked_ok s above None pair e = cc
 checked_ok s above (Some x) pair e =
     let ok = unless_ok (first_beyond (tests s above x)) x pair e in
     (ap (λ y. Some y) ok.1, sym (ap (λ y. first_beyond (tests s above y)) ok.1) ∙ ok.0)
 
-before_ok : (pair : Pair) (r : Result (List Pair) ScriptRefused) (pairs : List Pair) → before pair r ≡ Ok pairs → (ps : List Pair) × (r ≡ Ok ps) × (pairs ≡ pair ∷ ps)
+before_ok :
+    (pair : Pair) (r : Result (List Pair) ScriptRefused) (pairs : List Pair) → before pair r ≡ Ok pairs → (ps : List Pair) × (r ≡ Ok ps) × (pairs ≡ pair ∷ ps)
 before_ok pair (Ok ps) pairs e = (ps, refl, cc)
 before_ok pair (Err r) pairs e = cc
 
@@ -281,9 +329,13 @@ pub record Follows (s : Sizes) (above : Above) (lines : List (ℕ × List ℕ)) 
   pub follow : MayFollow s above pairs
   pub spelled : words_in lines ≡ map pair_words pairs ++ end_words (entries_after above pairs) ∷ []
 
-pairs_if : (s : Sizes) (end : ℕ) (above : Above) (n : ℕ) (text : List ℕ) (rest : List (ℕ × List ℕ)) (pairs : List Pair) (o : Option Words) → end_rest (words_of text) ≡ o
+pairs_if :
+    (s : Sizes) (end : ℕ) (above : Above) (n : ℕ) (text : List ℕ) (rest : List (ℕ × List ℕ)) (pairs : List Pair) (o : Option Words)
+    → end_rest (words_of text) ≡ o
     → ((more : Above) (ps : List Pair) → pairs_from s end more rest ≡ Ok ps → Follows s more rest ps)
-    → option_map_or (λ behind. ended_at n (counts above.entries (end_number behind)) rest) o (at n (checked s above (pair_of s (words_of text))) >>= λ pair. before pair (pairs_from s end (counted above pair) rest)) ≡ Ok pairs
+    → option_map_or (λ behind. ended_at n (counts above.entries (end_number behind)) rest) o
+    (at n (checked s above (pair_of s (words_of text))) >>= λ pair. before pair (pairs_from s end (counted above pair) rest))
+    ≡ Ok pairs
     → Follows s above ((n, text) ∷ rest) pairs
 pairs_if s end above n text rest pairs None is later e =
     let pair = bind_ok (at n (checked s above (pair_of s (words_of text)))) (λ pair. before pair (pairs_from s end (counted above pair) rest)) pairs e in
@@ -291,13 +343,17 @@ pairs_if s end above n text rest pairs None is later e =
     let line = pair_of-only s (words_of text) pair.0 ok.0 in
     let ps = before_ok pair.0 (pairs_from s end (counted above pair.0) rest) pairs pair.2 in
     let below = later (counted above pair.0) ps.0 ps.1 in
-    subst (Follows s above ((n, text) ∷ rest)) (sym ps.2) (record { follow = (line.0, ok.1, below.follow); spelled = ap₂ (λ w ws. w ∷ ws) line.1 below.spelled })
+    subst (Follows s above ((n, text) ∷ rest)) (sym ps.2)
+    (record { follow = (line.0, ok.1, below.follow); spelled = ap₂ (λ w ws. w ∷ ws) line.1 below.spelled })
 pairs_if s end above n text rest pairs (Some behind) is later e =
     let ok = ended_ok n (counts above.entries (end_number behind)) rest pairs e in
     let number = end_number-only behind above.entries (counts_none above.entries (end_number behind) ok.0) in
     let line : words_of text ≡ end_words above.entries = end_rest-only (words_of text) behind is ∙ ap (λ r. codes "end" ∷ r) number in
     subst (Follows s above ((n, text) ∷ rest)) (sym ok.2) (record { follow = tt; spelled = ap₂ (λ w r. w ∷ words_in r) line ok.1 })
 
-pub pairs-only : (s : Sizes) (end : ℕ) (lines : List (ℕ × List ℕ)) (above : Above) (pairs : List Pair) → pairs_from s end above lines ≡ Ok pairs → Follows s above lines pairs
+pub pairs-only :
+    (s : Sizes) (end : ℕ) (lines : List (ℕ × List ℕ)) (above : Above) (pairs : List Pair) → pairs_from s end above lines ≡ Ok pairs
+    → Follows s above lines pairs
 pairs-only s end [] above pairs e = cc
-pairs-only s end ((n, text) ∷ rest) above pairs e = pairs_if s end above n text rest pairs (end_rest (words_of text)) refl (λ more ps later. pairs-only s end rest more ps later) e
+pairs-only s end ((n, text) ∷ rest) above pairs e =
+    pairs_if s end above n text rest pairs (end_rest (words_of text)) refl (λ more ps later. pairs-only s end rest more ps later) e

@@ -31,7 +31,9 @@ few_in : (told : Told) → entries_in told ≤ 1
 few_in (Saw seen) = omega arith
 few_in (Entered shown) = omega arith
 
-one_more : (above : Above) (j : Judged) (e : Event) (told : Told) → above.entries ≡ length j.history → above.entries + entries_in told ≡ length (with_told j e told).history
+one_more :
+    (above : Above) (j : Judged) (e : Event) (told : Told) → above.entries ≡ length j.history
+    → above.entries + entries_in told ≡ length (with_told j e told).history
 one_more above j e (Saw seen) h = omega (arith, h)
 one_more above j e (Entered shown) h = omega (arith, h)
 
@@ -53,19 +55,28 @@ event_apart (event.Host l u w) words = (refl, refl)
 event_apart (event.Round w) words = (refl, refl)
 
 -- there are few entries
-pub few_entries : (s : Sizes) (pairs : List Pair) (above : Above) → MayFollow s above pairs → above.entries ≤ above.events → above.events ≤ 4_194_304 → entries_after above pairs ≤ 4_194_304
+pub few_entries :
+    (s : Sizes) (pairs : List Pair) (above : Above) → MayFollow s above pairs → above.entries ≤ above.events → above.events ≤ 4_194_304
+    → entries_after above pairs ≤ 4_194_304
 few_entries s [] above h fewer within = omega arith
 few_entries s (pair ∷ pairs) above h fewer within =
     let owes = owes_nothing s above pair h.1 in
     few_entries s pairs (counted above pair) h.2 (omega (arith, few_in pair.told)) (omega (arith, owes.1))
 
-pairs-back : (s : Sizes) (end : ℕ) (pairs : List Pair) (above : Above) (lines : List (ℕ × List ℕ)) → MayFollow s above pairs → above.entries ≤ above.events → above.events ≤ 4_194_304 → words_in lines ≡ map pair_words pairs ++ end_words (entries_after above pairs) ∷ []
+pairs-back :
+    (s : Sizes) (end : ℕ) (pairs : List Pair) (above : Above) (lines : List (ℕ × List ℕ)) → MayFollow s above pairs → above.entries ≤ above.events
+    → above.events ≤ 4_194_304 → words_in lines ≡ map pair_words pairs ++ end_words (entries_after above pairs) ∷ []
     → pairs_from s end above lines ≡ Ok pairs
 pairs-back s end [] above [] h fewer within e = cc
 pairs-back s end [] above ((n, text) ∷ []) h fewer within e =
     let head = parts (words_of text) (end_words above.entries) [] [] e in
-    ap (λ o. option_map_or (λ behind. ended_at n (counts above.entries (end_number behind)) []) o (at n (checked s above (pair_of s (words_of text))) >>= λ pair. before pair (pairs_from s end (counted above pair) []))) (ap end_rest head.0)
-    ∙ ap (λ o. ended_at n (counts above.entries o) []) (number_again above.entries (omega arith)) ∙ ap (λ b. ended_at n (cond b None (Some why.End)) []) (eq-eqb above.entries above.entries refl)
+    ap
+    (λ o.
+    option_map_or (λ behind. ended_at n (counts above.entries (end_number behind)) []) o
+    (at n (checked s above (pair_of s (words_of text))) >>= λ pair. before pair (pairs_from s end (counted above pair) [])))
+    (ap end_rest head.0)
+    ∙ ap (λ o. ended_at n (counts above.entries o) []) (number_again above.entries (omega arith))
+    ∙ ap (λ b. ended_at n (cond b None (Some why.End)) []) (eq-eqb above.entries above.entries refl)
 pairs-back s end [] above ((n, text) ∷ line ∷ rest) h fewer within e =
     let head = parts (words_of text) (end_words above.entries) (words_in (line ∷ rest)) [] e in
     cc
@@ -74,13 +85,18 @@ pairs-back s end (pair ∷ pairs) above ((n, text) ∷ rest) h fewer within e =
     let head = parts (words_of text) (pair_words pair) (words_in rest) (map pair_words pairs ++ end_words (entries_after (counted above pair) pairs) ∷ []) e in
     let owes = owes_nothing s above pair h.1 in
     let later = pairs-back s end pairs (counted above pair) rest h.2 (omega (arith, few_in pair.told)) (omega (arith, owes.1)) head.1 in
-    ap (λ o. option_map_or (λ behind. ended_at n (counts above.entries (end_number behind)) rest) o (at n (checked s above (pair_of s (words_of text))) >>= λ pair. before pair (pairs_from s end (counted above pair) rest))) (ap end_rest head.0 ∙ (event_apart pair.event (codes "=" ∷ told_words pair.told)).1)
+    ap
+    (λ o.
+    option_map_or (λ behind. ended_at n (counts above.entries (end_number behind)) rest) o
+    (at n (checked s above (pair_of s (words_of text))) >>= λ pair. before pair (pairs_from s end (counted above pair) rest)))
+    (ap end_rest head.0 ∙ (event_apart pair.event (codes "=" ∷ told_words pair.told)).1)
     ∙ ap (λ o. at n (checked s above o) >>= λ pair. before pair (pairs_from s end (counted above pair) rest)) (ap (pair_of s) head.0 ∙ pair_of-back s pair h.0)
     ∙ ap (λ o. at n (unless o pair) >>= λ pair. before pair (pairs_from s end (counted above pair) rest)) h.1
     ∙ ap (before pair) later
 
 -- the entries that are counted are those that are judged
-entries-are : (pairs : List Pair) (above : Above) (j : Judged) → above.entries ≡ length j.history → entries_after above pairs ≡ length (with_pairs j pairs).history
+entries-are :
+    (pairs : List Pair) (above : Above) (j : Judged) → above.entries ≡ length j.history → entries_after above pairs ≡ length (with_pairs j pairs).history
 entries-are [] above j e = e
 entries-are (pair ∷ pairs) above j e = entries-are pairs (counted above pair) (with_pair j pair) (one_more above j pair.event pair.told e)
 
@@ -96,13 +112,18 @@ lines-only end [] t e = cc
 lines-only end ((n, text) ∷ rest) t e =
     let sizes = bind_ok (at n (geometry_line (words_of text))) _ t e in
     let front = bind_ok (front_from sizes.0 [] rest) _ t sizes.2 in
-    let pairs = bind_ok (pairs_from sizes.0 end nothing_above front.0.lines) (λ pairs. Ok (record { sizes = sizes.0; lenders = front.0.lenders; pairs = pairs })) t front.2 in
+    let pairs =
+    bind_ok (pairs_from sizes.0 end nothing_above front.0.lines)
+    (λ pairs. Ok (record { sizes = sizes.0; lenders = front.0.lenders; pairs = pairs })) t front.2 in
     let first = geometry-only (words_of text) sizes.0 (at_ok n (geometry_line (words_of text)) sizes.0 sizes.1) in
     let second = front-only sizes.0 rest [] front.0 front.1 in
     let third = pairs-only sizes.0 end front.0.lines nothing_above pairs.0 pairs.1 in
     let same : record { sizes = sizes.0; lenders = front.0.lenders; pairs = pairs.0 } ≡ t = cc in
     let made : Transcript = record { sizes = sizes.0; lenders = front.0.lenders; pairs = pairs.0 } in
-    let behind : words_in rest ≡ map lender_words front.0.lenders ++ (map pair_words pairs.0 ++ end_words (entries_of made) ∷ []) = second.spelled ∙ ap₂ (λ specs ws. map lender_words specs ++ ws) (sym second.are) (third.spelled ∙ ap (λ m. map pair_words pairs.0 ++ end_words m ∷ []) (entries_of-is made)) in
+    let behind : words_in rest ≡ map lender_words front.0.lenders ++ (map pair_words pairs.0 ++ end_words (entries_of made) ∷ []) =
+    second.spelled
+    ∙ ap₂ (λ specs ws. map lender_words specs ++ ws) (sym second.are)
+    (third.spelled ∙ ap (λ m. map pair_words pairs.0 ++ end_words m ∷ []) (entries_of-is made)) in
     subst (Spelled ((n, text) ∷ rest)) same (record {
       sizes = first.0;
       lenders = subst (MayStandBelow sizes.0 []) (sym second.are) second.stand;
@@ -113,16 +134,31 @@ lines-only end ((n, text) ∷ rest) t e =
 lines-back : (end : ℕ) (lines : List (ℕ × List ℕ)) (t : Transcript) → Spelled lines t → transcript_lines end lines ≡ Ok t
 lines-back end [] t h = let e = h.spelled in cc
 lines-back end ((n, text) ∷ rest) t h =
-    let head = parts (words_of text) (geometry_words t.sizes) (words_in rest) (map lender_words t.lenders ++ (map pair_words t.pairs ++ end_words (entries_of t) ∷ [])) h.spelled in
+    let head =
+    parts (words_of text) (geometry_words t.sizes) (words_in rest)
+    (map lender_words t.lenders ++ (map pair_words t.pairs ++ end_words (entries_of t) ∷ [])) h.spelled in
     let first = ap geometry_line head.0 ∙ geometry-back t.sizes h.sizes in
-    let front = front-back t.sizes t.lenders [] rest (map pair_words t.pairs ++ end_words (entries_of t) ∷ []) h.lenders (no_lender t.pairs (entries_of t)) head.1 in
-    let pairs = pairs-back t.sizes end t.pairs nothing_above front.rest h.pairs (omega arith) (omega arith) (front.spelled ∙ ap (λ m. map pair_words t.pairs ++ end_words m ∷ []) (sym (entries_of-is t))) in
-    ap (λ r. at n r >>= λ sizes. (front_from sizes [] rest >>= λ front. (pairs_from sizes end nothing_above front.lines >>= λ pairs. Ok (record { sizes = sizes; lenders = front.lenders; pairs = pairs })))) first
-    ∙ ap (λ r. r >>= λ (front : Front). (pairs_from t.sizes end nothing_above front.lines >>= λ pairs. Ok (record { sizes = t.sizes; lenders = front.lenders; pairs = pairs }))) front.is
+    let front =
+    front-back t.sizes t.lenders [] rest (map pair_words t.pairs ++ end_words (entries_of t) ∷ []) h.lenders (no_lender t.pairs (entries_of t)) head.1 in
+    let pairs =
+    pairs-back t.sizes end t.pairs nothing_above front.rest h.pairs (omega arith) (omega arith)
+    (front.spelled ∙ ap (λ m. map pair_words t.pairs ++ end_words m ∷ []) (sym (entries_of-is t))) in
+    ap
+    (λ r. at n r
+    >>= λ sizes.
+    (front_from sizes [] rest
+    >>= λ front. (pairs_from sizes end nothing_above front.lines >>= λ pairs. Ok (record { sizes = sizes; lenders = front.lenders; pairs = pairs }))))
+    first
+    ∙ ap
+    (λ r. r
+    >>= λ (front : Front).
+    (pairs_from t.sizes end nothing_above front.lines >>= λ pairs. Ok (record { sizes = t.sizes; lenders = front.lenders; pairs = pairs })))
+    front.is
     ∙ ap (λ r. r >>= λ pairs. Ok (record { sizes = t.sizes; lenders = t.lenders; pairs = pairs })) pairs
 
 pub transcript-only : (text : List ℕ) (t : Transcript) → transcript text ≡ Ok t → IsSpelled text t
-transcript-only text t e = let s = lines-only (end_of text) (kept_lines text) t e in record { sizes = s.sizes; lenders = s.lenders; pairs = s.pairs; lines = s.spelled }
+transcript-only text t e =
+    let s = lines-only (end_of text) (kept_lines text) t e in record { sizes = s.sizes; lenders = s.lenders; pairs = s.pairs; lines = s.spelled }
 
 pub transcript-back : (text : List ℕ) (t : Transcript) → IsSpelled text t → transcript text ≡ Ok t
 transcript-back text t h = lines-back (end_of text) (kept_lines text) t (record { sizes = h.sizes; lenders = h.lenders; pairs = h.pairs; spelled = h.lines })

@@ -24,7 +24,8 @@ disk_at words = by_rows which_rows words >>= λ w. (ok_at w.1 >>= λ ok. Some (e
 
 abbrev pub host_at : Words → Option (Event × Words)
 host_at words =
-    small_at words >>= λ l. (small_at l.1 >>= λ u. (wide_at u.1 >>= λ w. Some (event.Host (record { 0 = l.0 }) u.0 w.0, w.1)))
+    small_at words
+    >>= λ l. (small_at l.1 >>= λ u. (wide_at u.1 >>= λ w. Some (event.Host (record { 0 = l.0 }) u.0 w.0, w.1)))
 
 abbrev pub start_at : Words → Option (Event × Words)
 start_at words = Some (event.Start, words)

@@ -13,7 +13,8 @@ use Rattle.swap_transcript.specs.Messages.{msg_at}
 abbrev pub slots_from : ℕ → ℕ → Words → Option ℕ
 slots_from least set [] = Some set
 slots_from least set (word ∷ words) =
-    small word >>= λ slot. if nat_le least slot && nat_lt slot 64 then slots_from (slot + 1) (bit_or set (2 ^ slot)) words else None
+    small word >>= λ slot. if nat_le least slot && nat_lt slot 64
+    then slots_from (slot + 1) (bit_or set (2 ^ slot)) words else None
 
 -- one slot or more
 abbrev pub slots_of : Words → Option ℕ
@@ -22,7 +23,8 @@ slots_of words = slots_from 0 0 words >>= λ set. if set == 0 then None else Som
 -- the slots that were told to go, if some were
 abbrev pub evicted_of : Msg → Option Msg → Words → Option Seen
 evicted_of m reply [] = Some (seen.Gave m reply 0)
-evicted_of m reply (word ∷ words) = if is_word (codes "evict") word then (slots_of words >>= λ set. Some (seen.Gave m reply set)) else None
+evicted_of m reply (word ∷ words) =
+    if is_word (codes "evict") word then (slots_of words >>= λ set. Some (seen.Gave m reply set)) else None
 
 -- behind the message that a lender took: its reply, the slots, or that it ended the link
 abbrev pub reply_of : Sizes → Msg → Words → Option Seen

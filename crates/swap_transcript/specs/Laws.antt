@@ -21,7 +21,8 @@ use Rattle.swap_transcript.specs.Verdicts.{entries_of}
 
 abbrev pub sizes_rest : Sizes → Words
 sizes_rest s =
-    decimal s.page_bytes ∷ decimal s.pages_per_slab ∷ decimal s.slabs ∷ decimal s.queue ∷ decimal s.callers ∷ decimal s.window ∷ decimal s.hot ∷ []
+    decimal s.page_bytes ∷ decimal s.pages_per_slab ∷ decimal s.slabs ∷ decimal s.queue ∷ decimal s.callers
+    ∷ decimal s.window ∷ decimal s.hot ∷ []
 
 abbrev pub spec_rest : LenderSpec → Words
 spec_rest spec = decimal spec.slots ∷ decimal spec.headroom ∷ decimal spec.extra ∷ []
@@ -48,12 +49,14 @@ words_in lines = map (λ numbered. words_of numbered.1) lines
 abbrev pub MayStandBelow : Sizes → List LenderSpec → List LenderSpec → Type 0
 MayStandBelow s others [] = Unit {0}
 MayStandBelow s others (spec ∷ specs) =
-    IsWithinLimits spec × (first_beyond (lending_tests s (others ++ spec ∷ [])) ≡ None) × MayStandBelow s (others ++ spec ∷ []) specs
+    IsWithinLimits spec × (first_beyond (lending_tests s (others ++ spec ∷ [])) ≡ None)
+    × MayStandBelow s (others ++ spec ∷ []) specs
 
 -- pairs that may follow so many events: each has words, and owes nothing
 abbrev pub MayFollow : Sizes → Above → List Pair → Type 0
 MayFollow s above [] = Unit {0}
-MayFollow s above (pair ∷ pairs) = HasPairWords s pair × (first_beyond (tests s above pair) ≡ None) × MayFollow s (counted above pair) pairs
+MayFollow s above (pair ∷ pairs) =
+    HasPairWords s pair × (first_beyond (tests s above pair) ≡ None) × MayFollow s (counted above pair) pairs
 
 -- a text whose lines are printed so
 pub record IsSpelled (text : List ℕ) (t : Transcript) : Type 0 where
@@ -64,7 +67,9 @@ pub record IsSpelled (text : List ℕ) (t : Transcript) : Type 0 where
 
 -- the words of a line are those of what is read of it
 abbrev pub LinesAreRead : Type 0
-LinesAreRead = (s : Sizes) (words : Words) (pair : Pair) → (pair_of s words ≡ Some pair) ↔ (HasPairWords s pair × (words ≡ pair_words pair))
+LinesAreRead =
+    (s : Sizes) (words : Words) (pair : Pair)
+    → (pair_of s words ≡ Some pair) ↔ (HasPairWords s pair × (words ≡ pair_words pair))
 
 -- a text is read as a transcript exactly where the transcript spells it
 abbrev pub TranscriptsAreRead : Type 0
@@ -103,11 +108,15 @@ IsToldOf H (Saw seen) = IsPlain seen
 IsToldOf H (Entered shown) = IsEntry H shown
 
 abbrev pub LinesArePrinted : Type 0
-LinesArePrinted = (H : History) (pair : Pair) → IsToldOf H pair.told → line H (pair.event, seen_told pair.told) ≡ ended (spaced (pair_words pair))
+LinesArePrinted =
+    (H : History) (pair : Pair) → IsToldOf H pair.told
+    → line H (pair.event, seen_told pair.told) ≡ ended (spaced (pair_words pair))
 
 -- the bytes of a transcript's lines are its words with one space between each two
 abbrev pub BytesArePrinted : Type 0
-BytesArePrinted = (text : List ℕ) (t : Transcript) → transcript text ≡ Ok t → map (λ (numbered : ℕ × List ℕ). numbered.1) (kept_lines text) ≡ map spaced (transcript_words t)
+BytesArePrinted =
+    (text : List ℕ) (t : Transcript) → transcript text ≡ Ok t
+    → map (λ (numbered : ℕ × List ℕ). numbered.1) (kept_lines text) ≡ map spaced (transcript_words t)
 
 -- lines as a text: the words of each with one space between each two, and a line feed behind them
 abbrev pub text_of : List Words → List ℕ

@@ -40,7 +40,8 @@ abbrev pub IsSmall : ℕ → Type 0
 IsSmall n = n < 2 ^ 32
 
 abbrev pub HasMsgWords : Sizes → Msg → Type 0
-HasMsgWords s (msg.Hello version page_bytes pages_per_slab) = IsSmall version × (page_bytes ≡ s.page_bytes) × (pages_per_slab ≡ s.pages_per_slab)
+HasMsgWords s (msg.Hello version page_bytes pages_per_slab) =
+    IsSmall version × (page_bytes ≡ s.page_bytes) × (pages_per_slab ≡ s.pages_per_slab)
 HasMsgWords s (msg.Query n) = IsSmall n.0
 HasMsgWords s (msg.Borrow n) = IsSmall n.0
 HasMsgWords s (msg.Write k i) = IsSmall k.0 × IsSmall i

@@ -33,7 +33,8 @@ IsWide n = n < 2 ^ 64
 
 -- an entry, with the number that is printed
 abbrev pub shown_words : Shown → Words
-shown_words shown = codes "entry" ∷ decimal shown.no.0 ∷ (op_words shown.page.0 shown.bytes shown.op ++ sent_words shown.sent)
+shown_words shown =
+    codes "entry" ∷ decimal shown.no.0 ∷ (op_words shown.page.0 shown.bytes shown.op ++ sent_words shown.sent)
 
 abbrev pub told_words : Told → Words
 told_words (Saw seen) = seen_words [] seen
@@ -125,7 +126,8 @@ MaySee s (event.Disk (which.Read c) true) seen.Nothing = Unit {0}
 MaySee s (event.Disk (which.Read c) false) (seen.ReadFailed p) = IsSmall p.0
 MaySee s (event.Disk (which.Read c) false) seen.Nothing = Unit {0}
 MaySee s (event.Tick w) seen.Ticked = Unit {0}
-MaySee s (event.Tick w) (seen.Asked slab first second) = IsSmall slab.0 × IsSmall first.0 × IfSome second (λ l. IsSmall l.0)
+MaySee s (event.Tick w) (seen.Asked slab first second) =
+    IsSmall slab.0 × IsSmall first.0 × IfSome second (λ l. IsSmall l.0)
 MaySee s (event.Map slab l) seen.Borrowing = Unit {0}
 MaySee s (event.Map slab l) seen.Nothing = Unit {0}
 MaySee s (event.Connect l) (seen.Linked n) = IsSmall n.0

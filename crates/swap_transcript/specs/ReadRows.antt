@@ -33,13 +33,24 @@ Refuses lines n w = transcript (text (G ∷ lines)) ≡ Err (record { line = n; 
 abbrev out : Pair
 out = record {
   event = event.PageOut (record { 0 = 0 }) (record { 0 = 3 });
-  told = Entered (record { no = record { 0 = 0 }; page = record { 0 = 3 }; op = op.PageOut; bytes = replicate 8 170; sent = None });
+  told =
+      Entered
+      (record
+      { no = record { 0 = 0 }; page = record { 0 = 3 }; op = op.PageOut; bytes = replicate 8 170; sent = None });
 }
 
 abbrev page_in : ℕ → Pair
 page_in n = record {
   event = event.PageIn (record { 0 = 0 }) (record { 0 = 3 });
-  told = Entered (record { no = record { 0 = n }; page = record { 0 = 3 }; op = op.PageIn (Some (record { 0 = 0 })) origin.Queue; bytes = replicate 8 170; sent = None });
+  told =
+      Entered
+      (record {
+        no = record { 0 = n };
+        page = record { 0 = 3 };
+        op = op.PageIn (Some (record { 0 = 0 })) origin.Queue;
+        bytes = replicate 8 170;
+        sent = None;
+      });
 }
 
 abbrev saw : Event → Seen → Pair
@@ -51,14 +62,18 @@ give = event.Give (record { 0 = 0 })
 abbrev pub ReadRows : Type 0
 ReadRows =
     Gives (codes "end 0" ∷ []) []
-    × Gives (codes "out 0 3 = entry 0 out 3 aa" ∷ codes "in 0 3 = entry 1 in 3 of 0 queue aa" ∷ codes "end 2" ∷ []) (out ∷ page_in 1 ∷ [])
-    × Gives (codes "start = -" ∷ codes "start = write 3 0" ∷ codes "end 0" ∷ []) (saw event.Start seen.Nothing ∷ saw event.Start (seen.Started (record { 0 = 3 }) (record { 0 = 0 })) ∷ [])
-    × Gives (codes "give 0 = hello 1 > done 7 evict 0 2" ∷ codes "end 0" ∷ []) (saw give (seen.Gave (msg.Hello 1 8 4) (Some (msg.Done (record { 0 = 7 }))) 5) ∷ [])
+    × Gives (codes "out 0 3 = entry 0 out 3 aa" ∷ codes "in 0 3 = entry 1 in 3 of 0 queue aa" ∷ codes "end 2" ∷ [])
+    (out ∷ page_in 1 ∷ [])
+    × Gives (codes "start = -" ∷ codes "start = write 3 0" ∷ codes "end 0" ∷ [])
+    (saw event.Start seen.Nothing ∷ saw event.Start (seen.Started (record { 0 = 3 }) (record { 0 = 0 })) ∷ [])
+    × Gives (codes "give 0 = hello 1 > done 7 evict 0 2" ∷ codes "end 0" ∷ [])
+    (saw give (seen.Gave (msg.Hello 1 8 4) (Some (msg.Done (record { 0 = 7 }))) 5) ∷ [])
 
 -- the printed number is 5 and the place is 1, so entry 1 is noted
 abbrev pub NotedRows : Type 0
 NotedRows =
-    Gives (codes "out 0 3 = entry 0 out 3 aa" ∷ codes "in 0 3 = entry 5 in 3 of 0 queue aa" ∷ codes "end 2" ∷ []) (out ∷ page_in 5 ∷ [])
+    Gives (codes "out 0 3 = entry 0 out 3 aa" ∷ codes "in 0 3 = entry 5 in 3 of 0 queue aa" ∷ codes "end 2" ∷ [])
+    (out ∷ page_in 5 ∷ [])
     × ((judged (record { sizes = sizes; lenders = []; pairs = out ∷ page_in 5 ∷ [] })).noted ≡ Some 1)
     × ((judged (record { sizes = sizes; lenders = []; pairs = out ∷ page_in 1 ∷ [] })).noted ≡ None)
     × (length (judged (record { sizes = sizes; lenders = []; pairs = out ∷ page_in 5 ∷ [] })).history ≡ 2)

@@ -53,7 +53,8 @@ again_of words = via_of words >>= λ v. Some (seen.Again v)
 abbrev pub second_of : ℕ → ℕ → Words → Option Seen
 second_of s first [] = Some (seen.Asked (record { 0 = s }) (record { 0 = first }) None)
 second_of s first (word ∷ words) =
-    one_number (λ second. seen.Asked (record { 0 = s }) (record { 0 = first }) (Some (record { 0 = second }))) (word ∷ words)
+    one_number (λ second. seen.Asked (record { 0 = s }) (record { 0 = first }) (Some (record { 0 = second })))
+    (word ∷ words)
 
 abbrev pub asked_of : Words → Option Seen
 asked_of words = small_at words >>= λ s. (small_at s.1 >>= λ first. second_of s.0 first.0 first.1)
@@ -61,7 +62,8 @@ asked_of words = small_at words >>= λ s. (small_at s.1 >>= λ first. second_of 
 -- the mean of what a host uses, and the slots that were asked
 abbrev pub hosted_behind : ℕ → Words → Option Seen
 hosted_behind mean [] = Some (seen.Hosted mean 0)
-hosted_behind mean (word ∷ words) = if is_word (codes "ask") word then (slots_of words >>= λ set. Some (seen.Hosted mean set)) else None
+hosted_behind mean (word ∷ words) =
+    if is_word (codes "ask") word then (slots_of words >>= λ set. Some (seen.Hosted mean set)) else None
 
 abbrev pub hosted_of : List ℕ → Words → Option Seen
 hosted_of word words = number word >>= λ mean. hosted_behind mean words
@@ -98,17 +100,21 @@ finish_rows =
     ∷ []
 
 abbrev pub start_rows : List (Row Seen)
-start_rows = row (codes "write") (two_numbers (λ p e. seen.Started (record { 0 = p }) (record { 0 = e }))) ∷ nothing_row ∷ []
+start_rows =
+    row (codes "write") (two_numbers (λ p e. seen.Started (record { 0 = p }) (record { 0 = e }))) ∷ nothing_row ∷ []
 
 abbrev pub disk_rows : DiskWhich → Bool → List (Row Seen)
-disk_rows (which.Write p) true = row (codes "written") (one_number (λ e. seen.Written (record { 0 = e }))) ∷ nothing_row ∷ []
+disk_rows (which.Write p) true =
+    row (codes "written") (one_number (λ e. seen.Written (record { 0 = e }))) ∷ nothing_row ∷ []
 disk_rows (which.Write p) false =
     row (codes "kept") (one_number (λ e. seen.WriteKept (record { 0 = e })))
     ∷ row (codes "dropped") (one_number (λ e. seen.WriteDropped (record { 0 = e })))
     ∷ nothing_row
     ∷ []
-disk_rows (which.Read c) true = row (codes "came") (one_number (λ p. seen.ReadCame (record { 0 = p }))) ∷ nothing_row ∷ []
-disk_rows (which.Read c) false = row (codes "failed") (one_number (λ p. seen.ReadFailed (record { 0 = p }))) ∷ nothing_row ∷ []
+disk_rows (which.Read c) true =
+    row (codes "came") (one_number (λ p. seen.ReadCame (record { 0 = p }))) ∷ nothing_row ∷ []
+disk_rows (which.Read c) false =
+    row (codes "failed") (one_number (λ p. seen.ReadFailed (record { 0 = p }))) ∷ nothing_row ∷ []
 
 abbrev pub tick_rows : List (Row Seen)
 tick_rows = row (codes "none") (bare seen.Ticked) ∷ row (codes "ask") asked_of ∷ []
@@ -167,4 +173,5 @@ entered_at size e words = entry_of size words >>= λ shown. if agrees e shown th
 -- what a line tells of an event, by the words behind the `=`
 abbrev pub told_of : Sizes → Event → Words → Option Told
 told_of s e [] = None
-told_of s e (word ∷ words) = if is_word (codes "entry") word then entered_at s.page_bytes e words else option_map Saw (seen_of s e word words)
+told_of s e (word ∷ words) =
+    if is_word (codes "entry") word then entered_at s.page_bytes e words else option_map Saw (seen_of s e word words)

@@ -15,7 +15,8 @@ use Rattle.swap_script.specs.Lines.{is_word}
 use Rattle.swap_wire.specs.declared.Seen.{Seen}
 use Rattle.swap_transcript.specs.Readers.{Words, word_at, small_at, wide_at, one_of, Row, row, by_rows}
 
--- an entry as a line prints it: its printed number, its page, what the call did, the page's bytes, which are zeros where
+-- an entry as a line prints it: its printed number, its page, what the call did, the page's bytes, which are zeros
+-- where
 -- none are printed, and the lender that a page-out was sent to
 pub record Shown : Type 0 where
   pub no : EntryNo
@@ -52,7 +53,8 @@ behind_first (word ∷ words) = words
 
 -- the entry that a page-in names, if it names one
 abbrev pub named_word : List ℕ → Option (Option EntryNo)
-named_word word = if is_word (codes "none") word then Some None else (small word >>= λ n. Some (Some (record { 0 = n })))
+named_word word =
+    if is_word (codes "none") word then Some None else (small word >>= λ n. Some (Some (record { 0 = n })))
 
 abbrev pub named_at : Words → Option (Option EntryNo × Words)
 named_at [] = None

@@ -1,4 +1,5 @@
--- What a text is as a transcript: the sizes of its geometry line, its lenders, and each event with what its line tells of
+-- What a text is as a transcript: the sizes of its geometry line, its lenders, and each event with what its line tells
+-- of
 -- it; or its first line at fault.
 use Rattle.std.specs.Prelude.{◌≡◌, ℕ, ◌+◌, ◌*◌, Bool, true, ◌&&◌, ◌==◌, nat_lt, nat_le, if◌then◌else◌, List, [], ◌∷◌, length, Option, None, Some, unwrap_or, Result, Ok, Err, codes}
 use Rattle.std.specs.Option.{option_map_or}
@@ -38,7 +39,9 @@ pub record Transcript : Type 0 where
 
 -- the pair of a line, by its words
 abbrev pub pair_behind : Sizes → Event → Words → Option Pair
-pair_behind s e words = forms.◌>>=◌ (word_at (codes "=") words) (λ behind. forms.◌>>=◌ (told_of s e behind) (λ told. Some (record { event = e; told = told })))
+pair_behind s e words =
+    forms.◌>>=◌ (word_at (codes "=") words)
+    (λ behind. forms.◌>>=◌ (told_of s e behind) (λ told. Some (record { event = e; told = told })))
 
 abbrev pub pair_of : Sizes → Words → Option Pair
 pair_of s words = forms.◌>>=◌ (event_at words) (λ e. pair_behind s e.0 e.1)
@@ -115,7 +118,8 @@ pairs_from s end above [] = Err (record { line = end; why = why.End })
 pairs_from s end above ((n, text) ∷ rest) =
     option_map_or (λ behind. ended_at n (counts above.entries (end_number behind)) rest)
     (end_rest (words_of text))
-    (at n (checked s above (pair_of s (words_of text))) >>= λ pair. before pair (pairs_from s end (counted above pair) rest))
+    (at n (checked s above (pair_of s (words_of text)))
+    >>= λ pair. before pair (pairs_from s end (counted above pair) rest))
 
 abbrev pub transcript_lines : ℕ → List (ℕ × List ℕ) → Result Transcript ScriptRefused
 transcript_lines end [] = at end (Err why.Geometry)
@@ -141,7 +145,11 @@ abbrev pub noted_by : Option ℕ → ℕ → ℕ → Option ℕ
 noted_by noted printed place = if printed == place then noted else first_noted noted place
 
 abbrev pub entered : Judged → Caller → Shown → Judged
-entered j caller shown = record { history = pushed j.history caller shown.page shown.op shown.bytes; noted = noted_by j.noted shown.no.0 (length j.history) }
+entered j caller shown =
+    record {
+      history = pushed j.history caller shown.page shown.op shown.bytes;
+      noted = noted_by j.noted shown.no.0 (length j.history);
+    }
 
 abbrev pub caller_or_first : Event → Caller
 caller_or_first e = unwrap_or (caller_of e) (record { 0 = 0 })
@@ -168,7 +176,8 @@ judged_in book = record { history = book.history; noted = book.noted }
 abbrev pub judging : Judged → Result (List Pair) ScriptRefused → Result Judged ScriptRefused
 judging j read = read >>= λ pairs. Ok (with_pairs j pairs)
 
--- what the reading of a text gives: a record of the transcript's entries, or the line at fault; want of memory tells nothing
+-- what the reading of a text gives: a record of the transcript's entries, or the line at fault; want of memory tells
+-- nothing
 abbrev pub Gives : Result Transcript ScriptRefused → Result Book TranscriptRefused → Type 0
 Gives (Ok t) (Ok book) = (book.page_bytes ≡ t.sizes.page_bytes) × (judged_in book ≡ judged t)
 Gives (Err at) (Err (refused.Line line)) = line ≡ at

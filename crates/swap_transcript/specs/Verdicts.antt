@@ -10,7 +10,8 @@ use Rattle.swap_transcript.specs.Transcripts.{Transcript, judged}
 
 -- the entries of a transcript as a record has them
 abbrev pub book_of : Transcript → Book
-book_of t = record { page_bytes = t.sizes.page_bytes; history = (judged t).history; spare = 0; noted = (judged t).noted }
+book_of t =
+    record { page_bytes = t.sizes.page_bytes; history = (judged t).history; spare = 0; noted = (judged t).noted }
 
 abbrev pub entries_of : Transcript → ℕ
 entries_of t = length (judged t).history
@@ -19,7 +20,8 @@ entries_of t = length (judged t).history
 abbrev pub IsJudged : Transcript → Judgement → Type 0
 IsJudged t j = (j.entries ≡ entries_of t) × Judges (book_of t) j.verdict
 
--- what the check of a text answers: of a transcript what it is judged, else its first line at fault; want of memory tells
+-- what the check of a text answers: of a transcript what it is judged, else its first line at fault; want of memory
+-- tells
 -- nothing
 abbrev pub Answers : Result Transcript ScriptRefused → Result Judgement TranscriptRefused → Type 0
 Answers (Ok t) (Ok j) = IsJudged t j

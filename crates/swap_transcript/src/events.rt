@@ -52,7 +52,8 @@ fn host_at(words: &mut Words<'_>) -> Option<Event>
 
 /// An event between the device and its lenders, behind its first word.
 fn far_event(first: &[u8], words: &mut Words<'_>) -> Option<Event>
-    ensures { option_map (λ event. (event, words.new)) result ≡ by_row far_rows first.now words.old }
+    ensures { option_map (λ event. (event, words.new)) result
+        ≡ by_row far_rows first.now words.old }
 {
     if is_word(first, b"map") {
         let slab = Slab(small_at(words)?);

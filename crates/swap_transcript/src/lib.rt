@@ -1,4 +1,5 @@
-//! Transcripts read back: a text to its record, whose entries stand in the order of their lines, and what they are judged.
+//! Transcripts read back: a text to its record, whose entries stand in the order of their lines,
+//! and what they are judged.
 #![tactic(auto)]
 
 ghost use Rattle.swap_transcript.specs.Laws.{LinesAreRead, TranscriptsAreRead, HaveOneReading, BytesArePrinted, LinesArePrinted, PrintedIsRead};
@@ -33,11 +34,12 @@ pub struct Judgement {
     pub verdict: Verdict,
 }
 
-/// A text is read as a transcript exactly where the transcript spells it: where its lines are those that the sizes, the
-/// lenders and the pairs of event and result print, in words. So the text determines all of them, and with them the
-/// entries and their pages: no text is spelled by two. Its bytes are those words with one space between each two, and a
-/// pair's line is the one that is printed beside a history that has its entry. What a transcript prints is read back as
-/// that transcript.
+/// A text is read as a transcript exactly where the transcript spells it: where its lines are those
+/// that the sizes, the lenders and the pairs of event and result print, in words. So the text
+/// determines all of them, and with them the entries and their pages: no text is spelled by two.
+/// Its bytes are those words with one space between each two, and a pair's line is the one that is
+/// printed beside a history that has its entry. What a transcript prints is read back as that
+/// transcript.
 pub fn transcripts_are_read()
     ensures lines { LinesAreRead }
     ensures texts { TranscriptsAreRead }

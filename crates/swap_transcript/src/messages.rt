@@ -46,7 +46,8 @@ fn lender_msg(first: &[u8], words: &mut Words<'_>) -> Option<Msg>
 
 /// A message, behind its first word.
 pub fn msg_behind(first: &[u8], geometry: &Geometry, words: &mut Words<'_>) -> Option<Msg>
-    ensures { option_map (λ msg. (msg, words.new)) result ≡ by_row (msg_rows geometry.now) first.now words.old }
+    ensures { option_map (λ msg. (msg, words.new)) result
+        ≡ by_row (msg_rows geometry.now) first.now words.old }
 {
     if is_word(first, b"hello") {
         let version = small_at(words)?;

@@ -28,7 +28,8 @@ impl Model for PageRead {
 
     ghost view = { λ p. p.page.items };
 
-    ghost invariant = { λ p. (list_any (λ n. length p.page.items == n) page_lengths ≡ true) × (length p.page.items ≤ 4_096) };
+    ghost invariant = { λ p. (list_any (λ n. length p.page.items == n) page_lengths ≡ true)
+        × (length p.page.items ≤ 4_096) };
 }
 
 impl PageRead {
@@ -57,9 +58,11 @@ impl PageRead {
         self.page.fill(0);
     }
 
-    /// A page at the front of the words. A word that is none is taken too, and leaves what its pattern fills.
+    /// A page at the front of the words. A word that is none is taken too, and leaves what its
+    /// pattern fills.
     pub fn read_at(&mut self, words: &mut Words<'_>) -> Option<()>
-        ensures page { option_map (λ _. (self.new, words.new)) result ≡ bytes_at (length self.old) words.old }
+        ensures page { option_map (λ _. (self.new, words.new)) result
+            ≡ bytes_at (length self.old) words.old }
         ensures size { length self.new ≡ length self.old }
         ensures left { self.new ≡ page_left self.old words.old }
         ensures words { words.new ≡ behind_first words.old }

@@ -41,7 +41,8 @@ struct Pair {
 /// The pair of a line, if the line has the form of one.
 fn pair_of(geometry: &Geometry, line: &[u8], bytes: &mut PageRead) -> Option<Pair>
     requires { length bytes.old ≡ geometry.now.page_bytes }
-    ensures pair { option_map (pair_with bytes.new) result ≡ pair_of geometry.now (words_of line.now) }
+    ensures pair { option_map (pair_with bytes.new) result
+        ≡ pair_of geometry.now (words_of line.now) }
     ensures size { length bytes.new ≡ length bytes.old }
 {
     let mut words = Words::of(line);
@@ -94,7 +95,8 @@ fn tells_page(geometry: &Geometry, told: &Told) -> bool
 fn fault_of(geometry: &Geometry, above: Counts, pair: &Pair) -> Option<Why>
     requires counts { above.entries ≤ above.events }
     requires within { above.events ≤ EVENT_LIMIT }
-    ensures { (bytes : List ℕ) → result ≡ first_beyond (tests geometry.now (above_of above) (pair_with bytes pair.now)) }
+    ensures { (bytes : List ℕ)
+        → result ≡ first_beyond (tests geometry.now (above_of above) (pair_with bytes pair.now)) }
 {
     if !has_caller(geometry, pair.event) {
         return Some(Why::Caller);
@@ -121,7 +123,9 @@ fn put_entry(
 ) -> Result<(), NoMemory>
     requires caller { caller.0 < 64 }
     requires bytes { length bytes.now ≡ history.old.page_bytes }
-    ensures entry { OnOk result (judged_in history.new ≡ entered (judged_in history.old) caller (shown_with bytes.now shown.now)) }
+    ensures entry { OnOk result
+        (judged_in history.new
+        ≡ entered (judged_in history.old) caller (shown_with bytes.now shown.now)) }
     ensures size { history.new.page_bytes ≡ history.old.page_bytes }
 {
     if history.reserve(1).is_err() {
@@ -142,7 +146,9 @@ fn put_entry(
 fn put(history: &mut Record, event: Event, told: &Told, bytes: &[u8]) -> Result<(), NoMemory>
     requires caller { IfSome (caller_of event) (λ caller. caller.0 < 64) }
     requires bytes { length bytes.now ≡ history.old.page_bytes }
-    ensures entry { OnOk result (judged_in history.new ≡ with_told (judged_in history.old) event (told_with bytes.now told.now)) }
+    ensures entry { OnOk result
+        (judged_in history.new
+        ≡ with_told (judged_in history.old) event (told_with bytes.now told.now)) }
     ensures size { history.new.page_bytes ≡ history.old.page_bytes }
 {
     let Told::Entered(shown) = told else {
@@ -165,10 +171,13 @@ fn read_line(
     requires same { history.old.page_bytes ≡ geometry.now.page_bytes }
     requires counts { above.entries ≤ above.events }
     requires within { above.events ≤ EVENT_LIMIT }
-    ensures step { StepGives line (checked geometry.now (above_of above) (pair_of geometry.now (words_of text.now))) (above_of above) (judged_in history.old) (judged_in history.new) result }
+    ensures step { StepGives line
+        (checked geometry.now (above_of above) (pair_of geometry.now (words_of text.now)))
+        (above_of above) (judged_in history.old) (judged_in history.new) result }
     ensures size { length bytes.new ≡ length bytes.old }
     ensures same { history.new.page_bytes ≡ history.old.page_bytes }
-    ensures counts { IfOk result (λ counts. (counts.entries ≤ counts.events) × (counts.events ≤ EVENT_LIMIT)) }
+    ensures counts { IfOk result
+        (λ counts. (counts.entries ≤ counts.events) × (counts.events ≤ EVENT_LIMIT)) }
 {
     geometry.limits();
     let Some(pair) = pair_of(geometry, text, bytes) else {
@@ -249,7 +258,10 @@ fn read_lines(
     requires text { length whole.now ≤ TEXT_LIMIT }
     requires size { length bytes.old ≡ geometry.now.page_bytes }
     requires same { history.old.page_bytes ≡ geometry.now.page_bytes }
-    ensures lines { LinesGive (judging (judged_in history.old) (pairs_from geometry.now (end_of whole.now) nothing_above place.entry)) (judged_in history.new) result }
+    ensures lines { LinesGive
+        (judging (judged_in history.old)
+        (pairs_from geometry.now (end_of whole.now) nothing_above place.entry))
+        (judged_in history.new) result }
     ensures same { history.new.page_bytes ≡ history.old.page_bytes }
 {
     let mut counts = Counts {
@@ -283,7 +295,10 @@ fn read_record(
     place: Place<'_>,
 ) -> Result<Record, TranscriptRefused>
     requires { length text.now ≤ TEXT_LIMIT }
-    ensures { RecordGives geometry.now.page_bytes (judging no_entries (pairs_from geometry.now (end_of text.now) nothing_above place.entry)) result }
+    ensures { RecordGives geometry.now.page_bytes
+        (judging no_entries
+        (pairs_from geometry.now (end_of text.now) nothing_above place.entry))
+        result }
 {
     geometry.limits();
     let Ok(mut bytes) = PageRead::make(alloc, geometry) else {
@@ -296,11 +311,12 @@ fn read_record(
     }
 }
 
-/// Reads a text of at most `TEXT_LIMIT` bytes as a transcript: a geometry line, lender lines, lines of events with what
-/// was seen of each, and the `end` line with the number of entries, where empty lines and those that begin with `#` are
-/// skipped. The history has the entries in the order of their lines; where a printed number isn't its place it is marked.
-/// Else the first line at fault is named, with that line's first fault; a text that is over without an `end` line is
-/// refused at one more than its number of lines.
+/// Reads a text of at most `TEXT_LIMIT` bytes as a transcript: a geometry line, lender lines, lines
+/// of events with what was seen of each, and the `end` line with the number of entries, where empty
+/// lines and those that begin with `#` are skipped. The history has the entries in the order of
+/// their lines; where a printed number isn't its place it is marked.
+/// Else the first line at fault is named, with that line's first fault; a text that is over without
+/// an `end` line is refused at one more than its number of lines.
 pub fn read_transcript(alloc: Global, text: &[u8]) -> Result<Record, TranscriptRefused>
     requires { length text.now ≤ TEXT_LIMIT }
     ensures { Gives (transcript text.now) result }

@@ -357,7 +357,8 @@ fn seen_of(geometry: &Geometry, event: Event, first: &[u8], words: Words<'_>) ->
     }
 }
 
-/// Whether an entry may answer an event: a call that begins, of its kind and its page, or one that is finished.
+/// Whether an entry may answer an event: a call that begins, of its kind and its page, or one that
+/// is finished.
 fn agrees(event: Event, shown: &Shown) -> bool
     ensures { (bytes : List ℕ) → result ≡ agrees event (shown_with bytes shown.now) }
 {
@@ -378,7 +379,8 @@ pub fn told_of(
     bytes: &mut PageRead,
 ) -> Option<Told>
     requires { length bytes.old ≡ geometry.now.page_bytes }
-    ensures told { option_map (told_with bytes.new) result ≡ told_of geometry.now event words.entry }
+    ensures told { option_map (told_with bytes.new) result
+        ≡ told_of geometry.now event words.entry }
     ensures size { length bytes.new ≡ length bytes.old }
 {
     let first = words.next()?;

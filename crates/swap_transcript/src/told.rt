@@ -19,7 +19,8 @@ pub struct Did {
     pub op: Op,
 }
 
-/// An entry with its printed number, and the lender that a page-out was sent to; the page's bytes stand beside it.
+/// An entry with its printed number, and the lender that a page-out was sent to; the page's bytes
+/// stand beside it.
 #[derive(Clone, Copy)]
 pub struct Shown {
     pub no: EntryNo,
@@ -62,7 +63,8 @@ fn origin_at(words: &mut Words<'_>) -> Option<Origin>
 }
 
 fn out_at(words: &mut Words<'_>, bytes: &mut PageRead) -> Option<Did>
-    ensures did { option_map (λ did. (with_bytes bytes.new did, words.new)) result ≡ out_at (length bytes.old) words.old }
+    ensures did { option_map (λ did. (with_bytes bytes.new did, words.new)) result
+        ≡ out_at (length bytes.old) words.old }
     ensures size { length bytes.new ≡ length bytes.old }
 {
     let page = Page(small_at(words)?);
@@ -72,7 +74,8 @@ fn out_at(words: &mut Words<'_>, bytes: &mut PageRead) -> Option<Did>
 }
 
 fn in_at(words: &mut Words<'_>, bytes: &mut PageRead) -> Option<Did>
-    ensures did { option_map (λ did. (with_bytes bytes.new did, words.new)) result ≡ in_at (length bytes.old) words.old }
+    ensures did { option_map (λ did. (with_bytes bytes.new did, words.new)) result
+        ≡ in_at (length bytes.old) words.old }
     ensures size { length bytes.new ≡ length bytes.old }
 {
     let page = Page(small_at(words)?);
@@ -85,7 +88,8 @@ fn in_at(words: &mut Words<'_>, bytes: &mut PageRead) -> Option<Did>
 }
 
 fn fault_out_at(words: &mut Words<'_>, bytes: &mut PageRead) -> Option<Did>
-    ensures did { option_map (λ did. (with_bytes bytes.new did, words.new)) result ≡ fault_out_at (length bytes.old) words.old }
+    ensures did { option_map (λ did. (with_bytes bytes.new did, words.new)) result
+        ≡ fault_out_at (length bytes.old) words.old }
     ensures size { length bytes.new ≡ length bytes.old }
 {
     let page = Page(small_at(words)?);
@@ -98,7 +102,8 @@ fn fault_out_at(words: &mut Words<'_>, bytes: &mut PageRead) -> Option<Did>
 }
 
 fn fault_in_at(words: &mut Words<'_>, bytes: &mut PageRead) -> Option<Did>
-    ensures did { option_map (λ did. (with_bytes bytes.new did, words.new)) result ≡ fault_in_at (length bytes.old) words.old }
+    ensures did { option_map (λ did. (with_bytes bytes.new did, words.new)) result
+        ≡ fault_in_at (length bytes.old) words.old }
     ensures size { length bytes.new ≡ length bytes.old }
 {
     let page = Page(small_at(words)?);
@@ -111,7 +116,8 @@ fn fault_in_at(words: &mut Words<'_>, bytes: &mut PageRead) -> Option<Did>
 }
 
 fn fault_at(words: &mut Words<'_>, bytes: &mut PageRead) -> Option<Did>
-    ensures did { option_map (λ did. (with_bytes bytes.new did, words.new)) result ≡ by_rows (fault_rows (length bytes.old)) words.old }
+    ensures did { option_map (λ did. (with_bytes bytes.new did, words.new)) result
+        ≡ by_rows (fault_rows (length bytes.old)) words.old }
     ensures size { length bytes.new ≡ length bytes.old }
 {
     let first = words.next()?;
@@ -125,7 +131,8 @@ fn fault_at(words: &mut Words<'_>, bytes: &mut PageRead) -> Option<Did>
 }
 
 fn did_at(words: &mut Words<'_>, bytes: &mut PageRead) -> Option<Did>
-    ensures did { option_map (λ did. (with_bytes bytes.new did, words.new)) result ≡ by_rows (did_rows (length bytes.old)) words.old }
+    ensures did { option_map (λ did. (with_bytes bytes.new did, words.new)) result
+        ≡ by_rows (did_rows (length bytes.old)) words.old }
     ensures size { length bytes.new ≡ length bytes.old }
 {
     let first = words.next()?;
@@ -168,7 +175,8 @@ fn sent_of(op: Op, words: Words<'_>) -> Option<Option<Lender>>
 
 /// An entry, behind its first word.
 pub fn entry_of(mut words: Words<'_>, bytes: &mut PageRead) -> Option<Shown>
-    ensures entry { option_map (shown_with bytes.new) result ≡ entry_of (length bytes.old) words.entry }
+    ensures entry { option_map (shown_with bytes.new) result
+        ≡ entry_of (length bytes.old) words.entry }
     ensures size { length bytes.new ≡ length bytes.old }
 {
     let no = EntryNo(small_at(&mut words)?);

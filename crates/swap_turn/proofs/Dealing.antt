@@ -23,7 +23,8 @@ numbers_from-snoc a (suc n) = let e : suc n + 1 ≡ suc (n + 1) = omega arith in
     ap (numbers_from a) e ∙ ap (λ (l : List ℕ). a ∷ l) (numbers_from-snoc (suc a) n ∙ ap (λ (k : ℕ). numbers_from (suc a) n ++ k ∷ []) f)
 
 pub dealt-first : (seats : ℕ) (log : History) → dealt seats log 0 ≡ first_view seats log
-dealt-first seats log = let e : (seats - 1) - 0 ≡ seats - 1 = omega arith in ap (λ (k : ℕ). let v : View = record (first_view seats log) { left = numbers_from 0 k } in v) e
+dealt-first seats log =
+    let e : (seats - 1) - 0 ≡ seats - 1 = omega arith in ap (λ (k : ℕ). let v : View = record (first_view seats log) { left = numbers_from 0 k } in v) e
 
 pub dealt-left : (seats : ℕ) (log : History) (i : ℕ) → i < seats - 1 → (dealt seats log i).left ≡ i ∷ numbers_from (i + 1) ((seats - 1) - (i + 1))
 dealt-left seats log i lt = numbers_from-next i (seats - 1) lt
@@ -36,16 +37,19 @@ dealt-given seats log i lt = ap (λ (l : List ℕ). next_given (let v : View = r
 
 -- it has given all but its own
 pub dealt-last : (seats : ℕ) (log : History) (i : ℕ) → i ≡ seats - 1 → dealt seats log i ≡ resting (seats - 1) seats log (entries_of (seats - 1) log)
-dealt-last seats log i is = let e : (seats - 1) - i ≡ 0 = omega arith in ap (λ (k : ℕ). let v : View = record (first_view seats log) { left = numbers_from i k } in v) e
+dealt-last seats log i is =
+    let e : (seats - 1) - i ≡ 0 = omega arith in ap (λ (k : ℕ). let v : View = record (first_view seats log) { left = numbers_from i k } in v) e
 
 pub seated_is : (i k : ℕ) (log mine : History) (v : View) (vs : List View) → vs ≡ v ∷ [] → v ≡ resting i k log mine → IsSeated i vs
-seated_is i k log mine v vs one is = let both : vs ≡ resting i k log mine ∷ [] = one ∙ ap (λ (u : View). u ∷ []) is in subst (IsSeated i) (sym both) (refl, refl)
+seated_is i k log mine v vs one is =
+    let both : vs ≡ resting i k log mine ∷ [] = one ∙ ap (λ (u : View). u ∷ []) is in subst (IsSeated i) (sym both) (refl, refl)
 
 pub standing_is : (z : TableId) (i k : ℕ) (log mine : History) (v : View) (vs : List View) → vs ≡ v ∷ [] → v ≡ resting i k log mine
     → standing_of z i vs ≡ record { lock = record { table = z; seats = k }; number = i; free = true; seen = log; mine = mine }
 standing_is z i k log mine v vs one is = ap (standing_of z i) (one ∙ ap (λ (u : View). u ∷ []) is)
 
-pub pushed : (z : LockId) (log : History) (i : ℕ) (items : List Standing) (p : Standing) → items ≡ map (newcomer z log) (numbers_from 0 i) → p ≡ newcomer z log i
+pub pushed :
+    (z : LockId) (log : History) (i : ℕ) (items : List Standing) (p : Standing) → items ≡ map (newcomer z log) (numbers_from 0 i) → p ≡ newcomer z log i
     → items ++ p ∷ [] ≡ map (newcomer z log) (numbers_from 0 (i + 1))
 pushed z log i items p so_far is =
     let f : ℕ → Standing = newcomer z log in

@@ -17,7 +17,9 @@ pub record Gathers (seats : ℕ) (v : View) (left all : List Standing) : Type 0 
   pub seats_is : v.seats ≡ seats
   pub pairs : map pair_of left ++ pairs_of v ≡ map pair_of all
 
-pub gathers_first : (seats : ℕ) (v : View) (left all : List Standing) (p : Standing) → v ≡ resting p.number p.lock.seats p.seen p.mine → p.lock.seats ≡ seats → all ≡ left ++ p ∷ [] → Gathers seats v left all
+pub gathers_first :
+    (seats : ℕ) (v : View) (left all : List Standing) (p : Standing) → v ≡ resting p.number p.lock.seats p.seen p.mine → p.lock.seats ≡ seats
+    → all ≡ left ++ p ∷ [] → Gathers seats v left all
 gathers_first seats v left all p is k split = record {
   standing = ap (λ (x : View). x.spent) is;
   idle = ap (λ (x : View). x.stage) is;
@@ -34,11 +36,13 @@ gathers_next seats v w before left all p g split is = record {
   given = ap (λ (x : View). x.left) is ∙ g.given;
   seats_is = ap (λ (x : View). x.seats) is ∙ g.seats_is;
   pairs = ap (λ (x : View). map pair_of left ++ pairs_of x) is
-      ∙ (sym (append_assoc (map pair_of left) (pair_of p ∷ []) (pairs_of v)) ∙ (ap (λ (l : List (ℕ × History)). l ++ pairs_of v) (sym (map-append pair_of left (p ∷ [])) ∙ ap (map pair_of) (sym split)) ∙ g.pairs));
+      ∙ (sym (append_assoc (map pair_of left) (pair_of p ∷ []) (pairs_of v))
+      ∙ (ap (λ (l : List (ℕ × History)). l ++ pairs_of v) (sym (map-append pair_of left (p ∷ [])) ∙ ap (map pair_of) (sym split)) ∙ g.pairs));
 }
 
 pub gathered : (seats : ℕ) (v : View) (all : List Standing) → Gathers seats v [] all → seats ≤ length all → v.seats ≤ length (pairs_of v)
-gathered seats v all g most = let e : length (pairs_of v) ≡ length (map pair_of all) = ap length g.pairs in let f = length-map all pair_of in let h = g.seats_is in omega arith
+gathered seats v all g most =
+    let e : length (pairs_of v) ≡ length (map pair_of all) = ap length g.pairs in let f = length-map all pair_of in let h = g.seats_is in omega arith
 
 -- what holds of the pairs holds of the passes
 pub of_pairs : (log : History) (all : List Standing) → All (λ q. q.1 ≡ entries_of q.0 log) (map pair_of all) → All (λ p. p.mine ≡ entries_of p.number log) all

@@ -40,7 +40,9 @@ weigh_numbers h v standing = ap (weigh h) (numbers_open v standing) ∙ ap (λ (
 
 -- of two, one is the longer
 longer_is : (xs ys : History) → ((longer xs ys ≡ ys) × (length xs ≤ length ys)) ⊎ ((longer xs ys ≡ xs) × (length ys < length xs))
-longer_is xs ys = ⊎_elim (λ t. inl (ap (λ (b : Bool). if b then ys else xs) t.0, t.1)) (λ t. inr (ap (λ (b : Bool). if b then ys else xs) t.0, t.1)) (leb_tells (length xs) (length ys))
+longer_is xs ys =
+    ⊎_elim (λ t. inl (ap (λ (b : Bool). if b then ys else xs) t.0, t.1)) (λ t. inr (ap (λ (b : Bool). if b then ys else xs) t.0, t.1))
+    (leb_tells (length xs) (length ys))
 
 -- what lies between two with the same entries has them too
 between : (c : ℕ) (xs ys zs : History) → IsEarlier xs ys → IsEarlier ys zs → entries_of c xs ≡ entries_of c zs → entries_of c ys ≡ entries_of c zs
@@ -52,9 +54,12 @@ between c xs ys zs p q same =
     earlier_whole (entries_of c ys) (entries_of c zs) (record { later = entries_of c q.later; whole = b }) (omega arith)
 
 module _ {T : Type 0} (history : T → History) where
-  slot_more : (log : History) (vs : List View) (w : View) → ¬ IsServing w → (home : maybe.Option (Option T)) → SlotFits history log vs home → SlotFits history log (vs ++ w ∷ []) home
+  slot_more :
+      (log : History) (vs : List View) (w : View) → ¬ IsServing w → (home : maybe.Option (Option T)) → SlotFits history log vs home
+      → SlotFits history log (vs ++ w ∷ []) home
   slot_more log vs w quiet none out = (out.0, out.1, at_longer vs (w ∷ []) out.0 out.1 out.2, out.3)
-  slot_more log vs w quiet (some y) home = (home.0, home.1, home.2, λ j u e sv. ⊎_elim (λ was. home.3 j u was sv) (λ (t : w ≡ u). quiet (subst IsServing (sym t) sv)) (at_snoc vs w u j e))
+  slot_more log vs w quiet (some y) home =
+      (home.0, home.1, home.2, λ j u e sv. ⊎_elim (λ was. home.3 j u was sv) (λ (t : w ≡ u). quiet (subst IsServing (sym t) sv)) (at_snoc vs w u j e))
 
   pub starts : (made told : ℕ) (x : T) → 1 ≤ made → made ≤ 64 → All (λ (e : Row). e.entry.caller.0 < made) (history x) → told ≡ length (history x)
       → Rule history (opening (0 ∷ 0 ∷ told ∷ made ∷ []) (Some x ∷ []) (first_view made (history x)))
@@ -71,8 +76,11 @@ module _ {T : Type 0} (history : T → History) where
         serving_low = omega arith;
         made_low = low;
         tickets_are = λ h. omega arith;
-        numbers_are = λ h. let a = weigh_below-last h made some_made in let b = weigh_below-from h 0 (made - 1) in let c = weigh-append h (numbers_from 0 (made - 1)) [] in
-            let d : weigh_below h (0 + (made - 1)) ≡ weigh_below h (made - 1) = (let k : 0 + (made - 1) ≡ made - 1 = omega arith in ap (weigh_below h) k) in omega arith;
+        numbers_are =
+            λ h. let a = weigh_below-last h made some_made in let b = weigh_below-from h 0 (made - 1) in
+            let c = weigh-append h (numbers_from 0 (made - 1)) [] in
+            let d : weigh_below h (0 + (made - 1)) ≡ weigh_below h (made - 1) = (let k : 0 + (made - 1) ≡ made - 1 = omega arith in ap (weigh_below h) k) in
+            omega arith;
         callers = callers;
         each_seat = only v (inr record {
           standing = refl;
@@ -88,7 +96,8 @@ module _ {T : Type 0} (history : T → History) where
         slot = (x, refl, refl, λ j u e sv. none_served v refl j u e sv);
       }
     where
-      only : (v : View) → (v ≡ nobody) ⊎ Fits made 0 (history x) v → (j : ℕ) (u : View) → get_elem? (v ∷ []) j ≡ some u → (u ≡ nobody) ⊎ Fits made 0 (history x) u
+      only :
+          (v : View) → (v ≡ nobody) ⊎ Fits made 0 (history x) v → (j : ℕ) (u : View) → get_elem? (v ∷ []) j ≡ some u → (u ≡ nobody) ⊎ Fits made 0 (history x) u
       only v f zero u e = subst (λ (y : View). (y ≡ nobody) ⊎ Fits made 0 (history x) y) (some-injective v u e) f
       only v f (suc j) u e = absurd (some-ne-none u (sym e))
 
@@ -96,7 +105,8 @@ module _ {T : Type 0} (history : T → History) where
       none_served v idle zero u e = subst (λ (y : View). ¬ IsServing y) (some-injective v u e) (idle_quiet v idle)
       none_served v idle (suc j) u e = absurd (some-ne-none u (sym e))
 
-  pub splits : (id n : ℕ) (ns : List ℕ) (v : View) → v.spent ≡ false → v.stage ≡ Idle → v.left ≡ n ∷ ns → Splits (Rule history) id v (fewer_left v) (next_given v)
+  pub splits :
+      (id n : ℕ) (ns : List ℕ) (v : View) → v.spent ≡ false → v.stage ≡ Idle → v.left ≡ n ∷ ns → Splits (Rule history) id v (fewer_left v) (next_given v)
   splits id n ns v standing idle left_is s r at =
       let l : View = fewer_left v in
       let g : View = next_given v in
@@ -134,10 +144,15 @@ module _ {T : Type 0} (history : T → History) where
         homes_are = r.homes_are;
         serving_low = r.serving_low;
         made_low = r.made_low;
-        tickets_are = λ h. let a = total_set (λ u. weigh h (tickets u)) s.views id v l at in let b = total_snoc (λ u. weigh h (tickets u)) vs g in let c = r.tickets_are h in omega arith;
-        numbers_are = λ h. let a = total_set (λ u. weigh h (numbers u)) s.views id v l at in let b = total_snoc (λ u. weigh h (numbers u)) vs g in let c = r.numbers_are h in
+        tickets_are =
+            λ h. let a = total_set (λ u. weigh h (tickets u)) s.views id v l at in let b = total_snoc (λ u. weigh h (tickets u)) vs g in
+            let c = r.tickets_are h in omega arith;
+        numbers_are =
+            λ h. let a = total_set (λ u. weigh h (numbers u)) s.views id v l at in let b = total_snoc (λ u. weigh h (numbers u)) vs g in
+            let c = r.numbers_are h in
             let d = weigh_numbers h v standing in let e = weigh_numbers h l standing in let i = weigh_numbers h g refl in
-            let j : weigh h v.left ≡ h n + weigh h ns = ap (weigh h) left_is in let k : weigh h (others_of v.left) ≡ weigh h ns = ap (λ (z : List ℕ). weigh h (others_of z)) left_is in
+            let j : weigh h v.left ≡ h n + weigh h ns = ap (weigh h) left_is in
+            let k : weigh h (others_of v.left) ≡ weigh h ns = ap (λ (z : List ℕ). weigh h (others_of z)) left_is in
             let m : h (first_of v.left) ≡ h n = ap (λ (z : List ℕ). h (first_of z)) left_is in omega arith;
         callers = r.callers;
         each_seat = λ j u e. ⊎_elim (each_set (λ _ x. (x ≡ nobody) ⊎ Fits r.made r.serving r.log x) s.views id l (inr fits_l) (λ i x _. r.each_seat i x) j u)
@@ -146,7 +161,9 @@ module _ {T : Type 0} (history : T → History) where
         slot = slot_more r.log vs g (idle_quiet g refl) r.home (slot_quiet history r.log s.views id v l at quiet quiet r.home r.slot);
       }
 
-  pub joins : (id other : ℕ) (v u : View) → v.spent ≡ false → u.spent ≡ false → v.stage ≡ Idle → u.stage ≡ Idle → v.left ≡ [] → u.left ≡ [] → Joins (Rule history) id v other u (taken_in v u) nobody
+  pub joins :
+      (id other : ℕ) (v u : View) → v.spent ≡ false → u.spent ≡ false → v.stage ≡ Idle → u.stage ≡ Idle → v.left ≡ [] → u.left ≡ []
+      → Joins (Rule history) id v other u (taken_in v u) nobody
   joins id other v u v_stands u_stands v_idle u_idle v_left u_left s r at apart there =
       let b : View = taken_in v u in
       let vs : List View = set s.views id b in
@@ -157,14 +174,24 @@ module _ {T : Type 0} (history : T → History) where
       let fits_b : Fits r.made r.serving r.log b = record {
         standing = v_stands;
         seats_is = f.seats_is;
-        seen_earlier = ⊎_elim (λ t. subst (λ (z : History). IsEarlier z r.log) (sym t.0) g.seen_earlier) (λ t. subst (λ (z : History). IsEarlier z r.log) (sym t.0) f.seen_earlier) two;
+        seen_earlier =
+            ⊎_elim (λ t. subst (λ (z : History). IsEarlier z r.log) (sym t.0) g.seen_earlier)
+            (λ t. subst (λ (z : History). IsEarlier z r.log) (sym t.0) f.seen_earlier) two;
         mine_is = f.mine_is;
         mine_seen = ⊎_elim
             (λ (t : (longer v.seen u.seen ≡ u.seen) × (length v.seen ≤ length u.seen)).
-            f.mine_is ∙ (sym (between v.number v.seen u.seen r.log (earlier_shorter v.seen u.seen r.log f.seen_earlier g.seen_earlier t.1) g.seen_earlier (sym f.mine_seen ∙ f.mine_is)) ∙ ap (entries_of v.number) (sym t.0)))
+            f.mine_is
+            ∙ (sym
+            (between v.number v.seen u.seen r.log (earlier_shorter v.seen u.seen r.log f.seen_earlier g.seen_earlier t.1) g.seen_earlier
+            (sym f.mine_seen ∙ f.mine_is))
+            ∙ ap (entries_of v.number) (sym t.0)))
             (λ t. f.mine_seen ∙ ap (entries_of v.number) (sym t.0)) two;
-        left_seen = subst (All (λ m. entries_of m r.log ≡ entries_of m (longer v.seen u.seen))) (sym v_left) (All-nil (λ m. entries_of m r.log ≡ entries_of m (longer v.seen u.seen)));
-        joined_is = All-cons (λ p. p.1 ≡ entries_of p.0 r.log) (u.number, u.mine) (u.joined ++ v.joined) g.mine_is (All-append (λ p. p.1 ≡ entries_of p.0 r.log) u.joined v.joined g.joined_is f.joined_is);
+        left_seen =
+            subst (All (λ m. entries_of m r.log ≡ entries_of m (longer v.seen u.seen))) (sym v_left)
+            (All-nil (λ m. entries_of m r.log ≡ entries_of m (longer v.seen u.seen)));
+        joined_is =
+            All-cons (λ p. p.1 ≡ entries_of p.0 r.log) (u.number, u.mine) (u.joined ++ v.joined) g.mine_is
+            (All-append (λ p. p.1 ≡ entries_of p.0 r.log) u.joined v.joined g.joined_is f.joined_is);
         served = λ t e. absurd (idle_quiet v v_idle (t, e));
       } in
       record {
@@ -177,9 +204,13 @@ module _ {T : Type 0} (history : T → History) where
         homes_are = r.homes_are;
         serving_low = r.serving_low;
         made_low = r.made_low;
-        tickets_are = λ h. let a = total_set (λ x. weigh h (tickets x)) s.views id v b at in let c = total_set (λ x. weigh h (tickets x)) vs other u nobody there in let d = r.tickets_are h in
+        tickets_are =
+            λ h. let a = total_set (λ x. weigh h (tickets x)) s.views id v b at in let c = total_set (λ x. weigh h (tickets x)) vs other u nobody there in
+            let d = r.tickets_are h in
             let e = weigh_idle h u u_idle in omega arith;
-        numbers_are = λ h. let a = total_set (λ x. weigh h (numbers x)) s.views id v b at in let c = total_set (λ x. weigh h (numbers x)) vs other u nobody there in let d = r.numbers_are h in
+        numbers_are =
+            λ h. let a = total_set (λ x. weigh h (numbers x)) s.views id v b at in let c = total_set (λ x. weigh h (numbers x)) vs other u nobody there in
+            let d = r.numbers_are h in
             let e = weigh_numbers h v v_stands in let i = weigh_numbers h b v_stands in let j = weigh_numbers h u u_stands in
             let k : weigh h u.left ≡ 0 = ap (weigh h) u_left in
             let m : weigh h (map (λ p. p.0) (u.joined ++ v.joined)) ≡ weigh h (map (λ p. p.0) u.joined) + weigh h (map (λ p. p.0) v.joined) =
@@ -206,14 +237,24 @@ module _ {T : Type 0} (history : T → History) where
           ) in
           dite (ℕ_discrete n.0 id)
           (λ is. let all : v.seen ≡ r.log = ap (λ (x : View). x.seen) (sym (same_view s.views id n.0 v n.1 at n.2 is)) ∙ n.4 in
-          here (⊎_elim (λ t. let long : length v.seen ≡ length r.log = ap length all in let le : length v.seen ≤ length u.seen = t.1 in t.0 ∙ earlier_whole u.seen r.log u_begins (omega arith)) (λ t. t.0 ∙ all) two))
+          here
+          (⊎_elim
+          (λ t. let long : length v.seen ≡ length r.log = ap length all in let le : length v.seen ≤ length u.seen = t.1 in
+          t.0 ∙ earlier_whole u.seen r.log u_begins (omega arith))
+          (λ t. t.0 ∙ all) two))
           (λ not_id. dite (ℕ_discrete n.0 other)
           (λ is. let all : u.seen ≡ r.log = ap (λ (x : View). x.seen) (sym (same_view s.views other n.0 u n.1 at_u n.2 is)) ∙ n.4 in
-          here (⊎_elim (λ t. t.0 ∙ all) (λ t. let long : length u.seen ≡ length r.log = ap length all in let lt : length u.seen < length v.seen = t.1 in let m = earlier_length v.seen r.log v_begins in absurd (omega arith)) two))
+          here
+          (⊎_elim (λ t. t.0 ∙ all)
+          (λ t. let long : length u.seen ≡ length r.log = ap length all in let lt : length u.seen < length v.seen = t.1 in
+          let m = earlier_length v.seen r.log v_begins in absurd (omega arith))
+          two))
           (λ not_other. (n.0, n.1, set_else (set s.views id b) other n.0 nobody not_other ∙ (set_else s.views id n.0 b not_id ∙ n.2), n.3, n.4)))
 
   -- the seat that took in all others knows the last value's history, and each number's entries in it
-  pub ends : (words : List ℕ) (slots : List (Option T)) (id : ℕ) (v : View) → v.spent ≡ false → v.stage ≡ Idle → v.seats ≤ length (pairs_of v) → Final (Seen (Rule history) id v) words slots
+  pub ends :
+      (words : List ℕ) (slots : List (Option T)) (id : ℕ) (v : View) → v.spent ≡ false → v.stage ≡ Idle → v.seats ≤ length (pairs_of v)
+      → Final (Seen (Rule history) id v) words slots
       → (x : T) × (get_elem? slots 0 ≡ some (Some x)) × (v.seen ≡ history x) × All (λ p. p.1 ≡ entries_of p.0 (history x)) (pairs_of v)
   ends words slots id v standing idle all fin =
       let s : S history = fin.0 in
@@ -229,7 +270,10 @@ module _ {T : Type 0} (history : T → History) where
       let c = length-append v.joined ((v.number, v.mine) ∷ []) in
       let d = f.seats_is in
       let spent : (j : ℕ) (u : View) → j ≢ id → get_elem? s.views j ≡ some u → u ≡ nobody = λ j u other at_u.
-      ⊎_elim (λ e. e) (λ (o : Fits r.made r.serving r.log u). let two = total_two g s.views id j v u at at_u (λ e. other (sym e)) in let k = weigh_numbers one u o.standing in absurd (omega arith)) (r.each_seat j u at_u) in
+      ⊎_elim (λ e. e)
+      (λ (o : Fits r.made r.serving r.log u). let two = total_two g s.views id j v u at at_u (λ e. other (sym e)) in let k = weigh_numbers one u o.standing in
+      absurd (omega arith))
+      (r.each_seat j u at_u) in
       let quiet : (j : ℕ) (u : View) → get_elem? s.views j ≡ some u → ¬ IsServing u = λ j u at_u sv. dite (ℕ_discrete j id)
       (λ is. idle_quiet v idle (subst IsServing (same_view s.views id j v u at at_u is) sv)) (λ other. not_served u (spent j u other at_u) sv) in
       let whole : v.seen ≡ r.log = dite (ℕ_discrete r.newest.0 id)
@@ -240,10 +284,14 @@ module _ {T : Type 0} (history : T → History) where
         fin.4 0 (Some got.0) got.1,
         whole ∙ sym got.2,
         subst (λ (l : History). All (λ p. p.1 ≡ entries_of p.0 l) (pairs_of v)) (sym got.2)
-            (All-append (λ p. p.1 ≡ entries_of p.0 r.log) v.joined ((v.number, v.mine) ∷ []) f.joined_is (All-cons (λ p. p.1 ≡ entries_of p.0 r.log) (v.number, v.mine) [] f.mine_is (All-nil (λ p. p.1 ≡ entries_of p.0 r.log)))),
+            (All-append (λ p. p.1 ≡ entries_of p.0 r.log) v.joined ((v.number, v.mine) ∷ []) f.joined_is
+            (All-cons (λ p. p.1 ≡ entries_of p.0 r.log) (v.number, v.mine) [] f.mine_is (All-nil (λ p. p.1 ≡ entries_of p.0 r.log)))),
       )
     where
-      home_has : (s : S history) (r : Rule history s) → ((j : ℕ) (u : View) → get_elem? s.views j ≡ some u → ¬ IsServing u) → (home : maybe.Option (Option T)) → s.homes ≡ home ∷ [] → SlotFits history r.log s.views home
+      home_has :
+          (s : S history) (r : Rule history s) → ((j : ℕ) (u : View) → get_elem? s.views j ≡ some u → ¬ IsServing u) → (home : maybe.Option (Option T))
+          → s.homes ≡ home ∷ [] → SlotFits history r.log s.views home
           → (x : T) × (get_elem? s.homes 0 ≡ some (some (Some x))) × (history x ≡ r.log)
       home_has s r quiet none homes out = absurd (quiet out.0 out.1 out.2 out.3)
-      home_has s r quiet (some y) homes home = (home.0, ap (λ (hs : List (maybe.Option (Option T))). get_elem? hs 0) homes ∙ ap (λ (z : Option T). some (some z)) home.1, home.2)
+      home_has s r quiet (some y) homes home =
+          (home.0, ap (λ (hs : List (maybe.Option (Option T))). get_elem? hs 0) homes ∙ ap (λ (z : Option T). some (some z)) home.1, home.2)

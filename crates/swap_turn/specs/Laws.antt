@@ -12,7 +12,8 @@ OneAdded = (number : ℕ) (H : History) (row : Row) → row.entry.caller.0 ≡ n
 
 -- and what it adds behind what it added is its own too
 abbrev pub MoreAdded : Type 0
-MoreAdded = (number : ℕ) (H now later : History) → Extends number H now → Extends number now later → Extends number H later
+MoreAdded =
+    (number : ℕ) (H now later : History) → Extends number H now → Extends number now later → Extends number H later
 
 abbrev pub EarlierStill : Type 0
 EarlierStill = (H now later : History) → IsEarlier H now → IsEarlier now later → IsEarlier H later

@@ -20,7 +20,8 @@ pub record Standing : Type 0 where
 
 -- a pass that `make` gives over this history
 abbrev pub newcomer : LockId → History → ℕ → Standing
-newcomer lock log number = record { lock = lock; number = number; free = true; seen = log; mine = entries_of number log }
+newcomer lock log number =
+    record { lock = lock; number = number; free = true; seen = log; mine = entries_of number log }
 
 -- a pass of this lock, without a turn
 abbrev pub IsFreeOf : LockId → Standing → Type 0
@@ -41,7 +42,8 @@ pair_of p = (p.number, p.mine)
 -- with no view, the seat is with the turn
 abbrev pub standing_of : TableId → ℕ → List View → Standing
 standing_of z n [] = record { lock = record { table = z; seats = 0 }; number = n; free = false; seen = []; mine = [] }
-standing_of z n (v ∷ vs) = record { lock = record { table = z; seats = v.seats }; number = n; free = true; seen = v.seen; mine = v.mine }
+standing_of z n (v ∷ vs) =
+    record { lock = record { table = z; seats = v.seats }; number = n; free = true; seen = v.seen; mine = v.mine }
 
 abbrev pub IsSeated : ℕ → List View → Type 0
 IsSeated n [] = Unit {0}

@@ -65,7 +65,17 @@ nobody = record { spent = true; number = 0; seats = 0; seen = []; mine = []; sta
 
 -- a seat between two turns
 abbrev pub resting : ℕ → ℕ → History → History → View
-resting number seats seen mine = record { spent = false; number = number; seats = seats; seen = seen; mine = mine; stage = Idle; left = []; joined = [] }
+resting number seats seen mine =
+    record {
+      spent = false;
+      number = number;
+      seats = seats;
+      seen = seen;
+      mine = mine;
+      stage = Idle;
+      left = [];
+      joined = [];
+    }
 
 -- a seat at this stage, with nothing to give and nothing taken in
 abbrev pub posed : Stage → View → View
@@ -97,7 +107,8 @@ module _ {T : Type 0} (history : T → History) where
   -- at home the slot has a value with the history; it is out exactly while a seat is served
   abbrev pub SlotFits : History → List View → maybe.Option (Option T) → Type 0
   SlotFits log views none = (j : ℕ) × (v : View) × (get_elem? views j ≡ some v) × IsServing v
-  SlotFits log views (some y) = (x : T) × (y ≡ Some x) × (history x ≡ log) × ((j : ℕ) (v : View) → get_elem? views j ≡ some v → ¬ IsServing v)
+  SlotFits log views (some y) =
+      (x : T) × (y ≡ Some x) × (history x ≡ log) × ((j : ℕ) (v : View) → get_elem? views j ≡ some v → ¬ IsServing v)
 
   pub record Turns (s : State (Option T) View) : Type 0 where
     pub ticket : ℕ
@@ -110,7 +121,8 @@ module _ {T : Type 0} (history : T → History) where
     pub serving_low : serving ≤ 9223372036854775808
     pub made_low : made ≤ 64
     -- the tickets that seats hold are those from `serving` on, each once
-    pub tickets_are : (h : ℕ → ℕ) → total (λ v. weigh h (tickets v)) s.views + weigh_below h serving ≡ weigh_below h ticket
+    pub tickets_are :
+        (h : ℕ → ℕ) → total (λ v. weigh h (tickets v)) s.views + weigh_below h serving ≡ weigh_below h ticket
     -- each number below `made` stands in one seat, once
     pub numbers_are : (h : ℕ → ℕ) → total (λ v. weigh h (numbers v)) s.views ≡ weigh_below h made
     pub callers : All (λ (row : Row). row.entry.caller.0 < made) log
@@ -120,7 +132,17 @@ module _ {T : Type 0} (history : T → History) where
 
 -- the view of the first seat of so many, over this history: it has the last number, and the others to give
 abbrev pub first_view : ℕ → History → View
-first_view seats log = record { spent = false; number = seats - 1; seats = seats; seen = log; mine = entries_of (seats - 1) log; stage = Idle; left = numbers_from 0 (seats - 1); joined = [] }
+first_view seats log =
+    record {
+      spent = false;
+      number = seats - 1;
+      seats = seats;
+      seen = log;
+      mine = entries_of (seats - 1) log;
+      stage = Idle;
+      left = numbers_from 0 (seats - 1);
+      joined = [];
+    }
 
 abbrev pub first_of : List ℕ → ℕ
 first_of [] = 0
@@ -161,8 +183,14 @@ module _ {T : Type 0} (history : T → History) where
   -- where the ticket is served, the slot is taken, and the history of its value is what the seat has seen
   abbrev pub looked : Step (Option T) → Me (Option T) View → ℕ → Me (Option T) View → Type 0
   looked st m n m' = (t : ℕ) → m.0.stage ≡ Drawn t
-      → (n ≡ t → (x : T) × (m' ≡ (record m.0 { seen = history x; stage = Serving t }, (0, Some x) ∷ m.1)) × IsEarlier m.0.seen (history x) × (m.0.mine ≡ entries_of m.0.number (history x))) × (n ≢ t → m' ≡ m)
+      → (n ≡ t
+      → (x : T) × (m' ≡ (record m.0 { seen = history x; stage = Serving t }, (0, Some x) ∷ m.1))
+      × IsEarlier m.0.seen (history x) × (m.0.mine ≡ entries_of m.0.number (history x)))
+      × (n ≢ t → m' ≡ m)
 
   -- the history of the value in hand is what the seat has seen, and what was added is its own
   abbrev pub noted : Step (Option T) → Me (Option T) View → ℕ → Me (Option T) View → Type 0
-  noted st m n m' = (x : T) → m.1 ≡ (0, Some x) ∷ [] → (m' ≡ (record m.0 { seen = history x; mine = added_since m.0.seen (history x) ++ m.0.mine }, m.1)) × (m'.0.mine ≡ entries_of m'.0.number (history x))
+  noted st m n m' =
+      (x : T) → m.1 ≡ (0, Some x) ∷ []
+      → (m' ≡ (record m.0 { seen = history x; mine = added_since m.0.seen (history x) ++ m.0.mine }, m.1))
+      × (m'.0.mine ≡ entries_of m'.0.number (history x))

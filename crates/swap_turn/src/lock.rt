@@ -34,7 +34,8 @@ impl<T: Told + Drop, A: Allocator> Model for TurnLock<T, A> {
 
     ghost view = { λ l. record { table = l.table.shared.table_id; seats = l.seats } };
 
-    ghost invariant = { λ l. (l.table.shared.table_id.words ≡ 4) × (l.table.shared.table_id.slots ≡ 1) × (1 ≤ l.seats) };
+    ghost invariant = { λ l. (l.table.shared.table_id.words ≡ 4)
+        × (l.table.shared.table_id.slots ≡ 1) × (1 ≤ l.seats) };
 }
 
 /// The right to take turns. Its seat is with the turn while it has one.
@@ -58,7 +59,8 @@ impl Model for Pass {
 pub struct Turn<T> {
     seat: Seat<Option<T>, View>,
     pub(crate) value: T,
-    ghost held: { (seat.me.0 ≡ posed (Serving (ticket_of seat.me.0.stage)) seat.me.0) × (seat.me.1 ≡ (0, None) ∷ []) },
+    ghost held: { (seat.me.0 ≡ posed (Serving (ticket_of seat.me.0.stage)) seat.me.0)
+        × (seat.me.1 ≡ (0, None) ∷ []) },
 }
 
 impl Pass {
@@ -70,7 +72,8 @@ impl Pass {
 
     fn into_seat<T>(self) -> Seat<Option<T>, View>
         requires { self.free ≡ true }
-        ensures { (result.table_id ≡ self.lock.table) × (result.me ≡ (resting self.number self.lock.seats self.seen self.mine, [])) }
+        ensures { (result.table_id ≡ self.lock.table)
+            × (result.me ≡ (resting self.number self.lock.seats self.seen self.mine, [])) }
     {
         let Pass { badge, number: _ } = self;
         badge.into_seat()
@@ -79,7 +82,9 @@ impl Pass {
     // The seat of a pass without a turn, which is left without it.
     fn leave_seat<T>(&mut self) -> Seat<Option<T>, View>
         requires { self.old.free ≡ true }
-        ensures seat { (result.table_id ≡ self.old.lock.table) × (result.me ≡ (resting self.old.number self.old.lock.seats self.old.seen self.old.mine, [])) }
+        ensures seat { (result.table_id ≡ self.old.lock.table)
+            × (result.me
+            ≡ (resting self.old.number self.old.lock.seats self.old.seen self.old.mine, [])) }
         ensures pass { (self.new.number ≡ self.old.number) × (self.new.free ≡ false) }
     {
         mem::replace(&mut self.badge, Badge::blank()).into_seat()
@@ -89,7 +94,8 @@ impl Pass {
 impl<T: Told + Drop, A: Allocator> TurnLock<T, A> {
     ghost use Rattle.swap_turn.specs.Holding.{value_of, holder};
 
-    /// A lock round the value, and a pass for each number below `seats`, ascending. Each has seen the value's history.
+    /// A lock round the value, and a pass for each number below `seats`, ascending. Each has seen
+    /// the value's history.
     pub fn make(
         alloc: A,
         value: T,
@@ -100,7 +106,8 @@ impl<T: Told + Drop, A: Allocator> TurnLock<T, A> {
         requires seats { (1 ≤ seats) × (seats ≤ 64) }
         requires callers { All (λ (row : Row). row.entry.caller.0 < seats) (T.history value) }
         ensures seats { IfOk result (λ r. r.0.seats ≡ seats) }
-        ensures passes { IfOk result (λ r. r.1.items ≡ map (newcomer r.0 (T.history value)) (numbers_from 0 seats)) }
+        ensures passes { IfOk result
+            (λ r. r.1.items ≡ map (newcomer r.0 (T.history value)) (numbers_from 0 seats)) }
         ensures free { IfOk result (λ r. All (IsFreeOf r.0) r.1.items) }
     {
         let mut passes = Vec::with_capacity(alloc.clone()?, seats as usize)?;
@@ -118,11 +125,13 @@ impl<T: Told + Drop, A: Allocator> TurnLock<T, A> {
         Ok((TurnLock { table, seats }, passes))
     }
 
-    /// Draws a ticket, waits for its turn, and takes the value. Its history begins with what the pass had seen.
+    /// Draws a ticket, waits for its turn, and takes the value. Its history begins with what the
+    /// pass had seen.
     pub fn take<R: Wait>(&self, rt: &R, pass: &mut Pass) -> Turn<T>
         requires { IsFreeOf self.now pass.old }
         ensures seen { IsEarlier pass.old.seen (T.history (value_of result)) }
-        ensures turn { holder result ≡ record pass.old { free = false; seen = T.history (value_of result) } }
+        ensures turn { holder result
+            ≡ record pass.old { free = false; seen = T.history (value_of result) } }
         ensures stands { StandsFor (T.history (value_of result)) (holder result) }
         ensures pass { (pass.new.number ≡ pass.old.number) × (pass.new.free ≡ false) }
     {
@@ -136,7 +145,14 @@ impl<T: Told + Drop, A: Allocator> TurnLock<T, A> {
         requires lock { seat.table_id ≡ self.now.table }
         requires drawn { seat.me ≡ (posed (Drawn ticket) seat.me.0, []) }
         ensures seen { IsEarlier seat.me.0.seen (T.history (value_of result)) }
-        ensures turn { holder result ≡ record { lock = record { table = seat.table_id; seats = seat.me.0.seats }; number = seat.me.0.number; free = false; seen = T.history (value_of result); mine = seat.me.0.mine } }
+        ensures turn { holder result
+            ≡ record {
+              lock = record { table = seat.table_id; seats = seat.me.0.seats };
+              number = seat.me.0.number;
+              free = false;
+              seen = T.history (value_of result);
+              mine = seat.me.0.mine;
+            } }
         ensures own { seat.me.0.mine ≡ entries_of seat.me.0.number (T.history (value_of result)) }
     {
         for _ in rt.forever() {
@@ -170,12 +186,14 @@ impl<T: Told + Drop, A: Allocator> TurnLock<T, A> {
         pass.badge = seat.into_badge();
     }
 
-    /// Takes all passes and gives the value. Each pass's entries are those that the value's history has of it. Where a pass is missing, all comes back.
+    /// Takes all passes and gives the value. Each pass's entries are those that the value's history
+    /// has of it. Where a pass is missing, all comes back.
     pub fn close(self, passes: Vec<Pass, A>) -> Result<T, (TurnLock<T, A>, Vec<Pass, A>)>
         requires { All (IsFreeOf self) passes.items }
         ensures refused { IsErr result ↔ (length passes.items < self.seats) }
         ensures kept { IfErr result (λ r. (r.0 ≡ self) × (r.1 ≡ passes)) }
-        ensures value { IfOk result (λ x. All (λ p. p.mine ≡ entries_of p.number (T.history x)) passes.items) }
+        ensures value { IfOk result
+            (λ x. All (λ p. p.mine ≡ entries_of p.number (T.history x)) passes.items) }
     {
         if passes.len() < self.seats as usize {
             return Err((self, passes));
@@ -192,11 +210,16 @@ fn deal<T: Told + Drop, A: Allocator>(
     mut seat: Seat<Option<T>, View>,
     passes: &mut Vec<Pass, A>,
 )
-    requires lock { (seat.table_id ≡ table.now.shared.table_id) × (table.now.shared.table_id.words ≡ 4) × (1 ≤ seats) }
+    requires lock { (seat.table_id ≡ table.now.shared.table_id)
+        × (table.now.shared.table_id.words ≡ 4) × (1 ≤ seats) }
     requires first { seat.me ≡ (first_view seats seat.me.0.seen, []) }
     requires room { (passes.old.items ≡ []) × (seats ≤ vec_capacity passes.old) }
-    ensures passes { passes.new.items ≡ map (newcomer (record { table = table.now.shared.table_id; seats = seats }) seat.me.0.seen) (numbers_from 0 seats) }
-    ensures free { All (IsFreeOf (record { table = table.now.shared.table_id; seats = seats })) passes.new.items }
+    ensures passes { passes.new.items
+        ≡ map
+        (newcomer (record { table = table.now.shared.table_id; seats = seats }) seat.me.0.seen)
+        (numbers_from 0 seats) }
+    ensures free { All
+        (IsFreeOf (record { table = table.now.shared.table_id; seats = seats })) passes.new.items }
 {
     for number in 0..seats - 1 {
         let next = table.shared.split_seat::<NextNumber>(&mut seat);
@@ -217,8 +240,10 @@ fn end<T: Told + Drop, A: Allocator>(
     seats: u32,
     mut passes: Vec<Pass, A>,
 ) -> T
-    requires lock { (table.shared.table_id.words ≡ 4) × (table.shared.table_id.slots ≡ 1) × (1 ≤ seats) }
-    requires free { All (IsFreeOf (record { table = table.shared.table_id; seats = seats })) passes.items }
+    requires lock { (table.shared.table_id.words ≡ 4) × (table.shared.table_id.slots ≡ 1)
+        × (1 ≤ seats) }
+    requires free { All
+        (IsFreeOf (record { table = table.shared.table_id; seats = seats })) passes.items }
     requires all { seats ≤ length passes.items }
     ensures { All (λ p. p.mine ≡ entries_of p.number (T.history result)) passes.items }
 {

@@ -45,7 +45,8 @@ pub struct Opening<T> {
     pub start: Snapshot<T>,
 }
 
-/// The rule of the table. Word 0 is the next ticket, 1 the ticket that is served, 2 the length of the history, and 3 the number of seats.
+/// The rule of the table. Word 0 is the next ticket, 1 the ticket that is served, 2 the length of
+/// the history, and 3 the number of seats.
 pub struct Turning;
 
 impl<T: Told> TableRule<Option<T>, View, Opening<T>> for Turning {

@@ -21,7 +21,9 @@ pub record Comes (d : Decoding) (answer : Next) (after : Decoding) (page : List 
   pub after_is : after ≡ answered d answer page
   pub in_front : (buffer : List ℕ) → page_in d answer (page ++ buffer) ≡ page
 
-comes_whole : (d : Decoding) (k : Kind) → judged d.side d.page_bytes d.rest ≡ Whole k → d.bad ≡ false → d.page_bytes ≤ 4096 → IsBytes d.rest → Comes d (told_by d (Whole k)) (left_by d (Whole k)) (shown_by d (Whole k))
+comes_whole :
+    (d : Decoding) (k : Kind) → judged d.side d.page_bytes d.rest ≡ Whole k → d.bad ≡ false → d.page_bytes ≤ 4096 → IsBytes d.rest
+    → Comes d (told_by d (Whole k)) (left_by d (Whole k)) (shown_by d (Whole k))
 comes_whole d k e alive most fits =
     let n = whole_length d.page_bytes (form k) in
     let front = take n d.rest in
@@ -41,22 +43,31 @@ comes_whole d k e alive most fits =
       in_front = λ buffer. take_at p buffer ((form_of m).pages * d.page_bytes) f.is_frame.pages;
     }
 
-pub comes_by : (d : Decoding) (j : Judged) → judged d.side d.page_bytes d.rest ≡ j → d.bad ≡ false → d.page_bytes ≤ 4096 → IsBytes d.rest → Comes d (told_by d j) (left_by d j) (shown_by d j)
+pub comes_by :
+    (d : Decoding) (j : Judged) → judged d.side d.page_bytes d.rest ≡ j → d.bad ≡ false → d.page_bytes ≤ 4096 → IsBytes d.rest
+    → Comes d (told_by d j) (left_by d j) (shown_by d j)
 comes_by d (Whole k) e alive most fits = comes_whole d k e alive most fits
-comes_by d Partial e alive most fits = record { answers = record { alive = alive; partial = partial_is d.side d.page_bytes d.rest e most fits }; after_is = refl; in_front = λ buffer. refl }
-comes_by d Hopeless e alive most fits = record { answers = record { hopeless = hopeless_is d.side d.page_bytes d.rest e; place = refl }; after_is = refl; in_front = λ buffer. refl }
+comes_by d Partial e alive most fits =
+    record { answers = record { alive = alive; partial = partial_is d.side d.page_bytes d.rest e most fits }; after_is = refl; in_front = λ buffer. refl }
+comes_by d Hopeless e alive most fits =
+    record { answers = record { hopeless = hopeless_is d.side d.page_bytes d.rest e; place = refl }; after_is = refl; in_front = λ buffer. refl }
 
 stays_bad : (d : Decoding) → d.bad ≡ true → d ≡ record d { bad = true }
 stays_bad d e = ap (λ (b : Bool). record d { bad = b }) e
 
 comes_bad : (d : Decoding) → d.bad ≡ true → judged d.side d.page_bytes d.rest ≡ Hopeless → Comes d (next.Bad d.before) d []
-comes_bad d bad e = record { answers = record { hopeless = hopeless_is d.side d.page_bytes d.rest e; place = refl }; after_is = stays_bad d bad; in_front = λ buffer. refl }
+comes_bad d bad e =
+    record { answers = record { hopeless = hopeless_is d.side d.page_bytes d.rest e; place = refl }; after_is = stays_bad d bad; in_front = λ buffer. refl }
 
-either : (d : Decoding) (b : Bool) (x y : Next) (v w : Decoding) (p q : List ℕ) → (b ≡ true → Comes d x v p) → (b ≡ false → Comes d y w q) → Comes d (cond b x y) (cond b v w) (cond b p q)
+either :
+    (d : Decoding) (b : Bool) (x y : Next) (v w : Decoding) (p q : List ℕ) → (b ≡ true → Comes d x v p) → (b ≡ false → Comes d y w q)
+    → Comes d (cond b x y) (cond b v w) (cond b p q)
 either d true x y v w p q h g = h refl
 either d false x y v w p q h g = g refl
 
-pub comes : (d : Decoding) → d.page_bytes ≤ 4096 → (d.bad ≡ false → IsBytes d.rest) → (d.bad ≡ true → judged d.side d.page_bytes d.rest ≡ Hopeless) → Comes d (told d) (left d) (shown d)
+pub comes :
+    (d : Decoding) → d.page_bytes ≤ 4096 → (d.bad ≡ false → IsBytes d.rest) → (d.bad ≡ true → judged d.side d.page_bytes d.rest ≡ Hopeless)
+    → Comes d (told d) (left d) (shown d)
 comes d most fits bad =
     let j = judged d.side d.page_bytes d.rest in
     either d d.bad (next.Bad d.before) (told_by d j) d (left_by d j) [] (shown_by d j) (λ b. comes_bad d b (bad b)) (λ b. comes_by d j refl b most (fits b))
@@ -66,13 +77,15 @@ comes d most fits bad =
 -- a frame in front is no front of a longer one
 whole_not_partial : (side : Side) (page_bytes : ℕ) (bytes : List ℕ) → IsWhole side page_bytes bytes → IsPartial side page_bytes bytes → ⊥
 whole_not_partial side page_bytes bytes w p =
-    let parts : w.front ++ (w.rest ++ p.more) ≡ (bytes ++ p.more) ++ [] = sym (append_assoc w.front w.rest p.more) ∙ ap (λ (x : List ℕ). x ++ p.more) (sym w.parts) ∙ sym (append-nil (bytes ++ p.more)) in
+    let parts : w.front ++ (w.rest ++ p.more) ≡ (bytes ++ p.more) ++ [] =
+    sym (append_assoc w.front w.rest p.more) ∙ ap (λ (x : List ℕ). x ++ p.more) (sym w.parts) ∙ sym (append-nil (bytes ++ p.more)) in
     let both = no_front side side page_bytes page_bytes w.m p.m w.page p.page w.front (bytes ++ p.more) (w.rest ++ p.more) [] w.is_frame p.is_frame parts in
     let none : length (w.rest ++ p.more) ≡ 0 = ap length both.1 in
     absurd (omega (arith, none, p.some, length-append w.rest p.more))
 
 pub excludes : (side : Side) (page_bytes : ℕ) (bytes : List ℕ)
-    → (IsWhole side page_bytes bytes → IsPartial side page_bytes bytes → ⊥) × (IsWhole side page_bytes bytes → IsHopeless side page_bytes bytes → ⊥) × (IsPartial side page_bytes bytes → IsHopeless side page_bytes bytes → ⊥)
+    → (IsWhole side page_bytes bytes → IsPartial side page_bytes bytes → ⊥) × (IsWhole side page_bytes bytes → IsHopeless side page_bytes bytes → ⊥)
+    × (IsPartial side page_bytes bytes → IsHopeless side page_bytes bytes → ⊥)
 excludes side page_bytes bytes = (
   whole_not_partial side page_bytes bytes,
   λ w h. h.none_in_front w.m w.page w.front w.rest w.is_frame w.parts,
@@ -86,7 +99,9 @@ pub must_give : (d : Decoding) (m : Msg) (front : List ℕ) (answer : Next) (pag
 must_give d m front (next.Got n) page a g =
     let f = frame n page in
     let h = frame m front in
-    let both = no_front d.side d.side d.page_bytes d.page_bytes n m page front f h (drop (length f) d.rest) (drop (length h) d.rest) a.is_frame g.is_frame (sym a.front ∙ g.front) in
+    let both =
+    no_front d.side d.side d.page_bytes d.page_bytes n m page front f h (drop (length f) d.rest) (drop (length h) d.rest) a.is_frame g.is_frame
+    (sym a.front ∙ g.front) in
     let there : IsFrame d.side d.page_bytes m front f = subst (λ (x : List ℕ). IsFrame d.side d.page_bytes m front x) (sym both.0) g.is_frame in
     ap (λ (i : Msg). next.Got i) (one_message d.side d.side d.page_bytes d.page_bytes n m page front f a.is_frame there).0
 must_give d m front next.More page a g = absurd ((excludes d.side d.page_bytes d.rest).0 (whole_from d m front g) a.partial)
@@ -109,12 +124,15 @@ pub record Called (d : Decoding) (answer : Next) (after : Decoding) (buffer new 
   pub after_is : after ≡ answered d answer (page_in d answer new)
   pub page : new ≡ page_in d answer new ++ drop (length (page_in d answer new)) buffer
 
-pub called : (d : Decoding) (answer : Next) (after : Decoding) (buffer new : List ℕ) → d.page_bytes ≤ 4096 → (d.bad ≡ false → IsBytes d.rest) → (d.bad ≡ true → judged d.side d.page_bytes d.rest ≡ Hopeless) → answer ≡ told d → after ≡ left d
+pub called :
+    (d : Decoding) (answer : Next) (after : Decoding) (buffer new : List ℕ) → d.page_bytes ≤ 4096 → (d.bad ≡ false → IsBytes d.rest)
+    → (d.bad ≡ true → judged d.side d.page_bytes d.rest ≡ Hopeless) → answer ≡ told d → after ≡ left d
     → new ≡ shown d ++ drop (length (shown d)) buffer
     → Called d answer after buffer new
 called d answer after buffer new most fits bad is left_is shown_is =
     let c = comes d most fits bad in
-    let page : page_in d answer new ≡ shown d = ap (λ (a : Next). page_in d a new) is ∙ ap (page_in d (told d)) shown_is ∙ c.in_front (drop (length (shown d)) buffer) in
+    let page : page_in d answer new ≡ shown d =
+    ap (λ (a : Next). page_in d a new) is ∙ ap (page_in d (told d)) shown_is ∙ c.in_front (drop (length (shown d)) buffer) in
     let answers : Answers d answer (shown d) = subst (λ (a : Next). Answers d a (shown d)) (sym is) c.answers in
     record {
       answers = subst (λ (p : List ℕ). Answers d answer p) (sym page) answers;

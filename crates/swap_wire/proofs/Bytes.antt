@@ -28,7 +28,8 @@ pub IsBytes-zeros : (n : ℕ) → IsBytes (replicate n 0)
 IsBytes-zeros n i =
     elim (cases_lt i n) [
       | inl lt ↦ let e : get_or (replicate n 0) i 0 ≡ 0 = get_or-replicate {A = ℕ} n i 0 0 lt in rw e (omega arith)
-      | inr le ↦ let e : get_or (replicate n 0) i 0 ≡ 0 = get_or_past {X = ℕ} (replicate n 0) i 0 (omega (arith, length-replicate {A = ℕ} n 0)) in rw e (omega arith)
+      | inr le ↦ let e : get_or (replicate n 0) i 0 ≡ 0 = get_or_past {X = ℕ} (replicate n 0) i 0 (omega (arith, length-replicate {A = ℕ} n 0)) in
+          rw e (omega arith)
     ]
 
 pub glue : (a b c d : List ℕ) → a ≡ c → b ≡ d → a ++ b ≡ c ++ d
@@ -44,11 +45,13 @@ cut a x b y len e = (
 -- a number read at a place, and its bytes
 pub word_back : (bytes : List ℕ) (at : ℕ) → at + 4 ≤ length bytes → IsBytes bytes → word (word_at bytes at) ≡ take 4 (drop at bytes)
 word_back bytes at le fits =
-    be_bytes_4 (take 4 (drop at bytes)) (word_at bytes at) (omega (arith, length-take 4 (drop at bytes), length-drop at bytes)) (IsBytes-take 4 (drop at bytes) (IsBytes-drop at bytes fits)) refl
+    be_bytes_4 (take 4 (drop at bytes)) (word_at bytes at) (omega (arith, length-take 4 (drop at bytes), length-drop at bytes))
+    (IsBytes-take 4 (drop at bytes) (IsBytes-drop at bytes fits)) refl
 
 pub long_back : (bytes : List ℕ) (at : ℕ) → at + 8 ≤ length bytes → IsBytes bytes → long (long_at bytes at) ≡ take 8 (drop at bytes)
 long_back bytes at le fits =
-    be_bytes_8 (take 8 (drop at bytes)) (long_at bytes at) (omega (arith, length-take 8 (drop at bytes), length-drop at bytes)) (IsBytes-take 8 (drop at bytes) (IsBytes-drop at bytes fits)) refl
+    be_bytes_8 (take 8 (drop at bytes)) (long_at bytes at) (omega (arith, length-take 8 (drop at bytes), length-drop at bytes))
+    (IsBytes-take 8 (drop at bytes) (IsBytes-drop at bytes fits)) refl
 
 word_below : (bytes : List ℕ) → IsBytes bytes → from_be_bytes w32 bytes < 2 ^ 32
 word_below bytes fits = omega (arith, fits 0, fits 1, fits 2, fits 3)
@@ -71,7 +74,9 @@ last_back bytes at len fits = word_back bytes at (omega arith) fits ∙ take_all
 
 pub two_back : (bytes : List ℕ) → length bytes ≡ 8 → IsBytes bytes → word (word_at bytes 0) ++ word (word_at bytes 4) ≡ bytes
 two_back bytes len fits =
-    glue (word (word_at bytes 0)) (word (word_at bytes 4)) (take 4 bytes) (drop 4 bytes) (word_back bytes 0 (omega arith) fits) (last_back bytes 4 (omega arith) fits) ∙ take-append-drop 4 bytes
+    glue (word (word_at bytes 0)) (word (word_at bytes 4)) (take 4 bytes) (drop 4 bytes) (word_back bytes 0 (omega arith) fits)
+    (last_back bytes 4 (omega arith) fits)
+    ∙ take-append-drop 4 bytes
 
 pub rate_back : (bytes : List ℕ) → length bytes ≡ 12 → IsBytes bytes → word (word_at bytes 0) ++ long (long_at bytes 4) ≡ bytes
 rate_back bytes len fits =
@@ -80,7 +85,12 @@ rate_back bytes len fits =
 
 pub three_back : (bytes : List ℕ) → length bytes ≡ 12 → IsBytes bytes → word (word_at bytes 0) ++ word (word_at bytes 4) ++ word (word_at bytes 8) ≡ bytes
 three_back bytes len fits =
-    let front = glue (word (word_at bytes 0)) (word (word_at bytes 4)) (take 4 bytes) (take 4 (drop 4 bytes)) (word_back bytes 0 (omega arith) fits) (word_back bytes 4 (omega arith) fits) in
-    let all = glue (word (word_at bytes 0) ++ word (word_at bytes 4)) (word (word_at bytes 8)) (take 4 bytes ++ take 4 (drop 4 bytes)) (drop 8 bytes) front (last_back bytes 8 (omega arith) fits) in
-    let rest : take 4 (drop 4 bytes) ++ drop 8 bytes ≡ drop 4 bytes = ap (λ (x : List ℕ). take 4 (drop 4 bytes) ++ x) (sym (drop-drop 4 4 bytes)) ∙ take-append-drop 4 (drop 4 bytes) in
+    let front =
+    glue (word (word_at bytes 0)) (word (word_at bytes 4)) (take 4 bytes) (take 4 (drop 4 bytes)) (word_back bytes 0 (omega arith) fits)
+    (word_back bytes 4 (omega arith) fits) in
+    let all =
+    glue (word (word_at bytes 0) ++ word (word_at bytes 4)) (word (word_at bytes 8)) (take 4 bytes ++ take 4 (drop 4 bytes)) (drop 8 bytes) front
+    (last_back bytes 8 (omega arith) fits) in
+    let rest : take 4 (drop 4 bytes) ++ drop 8 bytes ≡ drop 4 bytes =
+    ap (λ (x : List ℕ). take 4 (drop 4 bytes) ++ x) (sym (drop-drop 4 4 bytes)) ∙ take-append-drop 4 (drop 4 bytes) in
     all ∙ append_assoc (take 4 bytes) (take 4 (drop 4 bytes)) (drop 8 bytes) ∙ ap (λ (x : List ℕ). take 4 bytes ++ x) rest ∙ take-append-drop 4 bytes

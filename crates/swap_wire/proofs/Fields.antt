@@ -209,7 +209,8 @@ with_rate f a b p = ap (λ (x : ℕ). f x (long_at (word a ++ long b) 4)) (back 
 with_three : (f : ℕ → ℕ → ℕ → Msg) (a b c : ℕ) → (a < 2 ^ 32) × (b < 2 ^ 32) × (c < 2 ^ 32)
     → f (word_at (word a ++ word b ++ word c) 0) (word_at (word a ++ word b ++ word c) 4) (word_at (word a ++ word b ++ word c) 8) ≡ f a b c
 with_three f a b c p =
-    ap (λ (x : ℕ). f x (word_at (word a ++ word b ++ word c) 4) (word_at (word a ++ word b ++ word c) 8)) (back a p.0) ∙ ap (λ (x : ℕ). f a x (word_at (word a ++ word b ++ word c) 8)) (back b p.1) ∙ ap (f a b) (back c p.2)
+    ap (λ (x : ℕ). f x (word_at (word a ++ word b ++ word c) 4) (word_at (word a ++ word b ++ word c) 8)) (back a p.0)
+    ∙ ap (λ (x : ℕ). f a x (word_at (word a ++ word b ++ word c) 8)) (back b p.1) ∙ ap (f a b) (back c p.2)
 
 pub message_fields : (m : Msg) → NumbersFit m → message (kind m) (fields m) ≡ m
 message_fields (msg.Hello version page_bytes pages_per_slab) p = with_three (λ a b c. msg.Hello a b c) version page_bytes pages_per_slab p

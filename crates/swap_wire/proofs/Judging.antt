@@ -54,7 +54,9 @@ side_same Lender = refl
 
 -- ---- a list of the right length with a kind's head is a frame
 
-pub made : (side : Side) (page_bytes : ℕ) (k : Kind) (bytes : List ℕ) → (form k).from ≡ side → page_bytes ≤ 4096 → IsBytes (drop 5 bytes) → length bytes ≡ whole_length page_bytes (form k) → take 5 bytes ≡ head page_bytes (form k)
+pub made :
+    (side : Side) (page_bytes : ℕ) (k : Kind) (bytes : List ℕ) → (form k).from ≡ side → page_bytes ≤ 4096 → IsBytes (drop 5 bytes)
+    → length bytes ≡ whole_length page_bytes (form k) → take 5 bytes ≡ head page_bytes (form k)
     → IsFrame side page_bytes (message k (fields_in k bytes)) (page_of k bytes) bytes
 made side page_bytes k bytes from most fits len front =
     let m = message k (fields_in k bytes) in
@@ -66,8 +68,11 @@ made side page_bytes k bytes from most fits len front =
     let behind : drop (form k).fields (drop 5 bytes) ≡ p = drop-drop (form k).fields 5 bytes in
     let pages : length p ≡ (form k).pages * page_bytes = omega (arith, length-drop (5 + (form k).fields) bytes, len) in
     let pages-of : length p ≡ (form_of m).pages * page_bytes = pages ∙ ap (λ (i : Kind). (form i).pages * page_bytes) (sym km) in
-    let rest : fields m ++ p ≡ drop 5 bytes = ap (λ (x : List ℕ). x ++ p) fm ∙ ap (λ (x : List ℕ). fields_in k bytes ++ x) (sym behind) ∙ take-append-drop (form k).fields (drop 5 bytes) in
-    let whole : head page_bytes (form_of m) ++ (fields m ++ p) ≡ bytes = ap (λ (i : Kind). head page_bytes (form i) ++ (fields m ++ p)) km ∙ ap (λ (x : List ℕ). head page_bytes (form k) ++ x) rest ∙ ap (λ (x : List ℕ). x ++ drop 5 bytes) (sym front) ∙ take-append-drop 5 bytes in
+    let rest : fields m ++ p ≡ drop 5 bytes =
+    ap (λ (x : List ℕ). x ++ p) fm ∙ ap (λ (x : List ℕ). fields_in k bytes ++ x) (sym behind) ∙ take-append-drop (form k).fields (drop 5 bytes) in
+    let whole : head page_bytes (form_of m) ++ (fields m ++ p) ≡ bytes =
+    ap (λ (i : Kind). head page_bytes (form i) ++ (fields m ++ p)) km ∙ ap (λ (x : List ℕ). head page_bytes (form k) ++ x) rest
+    ∙ ap (λ (x : List ℕ). x ++ drop 5 bytes) (sym front) ∙ take-append-drop 5 bytes in
     record {
       from = ap (λ (i : Kind). (form i).from) km ∙ from;
       numbers = numbers_message k (fields_in k bytes) fields-fit;
@@ -100,14 +105,18 @@ never : (b : Bool) (j : Kind) → cond b Partial (Whole j) ≡ Hopeless → ⊥
 never true j e = absurd cc
 never false j e = absurd cc
 
-whole_found : (page_bytes : ℕ) (bytes : List ℕ) (o : Option Kind) (k : Kind) → judged_as page_bytes bytes o ≡ Whole k → (o ≡ Some k) × (whole_length page_bytes (form k) ≤ length bytes)
+whole_found :
+    (page_bytes : ℕ) (bytes : List ℕ) (o : Option Kind) (k : Kind) → judged_as page_bytes bytes o ≡ Whole k
+    → (o ≡ Some k) × (whole_length page_bytes (form k) ≤ length bytes)
 whole_found page_bytes bytes None k e = absurd cc
 whole_found page_bytes bytes (Some j) k e =
     let c = chosen (ltb (length bytes) (whole_length page_bytes (form j))) j k e in
     let far : whole_length page_bytes (form j) ≤ length bytes = ltb-false _ _ c.0 in
     (ap (λ (i : Kind). Some i) c.1, subst (λ (i : Kind). whole_length page_bytes (form i) ≤ length bytes) c.1 far)
 
-partial_found : (page_bytes : ℕ) (bytes : List ℕ) (o : Option Kind) → judged_as page_bytes bytes o ≡ Partial → (k : Kind) × (o ≡ Some k) × (length bytes < whole_length page_bytes (form k))
+partial_found :
+    (page_bytes : ℕ) (bytes : List ℕ) (o : Option Kind) → judged_as page_bytes bytes o ≡ Partial
+    → (k : Kind) × (o ≡ Some k) × (length bytes < whole_length page_bytes (form k))
 partial_found page_bytes bytes None e = absurd cc
 partial_found page_bytes bytes (Some j) e = (j, refl, ltb-true _ _ (waiting (ltb (length bytes) (whole_length page_bytes (form j))) j e))
 
@@ -118,9 +127,12 @@ none_found page_bytes bytes (Some j) e = absurd (never (ltb (length bytes) (whol
 -- the whole frame in front
 pub record Front (side : Side) (page_bytes : ℕ) (bytes : List ℕ) (k : Kind) : Type 0 where
   pub far : whole_length page_bytes (form k) ≤ length bytes
-  pub is_frame : IsFrame side page_bytes (message k (fields_in k (take (whole_length page_bytes (form k)) bytes))) (page_of k (take (whole_length page_bytes (form k)) bytes)) (take (whole_length page_bytes (form k)) bytes)
+  pub is_frame : IsFrame side page_bytes (message k (fields_in k (take (whole_length page_bytes (form k)) bytes)))
+      (page_of k (take (whole_length page_bytes (form k)) bytes)) (take (whole_length page_bytes (form k)) bytes)
 
-pub whole_is : (side : Side) (page_bytes : ℕ) (bytes : List ℕ) (k : Kind) → judged side page_bytes bytes ≡ Whole k → page_bytes ≤ 4096 → IsBytes bytes → Front side page_bytes bytes k
+pub whole_is :
+    (side : Side) (page_bytes : ℕ) (bytes : List ℕ) (k : Kind) → judged side page_bytes bytes ≡ Whole k → page_bytes ≤ 4096 → IsBytes bytes
+    → Front side page_bytes bytes k
 whole_is side page_bytes bytes k e most fits =
     let n = whole_length page_bytes (form k) in
     let w = whole_found page_bytes bytes (find (may_begin side page_bytes bytes) all_kinds) k e in
@@ -130,7 +142,9 @@ whole_is side page_bytes bytes k e most fits =
     let front : take 5 (take n bytes) ≡ head page_bytes (form k) = take-take 5 n bytes (omega arith) ∙ begun in
     record { far = w.1; is_frame = made side page_bytes k (take n bytes) f.from most (IsBytes-drop 5 (take n bytes) (IsBytes-take n bytes fits)) len front }
 
-partial_long : (side : Side) (page_bytes : ℕ) (bytes : List ℕ) (k : Kind) → Found side page_bytes bytes k → length bytes < whole_length page_bytes (form k) → page_bytes ≤ 4096 → IsBytes bytes → 5 ≤ length bytes → IsPartial side page_bytes bytes
+partial_long :
+    (side : Side) (page_bytes : ℕ) (bytes : List ℕ) (k : Kind) → Found side page_bytes bytes k → length bytes < whole_length page_bytes (form k)
+    → page_bytes ≤ 4096 → IsBytes bytes → 5 ≤ length bytes → IsPartial side page_bytes bytes
 partial_long side page_bytes bytes k f short most fits le =
     let n = whole_length page_bytes (form k) in
     let more : List ℕ = replicate (n - length bytes) 0 in
@@ -142,11 +156,15 @@ partial_long side page_bytes bytes k f short most fits le =
       m = message k (fields_in k (bytes ++ more));
       page = page_of k (bytes ++ more);
       more = more;
-      is_frame = made side page_bytes k (bytes ++ more) f.from most (IsBytes-drop 5 (bytes ++ more) (IsBytes-append bytes more fits (IsBytes-zeros (n - length bytes)))) len front;
+      is_frame =
+          made side page_bytes k (bytes ++ more) f.from most
+          (IsBytes-drop 5 (bytes ++ more) (IsBytes-append bytes more fits (IsBytes-zeros (n - length bytes)))) len front;
       some = omega (arith, size);
     }
 
-partial_short : (side : Side) (page_bytes : ℕ) (bytes : List ℕ) (k : Kind) → Found side page_bytes bytes k → page_bytes ≤ 4096 → length bytes < 5 → IsPartial side page_bytes bytes
+partial_short :
+    (side : Side) (page_bytes : ℕ) (bytes : List ℕ) (k : Kind) → Found side page_bytes bytes k → page_bytes ≤ 4096 → length bytes < 5
+    → IsPartial side page_bytes bytes
 partial_short side page_bytes bytes k f most lt =
     let h = head page_bytes (form k) in
     let zeros : List ℕ = replicate ((form k).fields + (form k).pages * page_bytes) 0 in
@@ -161,11 +179,15 @@ partial_short side page_bytes bytes k f most lt =
       m = message k (fields_in k (bytes ++ more));
       page = page_of k (bytes ++ more);
       more = more;
-      is_frame = made side page_bytes k (bytes ++ more) f.from most (subst IsBytes (sym behind) (IsBytes-zeros ((form k).fields + (form k).pages * page_bytes))) len front;
+      is_frame =
+          made side page_bytes k (bytes ++ more) f.from most
+          (subst IsBytes (sym behind) (IsBytes-zeros ((form k).fields + (form k).pages * page_bytes))) len front;
       some = omega (arith, length-append (drop (length bytes) h) zeros, length-drop (length bytes) h);
     }
 
-pub partial_is : (side : Side) (page_bytes : ℕ) (bytes : List ℕ) → judged side page_bytes bytes ≡ Partial → page_bytes ≤ 4096 → IsBytes bytes → IsPartial side page_bytes bytes
+pub partial_is :
+    (side : Side) (page_bytes : ℕ) (bytes : List ℕ) → judged side page_bytes bytes ≡ Partial → page_bytes ≤ 4096 → IsBytes bytes
+    → IsPartial side page_bytes bytes
 partial_is side page_bytes bytes e most fits =
     let p = partial_found page_bytes bytes (find (may_begin side page_bytes bytes) all_kinds) e in
     let f = found side page_bytes bytes p.0 p.1 in
@@ -175,13 +197,17 @@ partial_is side page_bytes bytes e most fits =
     ]
 
 -- a frame whose head agrees with the bytes would have been found
-refuted : (side : Side) (page_bytes : ℕ) (bytes : List ℕ) (m : Msg) (page front x y : List ℕ) → find (may_begin side page_bytes bytes) all_kinds ≡ None → IsFrame side page_bytes m page front → front ++ x ≡ bytes ++ y → ⊥
+refuted :
+    (side : Side) (page_bytes : ℕ) (bytes : List ℕ) (m : Msg) (page front x y : List ℕ) → find (may_begin side page_bytes bytes) all_kinds ≡ None
+    → IsFrame side page_bytes m page front → front ++ x ≡ bytes ++ y → ⊥
 refuted side page_bytes bytes m page front x y none f e =
     let h = head page_bytes (form_of m) in
-    let parts : h ++ ((fields m ++ page) ++ x) ≡ bytes ++ y = sym (append_assoc h (fields m ++ page) x) ∙ ap (λ (z : List ℕ). z ++ x) (sym (begins side page_bytes m page front f)) ∙ e in
+    let parts : h ++ ((fields m ++ page) ++ x) ≡ bytes ++ y =
+    sym (append_assoc h (fields m ++ page) x) ∙ ap (λ (z : List ℕ). z ++ x) (sym (begins side page_bytes m page front f)) ∙ e in
     let agrees : agree h bytes ≡ true = agree_same h bytes ((fields m ++ page) ++ x) y parts in
     let sides : same_side side (form_of m).from ≡ true = ap (same_side side) f.from ∙ side_same side in
-    both_ways (may_begin side page_bytes bytes (kind m)) (none_passes (may_begin side page_bytes bytes) (kind m) none) (and_from (same_side side (form_of m).from) (agree h bytes) sides agrees)
+    both_ways (may_begin side page_bytes bytes (kind m)) (none_passes (may_begin side page_bytes bytes) (kind m) none)
+    (and_from (same_side side (form_of m).from) (agree h bytes) sides agrees)
 
 pub hopeless_is : (side : Side) (page_bytes : ℕ) (bytes : List ℕ) → judged side page_bytes bytes ≡ Hopeless → IsHopeless side page_bytes bytes
 hopeless_is side page_bytes bytes e =

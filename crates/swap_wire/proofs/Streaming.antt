@@ -53,7 +53,8 @@ was_alive d steps r e =
     ]
 
 taken_bad : (d : Decoding) (bytes : List ℕ) → d.bad ≡ true → take (taken d bytes) bytes ≡ bytes
-taken_bad d bytes e = ap (λ (n : ℕ). take n bytes) (cond-true d.bad (length bytes) (min (length bytes) (room d)) e) ∙ take_all (length bytes) bytes (omega arith)
+taken_bad d bytes e =
+    ap (λ (n : ℕ). take n bytes) (cond-true d.bad (length bytes) (min (length bytes) (room d)) e) ∙ take_all (length bytes) bytes (omega arith)
 
 said_bad : (d : Decoding) (step : Step) → d.bad ≡ true → Happens d step → SaysBad d.before step
 said_bad d (Fed bytes) e h = tt
@@ -67,8 +68,14 @@ bad_stays d (Fed bytes ∷ steps) e r =
     let same = fed_bad d bytes e in
     let later : Runs d steps = subst (λ (x : Decoding). Runs x steps) same r.1 in
     let b = bad_stays d steps e later in
-    let one : take (taken d bytes) bytes ++ stream (fed d bytes) steps ≡ bytes ++ stream d steps = ap (λ (x : Decoding). take (taken d bytes) bytes ++ stream x steps) same ∙ ap (λ (x : List ℕ). x ++ stream d steps) (taken_bad d bytes e) in
-    record { says = (tt, b.says); stays = ap (λ (x : Decoding). end_of x steps) same ∙ b.stays; takes = one ∙ ap (λ (x : List ℕ). bytes ++ x) b.takes; gives = b.gives }
+    let one : take (taken d bytes) bytes ++ stream (fed d bytes) steps ≡ bytes ++ stream d steps =
+    ap (λ (x : Decoding). take (taken d bytes) bytes ++ stream x steps) same ∙ ap (λ (x : List ℕ). x ++ stream d steps) (taken_bad d bytes e) in
+    record {
+      says = (tt, b.says);
+      stays = ap (λ (x : Decoding). end_of x steps) same ∙ b.stays;
+      takes = one ∙ ap (λ (x : List ℕ). bytes ++ x) b.takes;
+      gives = b.gives;
+    }
 bad_stays d (Asked (next.Got m) page ∷ steps) e r = absurd (both_ways d.bad r.0.alive e)
 bad_stays d (Asked next.More page ∷ steps) e r = absurd (both_ways d.bad r.0.alive e)
 bad_stays d (Asked (next.Bad at) page ∷ steps) e r =
@@ -82,7 +89,8 @@ bad_stays d (Asked (next.Bad at) page ∷ steps) e r =
       gives = b.gives;
     }
 
-pub stays_bad : (d : Decoding) (at : ℕ) (page : List ℕ) (steps : List Step) → Runs d (Asked (next.Bad at) page ∷ steps) → BadStays at (record d { bad = true }) steps
+pub stays_bad :
+    (d : Decoding) (at : ℕ) (page : List ℕ) (steps : List Step) → Runs d (Asked (next.Bad at) page ∷ steps) → BadStays at (record d { bad = true }) steps
 stays_bad d at page steps r =
     subst (λ (n : ℕ). BadStays n (record d { bad = true }) steps) (sym r.0.place) (bad_stays (record d { bad = true }) steps refl r.1)
 
@@ -121,22 +129,29 @@ whole_front side page_bytes bytes k f =
 
 -- ---- what was fed is what was given, and the rest
 
-pub reads : (d : Decoding) (steps : List Step) → Runs d steps → (end_of d steps).bad ≡ false → Splits d.side d.page_bytes (d.rest ++ stream d steps) (given steps) (end_of d steps).rest
+pub reads :
+    (d : Decoding) (steps : List Step) → Runs d steps → (end_of d steps).bad ≡ false
+    → Splits d.side d.page_bytes (d.rest ++ stream d steps) (given steps) (end_of d steps).rest
 reads d [] r e = record { whole = append-nil d.rest; each = tt }
 reads d (Fed bytes ∷ steps) r e =
     let alive = was_alive d (Fed bytes ∷ steps) r e in
     let now : Decoding = record d { rest = d.rest ++ take (room d) bytes } in
     let same : fed d bytes ≡ now = fed_alive d bytes alive in
     let kept : take (taken d bytes) bytes ≡ take (room d) bytes = taken_alive d bytes alive in
-    let s : Splits d.side d.page_bytes (now.rest ++ stream now steps) (given steps) (end_of now steps).rest = reads now steps (subst (λ (x : Decoding). Runs x steps) same r.1) (ap (λ (x : Decoding). (end_of x steps).bad) (sym same) ∙ e) in
-    let fed-is : d.rest ++ (take (taken d bytes) bytes ++ stream (fed d bytes) steps) ≡ now.rest ++ stream now steps = ap (λ (x : Decoding). d.rest ++ (take (taken d bytes) bytes ++ stream x steps)) same ∙ ap (λ (x : List ℕ). d.rest ++ (x ++ stream now steps)) kept ∙ sym (append_assoc d.rest (take (room d) bytes) (stream now steps)) in
-    let rest-is : frames_of (given steps) ++ (end_of now steps).rest ≡ frames_of (given steps) ++ (end_of (fed d bytes) steps).rest = ap (λ (x : Decoding). frames_of (given steps) ++ (end_of x steps).rest) (sym same) in
+    let s : Splits d.side d.page_bytes (now.rest ++ stream now steps) (given steps) (end_of now steps).rest =
+    reads now steps (subst (λ (x : Decoding). Runs x steps) same r.1) (ap (λ (x : Decoding). (end_of x steps).bad) (sym same) ∙ e) in
+    let fed-is : d.rest ++ (take (taken d bytes) bytes ++ stream (fed d bytes) steps) ≡ now.rest ++ stream now steps =
+    ap (λ (x : Decoding). d.rest ++ (take (taken d bytes) bytes ++ stream x steps)) same ∙ ap (λ (x : List ℕ). d.rest ++ (x ++ stream now steps)) kept
+    ∙ sym (append_assoc d.rest (take (room d) bytes) (stream now steps)) in
+    let rest-is : frames_of (given steps) ++ (end_of now steps).rest ≡ frames_of (given steps) ++ (end_of (fed d bytes) steps).rest =
+    ap (λ (x : Decoding). frames_of (given steps) ++ (end_of x steps).rest) (sym same) in
     record { whole = fed-is ∙ s.whole ∙ rest-is; each = s.each }
 reads d (Asked (next.Got m) page ∷ steps) r e =
     let now = answered d (next.Got m) page in
     let s = reads now steps r.1 e in
     let f = frame m page in
-    let one : d.rest ++ stream now steps ≡ f ++ (now.rest ++ stream now steps) = ap (λ (x : List ℕ). x ++ stream now steps) r.0.front ∙ append_assoc f now.rest (stream now steps) in
+    let one : d.rest ++ stream now steps ≡ f ++ (now.rest ++ stream now steps) =
+    ap (λ (x : List ℕ). x ++ stream now steps) r.0.front ∙ append_assoc f now.rest (stream now steps) in
     record {
       whole = one ∙ ap (λ (x : List ℕ). f ++ x) s.whole ∙ sym (append_assoc f (frames_of (given steps)) (end_of now steps).rest);
       each = (r.0.is_frame, s.each);
@@ -148,7 +163,9 @@ reads d (Asked (next.Bad at) page ∷ steps) r e =
 
 -- ---- the place
 
-pub counts : (d : Decoding) (n : ℕ) (steps : List Step) → d.before ≡ stopping n → Runs d steps → (end_of d steps).before ≡ stopping (n + length (frames_of (given steps)))
+pub counts :
+    (d : Decoding) (n : ℕ) (steps : List Step) → d.before ≡ stopping n → Runs d steps
+    → (end_of d steps).before ≡ stopping (n + length (frames_of (given steps)))
 counts d n [] e r = e ∙ ap stopping (omega arith)
 counts d n (Fed bytes ∷ steps) e r =
     counts (fed d bytes) n steps (before_fed d bytes ∙ e) r.1
@@ -162,36 +179,69 @@ counts d n (Asked (next.Bad at) page ∷ steps) e r = counts (record d { bad = t
 
 -- ---- two readings of the same bytes are one
 
-pub one_reading : (side : Side) (page_bytes : ℕ) (x y rest other : List ℕ) (gs hs : List (Msg × List ℕ)) → Splits side page_bytes x gs rest → Splits side page_bytes y hs other → x ≡ y → (IsWhole side page_bytes rest → ⊥) → (IsWhole side page_bytes other → ⊥) → (gs ≡ hs) × (rest ≡ other)
+pub one_reading :
+    (side : Side) (page_bytes : ℕ) (x y rest other : List ℕ) (gs hs : List (Msg × List ℕ)) → Splits side page_bytes x gs rest
+    → Splits side page_bytes y hs other
+    → x ≡ y → (IsWhole side page_bytes rest → ⊥) → (IsWhole side page_bytes other → ⊥) → (gs ≡ hs) × (rest ≡ other)
 one_reading side page_bytes x y rest other [] [] s t e absent missing = (refl, sym s.whole ∙ e ∙ t.whole)
 one_reading side page_bytes x y rest other [] (h ∷ hs) s t e absent missing =
-    absurd (absent (record { m = h.0; page = h.1; front = frame h.0 h.1; rest = frames_of hs ++ other; is_frame = t.each.0; parts = sym s.whole ∙ e ∙ t.whole ∙ append_assoc (frame h.0 h.1) (frames_of hs) other }))
+    absurd
+    (absent
+    (record {
+      m = h.0;
+      page = h.1;
+      front = frame h.0 h.1;
+      rest = frames_of hs ++ other;
+      is_frame = t.each.0;
+      parts = sym s.whole ∙ e ∙ t.whole ∙ append_assoc (frame h.0 h.1) (frames_of hs) other;
+    }))
 one_reading side page_bytes x y rest other (g ∷ gs) [] s t e absent missing =
-    absurd (missing (record { m = g.0; page = g.1; front = frame g.0 g.1; rest = frames_of gs ++ rest; is_frame = s.each.0; parts = sym t.whole ∙ sym e ∙ s.whole ∙ append_assoc (frame g.0 g.1) (frames_of gs) rest }))
+    absurd
+    (missing
+    (record {
+      m = g.0;
+      page = g.1;
+      front = frame g.0 g.1;
+      rest = frames_of gs ++ rest;
+      is_frame = s.each.0;
+      parts = sym t.whole ∙ sym e ∙ s.whole ∙ append_assoc (frame g.0 g.1) (frames_of gs) rest;
+    }))
 one_reading side page_bytes x y rest other (g ∷ gs) (h ∷ hs) s t e absent missing =
     let a = frame g.0 g.1 in
     let b = frame h.0 h.1 in
-    let parts : a ++ (frames_of gs ++ rest) ≡ b ++ (frames_of hs ++ other) = sym (append_assoc a (frames_of gs) rest) ∙ sym s.whole ∙ e ∙ t.whole ∙ append_assoc b (frames_of hs) other in
+    let parts : a ++ (frames_of gs ++ rest) ≡ b ++ (frames_of hs ++ other) =
+    sym (append_assoc a (frames_of gs) rest) ∙ sym s.whole ∙ e ∙ t.whole ∙ append_assoc b (frames_of hs) other in
     let both = no_front side side page_bytes page_bytes g.0 h.0 g.1 h.1 a b (frames_of gs ++ rest) (frames_of hs ++ other) s.each.0 t.each.0 parts in
     let there : IsFrame side page_bytes h.0 h.1 a = subst (λ (z : List ℕ). IsFrame side page_bytes h.0 h.1 z) (sym both.0) t.each.0 in
     let one = one_message side side page_bytes page_bytes g.0 h.0 g.1 h.1 a s.each.0 there in
-    let later = one_reading side page_bytes (frames_of gs ++ rest) (frames_of hs ++ other) rest other gs hs (record { whole = refl; each = s.each.1 }) (record { whole = refl; each = t.each.1 }) both.1 absent missing in
+    let later =
+    one_reading side page_bytes (frames_of gs ++ rest) (frames_of hs ++ other) rest other gs hs (record { whole = refl; each = s.each.1 })
+    (record { whole = refl; each = t.each.1 }) both.1 absent missing in
     let heads : g ≡ h = pair_is g h one.0 one.1 in
     (cons_is g h gs hs heads later.0, later.1)
 
 -- ---- one of three
 
-three_by : (side : Side) (page_bytes : ℕ) (bytes : List ℕ) (j : Judged) → judged side page_bytes bytes ≡ j → page_bytes ≤ 4096 → IsBytes bytes → IsWhole side page_bytes bytes ⊎ (IsPartial side page_bytes bytes ⊎ IsHopeless side page_bytes bytes)
+three_by :
+    (side : Side) (page_bytes : ℕ) (bytes : List ℕ) (j : Judged) → judged side page_bytes bytes ≡ j → page_bytes ≤ 4096 → IsBytes bytes
+    → IsWhole side page_bytes bytes ⊎ (IsPartial side page_bytes bytes ⊎ IsHopeless side page_bytes bytes)
 three_by side page_bytes bytes (Whole k) e most fits = inl (whole_front side page_bytes bytes k (whole_is side page_bytes bytes k e most fits))
 three_by side page_bytes bytes Partial e most fits = inr (inl (partial_is side page_bytes bytes e most fits))
 three_by side page_bytes bytes Hopeless e most fits = inr (inr (hopeless_is side page_bytes bytes e))
 
-pub one_of_three : (side : Side) (page_bytes : ℕ) (bytes : List ℕ) → page_bytes ≤ 4096 → IsBytes bytes → IsWhole side page_bytes bytes ⊎ (IsPartial side page_bytes bytes ⊎ IsHopeless side page_bytes bytes)
+pub one_of_three :
+    (side : Side) (page_bytes : ℕ) (bytes : List ℕ) → page_bytes ≤ 4096 → IsBytes bytes
+    → IsWhole side page_bytes bytes ⊎ (IsPartial side page_bytes bytes ⊎ IsHopeless side page_bytes bytes)
 one_of_three side page_bytes bytes most fits = three_by side page_bytes bytes (judged side page_bytes bytes) refl most fits
 
 pub has_room : (d : Decoding) → 8 ≤ d.page_bytes → Waits d → 0 < room d
 has_room d least w =
-    omega (arith, frame_within d.side d.page_bytes w.partial.m w.partial.page (d.rest ++ w.partial.more) w.partial.is_frame least, w.partial.some, length-append d.rest w.partial.more)
+    omega (
+      arith,
+      frame_within d.side d.page_bytes w.partial.m w.partial.page (d.rest ++ w.partial.more) w.partial.is_frame least,
+      w.partial.some,
+      length-append d.rest w.partial.more,
+    )
 
 -- ---- what begins a list of frames isn't bad
 
@@ -215,7 +265,9 @@ paged_pages : (side : Side) (page_bytes : ℕ) → page_bytes ≡ (form_of (page
 paged_pages Device page_bytes = omega arith
 paged_pages Lender page_bytes = omega arith
 
-pub longest_is_sent : (side : Side) (page_bytes : ℕ) → page_bytes ≤ 4096 → (m : Msg) × (page : List ℕ) × (bytes : List ℕ) × IsFrame side page_bytes m page bytes × (length bytes ≡ longest page_bytes)
+pub longest_is_sent :
+    (side : Side) (page_bytes : ℕ) → page_bytes ≤ 4096
+    → (m : Msg) × (page : List ℕ) × (bytes : List ℕ) × IsFrame side page_bytes m page bytes × (length bytes ≡ longest page_bytes)
 longest_is_sent side page_bytes most =
     let m = paged side in
     let page : List ℕ = replicate page_bytes 0 in
@@ -237,7 +289,9 @@ front_of a x b y e le =
     let front : take (length a) b ≡ a = sym (take-append-le (length a) b y le) ∙ ap (take (length a)) (sym e) ∙ take_at a x (length a) refl in
     ap (λ (z : List ℕ). z ++ drop (length a) b) (sym front) ∙ take-append-drop (length a) b
 
-hopeless_begins_none : (side : Side) (page_bytes : ℕ) (bytes more : List ℕ) (gs : List (Msg × List ℕ)) → page_bytes ≤ 4096 → IsHopeless side page_bytes bytes → AreSent side page_bytes gs → bytes ++ more ≡ frames_of gs → ⊥
+hopeless_begins_none :
+    (side : Side) (page_bytes : ℕ) (bytes more : List ℕ) (gs : List (Msg × List ℕ)) → page_bytes ≤ 4096 → IsHopeless side page_bytes bytes
+    → AreSent side page_bytes gs → bytes ++ more ≡ frames_of gs → ⊥
 hopeless_begins_none side page_bytes bytes more [] most h sent e =
     let some = longest_is_sent side page_bytes most in
     let size : length bytes + length more ≡ 0 = sym (length-append bytes more) ∙ ap length e in
@@ -247,11 +301,15 @@ hopeless_begins_none side page_bytes bytes more (g ∷ gs) most h sent e =
     let f = frame g.0 g.1 in
     elim (cases_lt (length f) (length bytes)) [
       | inl lt ↦ h.none_in_front g.0 g.1 f (drop (length f) bytes) sent.0 (sym (front_of f (frames_of gs) bytes more (sym e) (omega arith)))
-      | inr le ↦ h.none_beyond g.0 g.1 (drop (length bytes) f) (subst (λ (z : List ℕ). IsFrame side page_bytes g.0 g.1 z) (sym (front_of bytes more f (frames_of gs) e le)) sent.0)
+      | inr le ↦
+          h.none_beyond g.0 g.1 (drop (length bytes) f)
+          (subst (λ (z : List ℕ). IsFrame side page_bytes g.0 g.1 z) (sym (front_of bytes more f (frames_of gs) e le)) sent.0)
     ]
 
 -- the frame of a message that was given is the first of the list
-given_first : (side : Side) (page_bytes : ℕ) (m : Msg) (page x : List ℕ) (gs : List (Msg × List ℕ)) → IsFrame side page_bytes m page (frame m page) → AreSent side page_bytes gs → frame m page ++ x ≡ frames_of gs
+given_first :
+    (side : Side) (page_bytes : ℕ) (m : Msg) (page x : List ℕ) (gs : List (Msg × List ℕ)) → IsFrame side page_bytes m page (frame m page)
+    → AreSent side page_bytes gs → frame m page ++ x ≡ frames_of gs
     → (hs : List (Msg × List ℕ)) × AreSent side page_bytes hs × (x ≡ frames_of hs)
 given_first side page_bytes m page x [] f sent e =
     let size : length (frame m page) + length x ≡ 0 = sym (length-append (frame m page) x) ∙ ap length e in
@@ -259,22 +317,31 @@ given_first side page_bytes m page x [] f sent e =
 given_first side page_bytes m page x (g ∷ gs) f sent e =
     (gs, sent.1, (no_front side side page_bytes page_bytes m g.0 page g.1 (frame m page) (frame g.0 g.1) x (frames_of gs) f sent.0 e).1)
 
-pub refuses_none : (d : Decoding) (steps : List Step) (gs : List (Msg × List ℕ)) (more : List ℕ) → d.page_bytes ≤ 4096 → d.bad ≡ false → Runs d steps → AreSent d.side d.page_bytes gs → (d.rest ++ stream d steps) ++ more ≡ frames_of gs → (end_of d steps).bad ≡ false
+pub refuses_none :
+    (d : Decoding) (steps : List Step) (gs : List (Msg × List ℕ)) (more : List ℕ) → d.page_bytes ≤ 4096 → d.bad ≡ false → Runs d steps
+    → AreSent d.side d.page_bytes gs → (d.rest ++ stream d steps) ++ more ≡ frames_of gs → (end_of d steps).bad ≡ false
 refuses_none d [] gs more most alive r sent e = alive
 refuses_none d (Fed bytes ∷ steps) gs more most alive r sent e =
     let now : Decoding = record d { rest = d.rest ++ take (room d) bytes } in
     let same : fed d bytes ≡ now = fed_alive d bytes alive in
     let kept : take (taken d bytes) bytes ≡ take (room d) bytes = taken_alive d bytes alive in
-    let fed-is : d.rest ++ (take (taken d bytes) bytes ++ stream (fed d bytes) steps) ≡ now.rest ++ stream now steps = ap (λ (x : Decoding). d.rest ++ (take (taken d bytes) bytes ++ stream x steps)) same ∙ ap (λ (x : List ℕ). d.rest ++ (x ++ stream now steps)) kept ∙ sym (append_assoc d.rest (take (room d) bytes) (stream now steps)) in
-    ap (λ (x : Decoding). (end_of x steps).bad) same ∙ refuses_none now steps gs more most alive (subst (λ (x : Decoding). Runs x steps) same r.1) sent (ap (λ (x : List ℕ). x ++ more) (sym fed-is) ∙ e)
+    let fed-is : d.rest ++ (take (taken d bytes) bytes ++ stream (fed d bytes) steps) ≡ now.rest ++ stream now steps =
+    ap (λ (x : Decoding). d.rest ++ (take (taken d bytes) bytes ++ stream x steps)) same ∙ ap (λ (x : List ℕ). d.rest ++ (x ++ stream now steps)) kept
+    ∙ sym (append_assoc d.rest (take (room d) bytes) (stream now steps)) in
+    ap (λ (x : Decoding). (end_of x steps).bad) same
+    ∙ refuses_none now steps gs more most alive (subst (λ (x : Decoding). Runs x steps) same r.1) sent (ap (λ (x : List ℕ). x ++ more) (sym fed-is) ∙ e)
 refuses_none d (Asked (next.Got m) page ∷ steps) gs more most alive r sent e =
     let now = answered d (next.Got m) page in
     let f = frame m page in
-    let one : d.rest ++ stream now steps ≡ f ++ (now.rest ++ stream now steps) = ap (λ (x : List ℕ). x ++ stream now steps) r.0.front ∙ append_assoc f now.rest (stream now steps) in
-    let parts : f ++ ((now.rest ++ stream now steps) ++ more) ≡ frames_of gs = sym (append_assoc f (now.rest ++ stream now steps) more) ∙ ap (λ (x : List ℕ). x ++ more) (sym one) ∙ e in
+    let one : d.rest ++ stream now steps ≡ f ++ (now.rest ++ stream now steps) =
+    ap (λ (x : List ℕ). x ++ stream now steps) r.0.front ∙ append_assoc f now.rest (stream now steps) in
+    let parts : f ++ ((now.rest ++ stream now steps) ++ more) ≡ frames_of gs =
+    sym (append_assoc f (now.rest ++ stream now steps) more) ∙ ap (λ (x : List ℕ). x ++ more) (sym one) ∙ e in
     let later = given_first d.side d.page_bytes m page ((now.rest ++ stream now steps) ++ more) gs r.0.is_frame sent parts in
     refuses_none now steps later.0 more most alive r.1 later.1 later.2
 refuses_none d (Asked next.More page ∷ steps) gs more most alive r sent e = refuses_none d steps gs more most alive r.1 sent e
 refuses_none d (Asked (next.Bad at) page ∷ steps) gs more most alive r sent e =
     let now : Decoding = record d { bad = true } in
-    absurd (hopeless_begins_none d.side d.page_bytes d.rest (stream now steps ++ more) gs most r.0.hopeless sent (sym (append_assoc d.rest (stream now steps) more) ∙ e))
+    absurd
+    (hopeless_begins_none d.side d.page_bytes d.rest (stream now steps ++ more) gs most r.0.hopeless sent
+    (sym (append_assoc d.rest (stream now steps) more) ∙ e))

@@ -1,4 +1,5 @@
--- A decoder, and its steps: bytes are fed, and the next message is asked for. The code keeps the rest in a buffer of one
+-- A decoder, and its steps: bytes are fed, and the next message is asked for. The code keeps the rest in a buffer of
+-- one
 -- longest frame.
 use Rattle.std.specs.Prelude.{◌≡◌, ℕ, ◌+◌, ◌-◌, ◌*◌, ◌^◌, min, Bool, true, false, if◌then◌else◌, List, [], ◌++◌, length, take, drop}
 use Rattle.swap_wire.specs.declared.Msg.{Msg}
@@ -38,7 +39,8 @@ stopping n = min n (2 ^ 64 - 1)
 
 -- after an answer: the frame of a message that was given is dropped, and bad stays bad
 abbrev pub answered : Decoding → Next → List ℕ → Decoding
-answered d (next.Got m) page = record d { rest = drop (length (frame m page)) d.rest; before = stopping (d.before + length (frame m page)) }
+answered d (next.Got m) page =
+    record d { rest = drop (length (frame m page)) d.rest; before = stopping (d.before + length (frame m page)) }
 answered d next.More page = d
 answered d (next.Bad at) page = record d { bad = true }
 

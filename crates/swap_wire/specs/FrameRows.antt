@@ -11,9 +11,12 @@ use Rattle.swap_wire.specs.Heads.{judged}
 abbrev pub VectorRows : Type 0
 VectorRows =
     (frame (msg.Hello 1 8 4) [] ≡ 0 ∷ 0 ∷ 0 ∷ 13 ∷ 1 ∷ 0 ∷ 0 ∷ 0 ∷ 1 ∷ 0 ∷ 0 ∷ 0 ∷ 8 ∷ 0 ∷ 0 ∷ 0 ∷ 4 ∷ [])
-    × (frame (msg.Write (record { 0 = 1 }) 2) (replicate 8 170) ≡ (0 ∷ 0 ∷ 0 ∷ 17 ∷ 4 ∷ 0 ∷ 0 ∷ 0 ∷ 1 ∷ 0 ∷ 0 ∷ 0 ∷ 2 ∷ []) ++ replicate 8 170)
+    × (frame (msg.Write (record { 0 = 1 }) 2) (replicate 8 170)
+    ≡ (0 ∷ 0 ∷ 0 ∷ 17 ∷ 4 ∷ 0 ∷ 0 ∷ 0 ∷ 1 ∷ 0 ∷ 0 ∷ 0 ∷ 2 ∷ [])
+    ++ replicate 8 170)
     × (frame (msg.Read (record { 0 = 0 }) 3) [] ≡ 0 ∷ 0 ∷ 0 ∷ 9 ∷ 5 ∷ 0 ∷ 0 ∷ 0 ∷ 0 ∷ 0 ∷ 0 ∷ 0 ∷ 3 ∷ [])
-    × (frame (msg.Rates (record { 0 = 0 }) 65_536) [] ≡ 0 ∷ 0 ∷ 0 ∷ 13 ∷ 6 ∷ 0 ∷ 0 ∷ 0 ∷ 0 ∷ 0 ∷ 0 ∷ 0 ∷ 0 ∷ 0 ∷ 1 ∷ 0 ∷ 0 ∷ [])
+    × (frame (msg.Rates (record { 0 = 0 }) 65_536) [] ≡ 0 ∷ 0 ∷ 0 ∷ 13 ∷ 6 ∷ 0 ∷ 0 ∷ 0 ∷ 0 ∷ 0 ∷ 0 ∷ 0 ∷ 0 ∷ 0 ∷ 1 ∷ 0
+    ∷ 0 ∷ [])
     × (frame (msg.Evict (record { 0 = 0 })) [] ≡ 0 ∷ 0 ∷ 0 ∷ 5 ∷ 14 ∷ 0 ∷ 0 ∷ 0 ∷ 0 ∷ [])
 
 -- a read of lease 0, place 3
@@ -24,7 +27,9 @@ read_row = 0 ∷ 0 ∷ 0 ∷ 9 ∷ 5 ∷ 0 ∷ 0 ∷ 0 ∷ 0 ∷ 0 ∷ 0 ∷ 0 �
 -- short or over, the other side's kind
 abbrev pub JudgedRows : Type 0
 JudgedRows =
-    (judged Device 8 read_row ≡ Whole kinds.Read) × (judged Device 8 (read_row ++ (1 ∷ [])) ≡ Whole kinds.Read) × (judged Device 8 [] ≡ Partial) × (judged Device 8 (take 3 read_row) ≡ Partial) × (judged Device 8 (take 4 read_row) ≡ Partial)
+    (judged Device 8 read_row ≡ Whole kinds.Read) × (judged Device 8 (read_row ++ (1 ∷ [])) ≡ Whole kinds.Read)
+    × (judged Device 8 [] ≡ Partial) × (judged Device 8 (take 3 read_row) ≡ Partial)
+    × (judged Device 8 (take 4 read_row) ≡ Partial)
     × (judged Device 8 (take 12 read_row) ≡ Partial)
     × (judged Device 8 (1 ∷ []) ≡ Hopeless)
     × (judged Device 8 (0 ∷ 0 ∷ 0 ∷ 0 ∷ []) ≡ Hopeless)

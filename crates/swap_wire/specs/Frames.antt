@@ -75,7 +75,8 @@ fields (msg.Evict lease) = word lease.0
 
 -- each number fits its field
 abbrev pub NumbersFit : Msg → Type 0
-NumbersFit (msg.Hello version page_bytes pages_per_slab) = (version < 2 ^ 32) × (page_bytes < 2 ^ 32) × (pages_per_slab < 2 ^ 32)
+NumbersFit (msg.Hello version page_bytes pages_per_slab) =
+    (version < 2 ^ 32) × (page_bytes < 2 ^ 32) × (pages_per_slab < 2 ^ 32)
 NumbersFit (msg.Query slab) = slab.0 < 2 ^ 32
 NumbersFit (msg.Borrow slab) = slab.0 < 2 ^ 32
 NumbersFit (msg.Write lease place) = (lease.0 < 2 ^ 32) × (place < 2 ^ 32)
@@ -134,7 +135,8 @@ pub record IsPartial (side : Side) (page_bytes : ℕ) (bytes : List ℕ) : Type 
 
 -- bytes that don't begin with a frame of the side, and that no further bytes make one
 pub record IsHopeless (side : Side) (page_bytes : ℕ) (bytes : List ℕ) : Type 0 where
-  pub none_in_front : (m : Msg) (page front rest : List ℕ) → IsFrame side page_bytes m page front → bytes ≡ front ++ rest → ⊥
+  pub none_in_front :
+      (m : Msg) (page front rest : List ℕ) → IsFrame side page_bytes m page front → bytes ≡ front ++ rest → ⊥
   pub none_beyond : (m : Msg) (page more : List ℕ) → IsFrame side page_bytes m page (bytes ++ more) → ⊥
 
 -- how long the longest frame is

@@ -62,7 +62,8 @@ may_begin side page_bytes bytes k = same_side side (form k).from && agree (head 
 -- by the kind that was found: the bytes go as far as its frame, or not
 abbrev pub judged_as : ℕ → List ℕ → Option Kind → Judged
 judged_as page_bytes bytes None = Hopeless
-judged_as page_bytes bytes (Some k) = if nat_lt (length bytes) (whole_length page_bytes (form k)) then Partial else Whole k
+judged_as page_bytes bytes (Some k) =
+    if nat_lt (length bytes) (whole_length page_bytes (form k)) then Partial else Whole k
 
 -- by the first kind of the side whose head agrees with the bytes
 abbrev pub judged : Side → ℕ → List ℕ → Judged

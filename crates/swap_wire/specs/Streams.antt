@@ -72,7 +72,8 @@ abbrev pub AreSent : Side → ℕ → List (Msg × List ℕ) → Type 0
 AreSent side page_bytes gs = AllByRecursion (λ g. IsFrame side page_bytes g.0 g.1 (frame g.0 g.1)) gs
 
 -- the bytes are the side's frames of these messages, and then this rest
-pub record Splits (side : Side) (page_bytes : ℕ) (bytes : List ℕ) (gs : List (Msg × List ℕ)) (rest : List ℕ) : Type 0 where
+pub record Splits (side : Side) (page_bytes : ℕ) (bytes : List ℕ) (gs : List (Msg × List ℕ))
+    (rest : List ℕ) : Type 0 where
   pub whole : bytes ≡ frames_of gs ++ rest
   pub each : AreSent side page_bytes gs
 

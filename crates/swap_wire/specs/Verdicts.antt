@@ -20,7 +20,11 @@ told d = if d.bad then next.Bad d.before else told_by d (judged d.side d.page_by
 
 -- the decoder after it
 abbrev pub left_by : Decoding → Judged → Decoding
-left_by d (Whole k) = record d { rest = drop (whole_length d.page_bytes (form k)) d.rest; before = stopping (d.before + whole_length d.page_bytes (form k)) }
+left_by d (Whole k) =
+    record d {
+      rest = drop (whole_length d.page_bytes (form k)) d.rest;
+      before = stopping (d.before + whole_length d.page_bytes (form k));
+    }
 left_by d Partial = d
 left_by d Hopeless = record d { bad = true }
 

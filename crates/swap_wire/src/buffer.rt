@@ -25,7 +25,8 @@ impl Model for FrameBuf {
 
     ghost view = { λ f. record { bytes = drop f.start f.bytes.items; capacity = f.capacity } };
 
-    ghost invariant = { λ f. (f.start ≤ vec_len f.bytes) × (vec_len f.bytes ≤ f.capacity) × (f.capacity ≤ vec_capacity f.bytes) };
+    ghost invariant = { λ f. (f.start ≤ vec_len f.bytes) × (vec_len f.bytes ≤ f.capacity)
+        × (f.capacity ≤ vec_capacity f.bytes) };
 }
 
 impl FrameBuf {

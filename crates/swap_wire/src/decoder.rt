@@ -12,7 +12,8 @@ use std::alloc::Global;
 use std::marker::Model;
 use swap_base::NoMemory;
 
-/// What a decoder answers: the next message, that bytes are wanting, or that at this place of the stream no frame stands.
+/// What a decoder answers: the next message, that bytes are wanting, or that at this place of the
+/// stream no frame stands.
 #[derive(Clone, Copy, Debug, PartialEq, Eq)]
 pub enum Next {
     Got(Msg),
@@ -20,7 +21,8 @@ pub enum Next {
     Bad { at: u64 },
 }
 
-/// Reads the frames that a side sends, in whatever pieces they come. After `make` no call takes memory.
+/// Reads the frames that a side sends, in whatever pieces they come. After `make` no call takes
+/// memory.
 #[derive(Debug, Drop)]
 pub struct Decoder {
     side: Side,
@@ -39,13 +41,23 @@ impl Model for Decoder {
 
     ghost Value = { Decoding };
 
-    ghost view = { λ d. record { side = d.side; page_bytes = d.page_bytes; rest = d.buffer.bytes; before = d.before; bad = d.bad } };
+    ghost view = { λ d.
+        record {
+          side = d.side;
+          page_bytes = d.page_bytes;
+          rest = d.buffer.bytes;
+          before = d.before;
+          bad = d.bad;
+        } };
 
-    ghost invariant = { λ d. (8 ≤ d.page_bytes) × (d.page_bytes ≤ 4096) × (d.buffer.capacity ≡ longest d.page_bytes) × (d.bad ≡ true → judged d.side d.page_bytes d.buffer.bytes ≡ Hopeless) };
+    ghost invariant = { λ d. (8 ≤ d.page_bytes) × (d.page_bytes ≤ 4096)
+        × (d.buffer.capacity ≡ longest d.page_bytes)
+        × (d.bad ≡ true → judged d.side d.page_bytes d.buffer.bytes ≡ Hopeless) };
 }
 
 impl Decoder {
-    /// A decoder of the frames that the side sends, with pages of 8 to 4,096 bytes. Its buffer holds one largest frame.
+    /// A decoder of the frames that the side sends, with pages of 8 to 4,096 bytes. Its buffer
+    /// holds one largest frame.
     pub fn make(alloc: Global, side: Side, page_bytes: u32) -> Result<Decoder, NoMemory>
         requires least { 8 ≤ page_bytes }
         requires most { page_bytes ≤ 4096 }
@@ -61,8 +73,8 @@ impl Decoder {
         })
     }
 
-    /// Takes as many of the bytes as the buffer has free, and says how many. Once the decoder has answered `Bad` it takes
-    /// all and keeps none.
+    /// Takes as many of the bytes as the buffer has free, and says how many. Once the decoder has
+    /// answered `Bad` it takes all and keeps none.
     pub fn feed(&mut self, bytes: &[u8]) -> usize
         ensures taken { result ≡ taken self.old bytes.now }
         ensures kept { self.new ≡ fed self.old bytes.now }
@@ -76,16 +88,19 @@ impl Decoder {
         n
     }
 
-    /// The next message of the stream. Its page goes to the front of the buffer, which is as long as a page.
+    /// The next message of the stream. Its page goes to the front of the buffer, which is as long
+    /// as a page.
     ///
-    /// `More` comes exactly where what is left is a proper front of a frame, and `Bad` exactly where it doesn't begin with
-    /// a whole frame and no further bytes make it one; `at` counts the bytes of the stream before that place, and stops at
-    /// `u64::MAX`. After `Bad` the answer stays the same.
+    /// `More` comes exactly where what is left is a proper front of a frame, and `Bad` exactly
+    /// where it doesn't begin with a whole frame and no further bytes make it one; `at` counts the
+    /// bytes of the stream before that place, and stops at `u64::MAX`. After `Bad` the answer stays
+    /// the same.
     pub fn next(&mut self, page: &mut [u8]) -> Next
         requires { length page.old ≡ self.old.page_bytes }
         ensures answer { Answers self.old result (page_in self.old result page.new) }
         ensures after { self.new ≡ answered self.old result (page_in self.old result page.new) }
-        ensures page { page.new ≡ page_in self.old result page.new ++ drop (length (page_in self.old result page.new)) page.old }
+        ensures page { page.new ≡ page_in self.old result page.new
+            ++ drop (length (page_in self.old result page.new)) page.old }
         ensures got { GivesTheOneInFront self.old result }
         ensures more { (result ≡ Next.More) ↔ Waits self.old }
         ensures bad { (at : ℕ) → (result ≡ Next.Bad at) ↔ Fails self.old at }
@@ -102,7 +117,8 @@ impl Decoder {
         ensures page { page.new ≡ shown self.old ++ drop (length (shown self.old)) page.old }
         ensures page_bytes { self.old.page_bytes ≤ 4096 }
         ensures bytes { self.old.bad ≡ false → IsBytes self.old.rest }
-        ensures bad { self.old.bad ≡ true → judged self.old.side self.old.page_bytes self.old.rest ≡ Judged.Hopeless }
+        ensures bad { self.old.bad ≡ true
+            → judged self.old.side self.old.page_bytes self.old.rest ≡ Judged.Hopeless }
     {
         if self.bad {
             return Next::Bad { at: self.before };
@@ -124,7 +140,8 @@ impl Decoder {
         requires whole { whole_length self.old.page_bytes (form kind) ≤ length self.old.rest }
         ensures msg { Next.Got result ≡ told_by self.old (Judged.Whole kind) }
         ensures left { self.new ≡ left_by self.old (Judged.Whole kind) }
-        ensures page { page.new ≡ shown_by self.old (Judged.Whole kind) ++ drop (length (shown_by self.old (Judged.Whole kind))) page.old }
+        ensures page { page.new ≡ shown_by self.old (Judged.Whole kind)
+            ++ drop (length (shown_by self.old (Judged.Whole kind))) page.old }
     {
         let length = kind.form().whole_length(self.page_bytes);
         let msg = read_frame(kind, self.page_bytes, &self.buffer.bytes()[..length], page);

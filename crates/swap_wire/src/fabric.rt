@@ -16,8 +16,8 @@ pub enum Took {
     Lost,
 }
 
-/// What a lender did with its link: nothing, it saw the link's end, it took a message and answered, or it took one
-/// that the link may not send, and ended it.
+/// What a lender did with its link: nothing, it saw the link's end, it took a message and answered,
+/// or it took one that the link may not send, and ended it.
 #[derive(Clone, Copy, Debug, PartialEq, Eq)]
 pub enum Gave {
     Nothing,
@@ -41,10 +41,11 @@ pub struct Hosted {
 
 /// The links of a device to its lenders.
 ///
-/// A fabric tells what it does by `moves`, and what it promises of pages by three tests of its own. `keeps` says
-/// that a lender holds bytes at a place of a lease, once it has taken what is under way to it; `owes` says which
-/// pages answer the reads of a link that aren't answered yet, oldest first; `answers` says what a page that was
-/// given may be where another was owed. A fabric that promises nothing takes all three as always true.
+/// A fabric tells what it does by `moves`, and what it promises of pages by three tests of its own.
+/// `keeps` says that a lender holds bytes at a place of a lease, once it has taken what is under
+/// way to it; `owes` says which pages answer the reads of a link that aren't answered yet, oldest
+/// first; `answers` says what a page that was given may be where another was owed. A fabric that
+/// promises nothing takes all three as always true.
 pub trait Fabric {
     ghost use Rattle.std.specs.Prelude.{◌≡◌, ℕ, ◌<◌, Bool, true, false, List, [], ◌∷◌, ◌++◌, length};
     ghost use Rattle.swap_base.specs.declared.Lender.{Lender};
@@ -79,7 +80,8 @@ pub trait Fabric {
     /// Hands a message to a lender's link. The page matters for `Write` and `PageIs` alone.
     fn send(&mut self, lender: Lender, msg: &Msg, page: &[u8]) -> Sent
         requires lender { lender.0 < (of self.old).lenders }
-        requires page { carries_page msg.now ≡ true → length page.now ≡ (of self.old).sizes.page_bytes }
+        requires page { carries_page msg.now ≡ true
+            → length page.now ≡ (of self.old).sizes.page_bytes }
         ensures { moves self.old (Send lender (parcel_of msg.now page.now)) result self.new };
 
     /// Takes what came from a lender. The page of a `PageIs` fills the buffer.
@@ -98,7 +100,8 @@ pub trait Fabric {
         requires { lender.0 < (of self.old).lenders }
         ensures { moves self.old (Give lender) result self.new };
 
-    /// Cuts a link in memory, so that only so many messages still come each way; false where nothing changed.
+    /// Cuts a link in memory, so that only so many messages still come each way; false where
+    /// nothing changed.
     fn cut(&mut self, lender: Lender, to_lender: u32, to_device: u32) -> bool
         requires { lender.0 < (of self.old).lenders }
         ensures { moves self.old (Cut lender to_lender to_device) result self.new };
@@ -117,29 +120,50 @@ pub trait Fabric {
     ghost fresh_is_of: { (f : Self) (o : FabricOf) → fresh f o → of f ≡ o };
 
     /// No call changes what a fabric is of.
-    ghost moves_keep_of: { (f : Self) (c : FabricCall) (r : FabricAnswer c) (g : Self) → moves f c r g → of g ≡ of f };
+    ghost moves_keep_of: { (f : Self) (c : FabricCall) (r : FabricAnswer c) (g : Self)
+        → moves f c r g → of g ≡ of f };
 
     /// A page that is taken has the length of a page.
-    ghost taken_fits: { (f : Self) (l : Lender) (p : Parcel) (g : Self) → moves f (Take l) (Brought p) g → carries_page p.msg ≡ true → length p.page ≡ (of f).sizes.page_bytes };
+    ghost taken_fits: { (f : Self) (l : Lender) (p : Parcel) (g : Self)
+        → moves f (Take l) (Brought p) g → carries_page p.msg ≡ true
+        → length p.page ≡ (of f).sizes.page_bytes };
 
     /// A write that is sent is kept from then on.
-    ghost write_is_kept: { (f : Self) (l : Lender) (k : Lease) (i : ℕ) (bytes : List ℕ) (g : Self) → moves f (Send l (write_parcel k i bytes)) sent_is.Sent g → keeps g l k i bytes };
+    ghost write_is_kept: { (f : Self) (l : Lender) (k : Lease) (i : ℕ) (bytes : List ℕ)
+        (g : Self)
+        → moves f (Send l (write_parcel k i bytes)) sent_is.Sent g → keeps g l k i bytes };
 
-    /// What is kept stays so until the place is written anew, the lease is done or lent anew, or the link ends.
-    ghost kept_until: { (f : Self) (c : FabricCall) (r : FabricAnswer c) (g : Self) (l : Lender) (k : Lease) (i : ℕ) (bytes : List ℕ) → moves f c r g → keeps f l k i bytes → ends_keeping l k i c r ≡ false → keeps g l k i bytes };
+    /// What is kept stays so until the place is written anew, the lease is done or lent anew, or
+    /// the link ends.
+    ghost kept_until: { (f : Self) (c : FabricCall) (r : FabricAnswer c) (g : Self) (l : Lender)
+        (k : Lease) (i : ℕ) (bytes : List ℕ)
+        → moves f c r g → keeps f l k i bytes → ends_keeping l k i c r ≡ false
+        → keeps g l k i bytes };
 
     /// A new link owes no page.
-    ghost new_link_owes_none: { (f : Self) (l : Lender) (n : Link) (g : Self) → moves f (Connect l n) tt g → owes g l [] };
+    ghost new_link_owes_none: { (f : Self) (l : Lender) (n : Link) (g : Self)
+        → moves f (Connect l n) tt g → owes g l [] };
 
     /// A read that is sent is owed the bytes that are kept for it, after the pages owed before.
-    ghost read_is_owed: { (f : Self) (l : Lender) (k : Lease) (i : ℕ) (bytes : List ℕ) (pages : List (List ℕ)) (g : Self) → moves f (Send l (read_parcel k i)) sent_is.Sent g → owes f l pages → keeps f l k i bytes → owes g l (pages ++ bytes ∷ []) };
+    ghost read_is_owed: { (f : Self) (l : Lender) (k : Lease) (i : ℕ) (bytes : List ℕ)
+        (pages : List (List ℕ)) (g : Self)
+        → moves f (Send l (read_parcel k i)) sent_is.Sent g → owes f l pages
+        → keeps f l k i bytes → owes g l (pages ++ bytes ∷ []) };
 
     /// A page that is taken answers the oldest read, and is owed no more.
-    ghost page_was_owed: { (f : Self) (l : Lender) (p : Parcel) (g : Self) (page : List ℕ) (rest : List (List ℕ)) → moves f (Take l) (Brought p) g → is_page p.msg ≡ true → owes f l (page ∷ rest) → owes g l rest };
+    ghost page_was_owed: { (f : Self) (l : Lender) (p : Parcel) (g : Self) (page : List ℕ)
+        (rest : List (List ℕ))
+        → moves f (Take l) (Brought p) g → is_page p.msg ≡ true → owes f l (page ∷ rest)
+        → owes g l rest };
 
     /// It is as what was owed answers.
-    ghost page_answers: { (f : Self) (l : Lender) (p : Parcel) (g : Self) (page : List ℕ) (rest : List (List ℕ)) → moves f (Take l) (Brought p) g → is_page p.msg ≡ true → owes f l (page ∷ rest) → answers page p.page };
+    ghost page_answers: { (f : Self) (l : Lender) (p : Parcel) (g : Self) (page : List ℕ)
+        (rest : List (List ℕ))
+        → moves f (Take l) (Brought p) g → is_page p.msg ≡ true → owes f l (page ∷ rest)
+        → answers page p.page };
 
     /// What is owed stays so until a read is sent, a page is taken, or the link ends.
-    ghost owed_until: { (f : Self) (c : FabricCall) (r : FabricAnswer c) (g : Self) (l : Lender) (pages : List (List ℕ)) → moves f c r g → owes f l pages → changes_owing l c r ≡ false → owes g l pages };
+    ghost owed_until: { (f : Self) (c : FabricCall) (r : FabricAnswer c) (g : Self) (l : Lender)
+        (pages : List (List ℕ))
+        → moves f c r g → owes f l pages → changes_owing l c r ≡ false → owes g l pages };
 }

@@ -9,15 +9,22 @@ use crate::kind::{KINDS, Kind};
 use crate::{Msg, Side};
 use swap_base::{Lease, Slab};
 
-/// Appends the frame of a message. The page matters only where the message has one, and is then of a page's length.
+/// Appends the frame of a message. The page matters only where the message has one, and is then of
+/// a page's length.
 ///
-/// `NoPlace` comes exactly where the frame is longer than what is free, and leaves the buffer as it was.
+/// `NoPlace` comes exactly where the frame is longer than what is free, and leaves the buffer as it
+/// was.
 pub fn encode(msg: &Msg, page: &[u8], out: &mut FrameBuf) -> Result<(), NoPlace>
     requires { length (page_with msg.now page.now) ≤ 4096 }
-    ensures ok { OnOk result (out.new ≡ appended out.old (frame msg.now (page_with msg.now page.now))) }
-    ensures placed { OnOk result (length (frame msg.now (page_with msg.now page.now)) ≤ free out.old) }
-    ensures no_place { OnErr result (free out.old < length (frame msg.now (page_with msg.now page.now))) }
-    ensures is_frame { OnOk result (IsFrame (form_of msg.now).from (length page.now) msg.now (page_with msg.now page.now) (frame msg.now (page_with msg.now page.now))) }
+    ensures ok { OnOk result
+        (out.new ≡ appended out.old (frame msg.now (page_with msg.now page.now))) }
+    ensures placed { OnOk result
+        (length (frame msg.now (page_with msg.now page.now)) ≤ free out.old) }
+    ensures no_place { OnErr result
+        (free out.old < length (frame msg.now (page_with msg.now page.now))) }
+    ensures is_frame { OnOk result
+        (IsFrame (form_of msg.now).from (length page.now) msg.now (page_with msg.now page.now)
+        (frame msg.now (page_with msg.now page.now))) }
     ensures unchanged { OnErr result (out.new ≡ out.old) }
 {
     let form = Kind::of(msg).form();
@@ -97,8 +104,8 @@ fn put_rate(first: u32, second: u64, out: &mut FrameBuf)
     out.append(&second.to_be_bytes());
 }
 
-/// What bytes are to a decoder: they begin with a whole frame of a kind, they are a proper front of a frame, or no
-/// further bytes make them one.
+/// What bytes are to a decoder: they begin with a whole frame of a kind, they are a proper front of
+/// a frame, or no further bytes make them one.
 #[derive(Clone, Copy)]
 pub(crate) enum Judged {
     Whole(Kind),
@@ -165,7 +172,8 @@ pub(crate) fn read_frame(kind: Kind, page_bytes: u32, frame: &[u8], page: &mut [
     requires frame { length frame.now ≡ whole_length page_bytes (form kind) }
     requires page { length page.old ≡ page_bytes }
     ensures msg { result ≡ message kind (fields_in kind frame.now) }
-    ensures page { page.new ≡ page_of kind frame.now ++ drop (length (page_of kind frame.now)) page.old }
+    ensures page { page.new ≡ page_of kind frame.now
+        ++ drop (length (page_of kind frame.now)) page.old }
 {
     let at = 5 + kind.form().fields as usize;
     let n = frame.len() - at;

@@ -23,8 +23,8 @@ pub(crate) enum Kind {
     Evict,
 }
 
-/// What a frame of a kind holds: its kind byte, who sends it, how many bytes its fields take, and how many pages follow
-/// them.
+/// What a frame of a kind holds: its kind byte, who sends it, how many bytes its fields take, and
+/// how many pages follow them.
 #[derive(Clone, Copy)]
 pub(crate) struct Form {
     pub(crate) number: u8,

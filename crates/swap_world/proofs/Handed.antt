@@ -566,7 +566,8 @@ module _ {D F : Type 0} (disk_moves : D → (call : DiskCall) → DiskAnswer cal
             (first_of (handed_in c d (asked_along disk_moves moves (seen_by see_take (took_from d l r)) k mid k' f' (d', s) rest)) (from_link c d l r)) h)
             c d'.calls
         only_first r mid rest none held =
-            let same : first_of (handed_in c d (asked_along disk_moves moves (seen_by see_take (took_from d l r)) k mid k' f' (d', s) rest)) (from_link c d l r) ≡ from_link c d l r =
+            let same : first_of (handed_in c d (asked_along disk_moves moves (seen_by see_take (took_from d l r)) k mid k' f' (d', s) rest)) (from_link c d l r)
+            ≡ from_link c d l r =
             ap (λ o. first_of o (from_link c d l r)) (none_handed c d (seen_by see_take (took_from d l r)) k mid k' f' (d', s) rest none) in
             subst (λ o. HoldsOf (over (is_waiting (state_of d.calls c)) o h) c d'.calls) (sym same) held
 

@@ -54,7 +54,7 @@ use Rattle.swap_base.specs.declared.Via.TheVariants as via
 use Rattle.swap_base.specs.declared.DiskWhich.TheVariants as which
 use Rattle.swap_queue.specs.Queue as queue
 use Rattle.swap_disk.specs.Drive as drive
-use Rattle.swap_disk.specs.Follows as drives
+use Rattle.swap_disk.specs.lemmas.Follows as drives
 use Rattle.swap_wire.specs.declared.Event.TheVariants as event
 use Rattle.swap_link.specs.Harbor as harbor
 use Rattle.swap_link.proofs.WholeLaws as whole

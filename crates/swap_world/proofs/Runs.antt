@@ -29,7 +29,7 @@ use Rattle.swap_world.proofs.Steps.{run_known, run_keeps}
 use Rattle.swap_world.proofs.Told.{IsTold, new_told, each_told, told_gathers}
 use Rattle.swap_world.proofs.Memory.{drive_meaning, harbor_meaning, harbor_promises, starts_sound, sound_fits, reach_sound, reach_keeps}
 use Rattle.swap_disk.specs.Drive as drive
-use Rattle.swap_disk.specs.Follows as drives
+use Rattle.swap_disk.specs.lemmas.Follows as drives
 use Rattle.swap_link.specs.Harbor as harbor
 use Rattle.swap_base.specs.declared.Origin.TheVariants as origin
 

@@ -91,7 +91,10 @@ impl<R: Wait + Copy + Send + 'static> Door for OneLink<R> {
 
     fn back(&mut self, reader: MemSource, end: LinkEnd<SharedSink<R>>)
         ensures later { 0 ≤ 0 }
-        ensures links { untold {N = Unit {0}} {P = Given} self.new.counts.asked self.new.counts.gave self.new.counts.back ≡ got_back (left_by reader end) (untold self.old.counts.asked self.old.counts.gave self.old.counts.back) }
+        ensures links { untold {N = Unit {0}} {P = Given} self.new.counts.asked
+            self.new.counts.gave self.new.counts.back
+            ≡ got_back (left_by reader end)
+            (untold self.old.counts.asked self.old.counts.gave self.old.counts.back) }
     {
         drop(reader);
         self.counts.take_back();
@@ -166,7 +169,8 @@ impl<R: Wait + Copy + Send + 'static> Host for OneDoor<R> {
     }
 }
 
-/// The frames of Hello 1 8 4, Borrow 0, Write lease 0 place 2 of aa, Read lease 0 place 2 and Done lease 0.
+/// The frames of Hello 1 8 4, Borrow 0, Write lease 0 place 2 of aa, Read lease 0 place 2 and Done
+/// lease 0.
 const FRAMES: [u8; 69] = [
     0, 0, 0, 13, 1, 0, 0, 0, 1, 0, 0, 0, 8, 0, 0, 0, 4, 0, 0, 0, 5, 3, 0, 0, 0, 0, 0, 0, 0, 17, 4,
     0, 0, 0, 0, 0, 0, 0, 2, 0xaa, 0xaa, 0xaa, 0xaa, 0xaa, 0xaa, 0xaa, 0xaa, 0, 0, 0, 9, 5, 0, 0, 0,

@@ -8,7 +8,7 @@ use Rattle.swap_disk.specs.Disk.{Flight, Write, Read, Finished, Taken, is_flight
 use Rattle.swap_disk.specs.Port.{Port, DiskCall, DiskAnswer, StartWrite, StartRead, TakeDone, LetFinish, Follows, Takes, EndsOne, EndsNone, writes_in, is_write, oldest_in}
 use Rattle.swap_disk.specs.Drive as drive
 use Rattle.swap_disk.specs.Drive.{Drive, IsDrive}
-use Rattle.swap_disk.specs.Follows.{follows as drive_follows, ask_keeps}
+use Rattle.swap_disk.specs.lemmas.Follows.{follows as drive_follows, ask_keeps}
 use Rattle.swap_hostile.specs.Silent.{Silent, unwritten, hidden, port_of, is_well, ended_drive, take_oldest, ask, Moves}
 
 -- an operation without its bytes is the same operation

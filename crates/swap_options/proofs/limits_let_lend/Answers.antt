@@ -18,7 +18,19 @@ one_of p (x ∷ xs) all e = go (p == x) refl e (one_of p xs all.1)
     go false is e more = more e
 
 lengths_within : AllByRecursion Within page_lengths
-lengths_within = ((lit≤ tt, lit≤ tt), ((lit≤ tt, lit≤ tt), ((lit≤ tt, lit≤ tt), ((lit≤ tt, lit≤ tt), ((lit≤ tt, lit≤ tt), ((lit≤ tt, lit≤ tt), ((lit≤ tt, lit≤ tt), ((lit≤ tt, lit≤ tt), ((lit≤ tt, lit≤ tt), ((lit≤ tt, lit≤ tt), tt))))))))))
+lengths_within = (
+  (lit≤ tt, lit≤ tt),
+  (
+    (lit≤ tt, lit≤ tt),
+    (
+      (lit≤ tt, lit≤ tt),
+      (
+        (lit≤ tt, lit≤ tt),
+        ((lit≤ tt, lit≤ tt), ((lit≤ tt, lit≤ tt), ((lit≤ tt, lit≤ tt), ((lit≤ tt, lit≤ tt), ((lit≤ tt, lit≤ tt), ((lit≤ tt, lit≤ tt), tt)))))),
+      ),
+    ),
+  ),
+)
 
 small : (bytes : ℕ) → bytes ≤ 536_870_912 → bytes < 2 ^ 64
 small bytes h = omega (arith, h)
@@ -40,5 +52,7 @@ returns c = λ o e.
       extra = leb-true o.spec.extra 64 extra.1;
       least = one.0;
       most = one.1;
-      bytes = subst (λ n. n < 2 ^ 64) (mul_assoc o.spec.slots o.pages_per_slab o.page_bytes) (small (o.spec.slots * o.pages_per_slab * o.page_bytes) (leb-true (o.spec.slots * o.pages_per_slab * o.page_bytes) 536_870_912 bytes.1));
+      bytes =
+          subst (λ n. n < 2 ^ 64) (mul_assoc o.spec.slots o.pages_per_slab o.page_bytes)
+          (small (o.spec.slots * o.pages_per_slab * o.page_bytes) (leb-true (o.spec.slots * o.pages_per_slab * o.page_bytes) 536_870_912 bytes.1));
     }

@@ -61,7 +61,8 @@ impl Fabric for Liar {
 
     ghost fresh_is_of = { λ f o is. is };
 
-    ghost moves_keep_of = { λ f c r g moved. ap (λ h. record { sizes = h.geometry; lenders = h.lenders }) moved.0 };
+    ghost moves_keep_of = { λ f c r g moved.
+        ap (λ h. record { sizes = h.geometry; lenders = h.lenders }) moved.0 };
 
     ghost taken_fits = { λ f l p g moved. moved.1 };
 

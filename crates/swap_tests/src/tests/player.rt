@@ -1,4 +1,5 @@
-//! What no clause says: that the calls end, what they answer with ample memory, and what a gate hears.
+//! What no clause says: that the calls end, what they answer with ample memory, and what a gate
+//! hears.
 ghost use Rattle.std.specs.Prelude.{◌≡◌, [], IfOk};
 ghost use Rattle.swap_base.specs.Sizes.{pages_of};
 ghost use Rattle.swap_table.specs.Device.{new};
@@ -48,15 +49,25 @@ fn close_both<N: Naming<MemDisk, Harbor>, R: Abort>(
     Ok(world)
 }
 
-/// One call over a disk alone: it is answered at once, its copy goes to the disk, and then all calls are spent.
+/// One call over a disk alone: it is answered at once, its copy goes to the disk, and then all
+/// calls are spent.
 fn call_once<N: Naming<MemDisk, Harbor>, R: Wait + Abort>(
     rt: &R,
     alloc: Global,
     world: World<MemDisk, Harbor>,
 ) -> Result<(), Fail>
-    requires named { N.named ≡ record { opening = Some world; sizes = world.core.device.sizes; lenders = world.core.device.lenders; operator = []; calls = 1; number = 1 } }
+    requires named { N.named
+        ≡ record {
+          opening = Some world;
+          sizes = world.core.device.sizes;
+          lenders = world.core.device.lenders;
+          operator = [];
+          calls = 1;
+          number = 1;
+        } }
     requires fresh { world.core.device ≡ new world.core.device.sizes 0 }
-    requires sizes { (world.core.device.sizes.callers ≡ 2) × (world.core.device.sizes.page_bytes ≡ 8) × (pages_of world.core.device.sizes ≡ 8) }
+    requires sizes { (world.core.device.sizes.callers ≡ 2)
+        × (world.core.device.sizes.page_bytes ≡ 8) × (pages_of world.core.device.sizes ≡ 8) }
 {
     let made = Swap::<MemDisk, Harbor, N>::make(alloc, world, Vec::new(alloc), 1, 2, 1);
     let (swap, mut passes) = made.map_err(|_| "memory")?;

@@ -46,7 +46,8 @@ fn world_over<D: DiskPort + Drop, F: Fabric + Drop>(
     fabric: F,
 ) -> Result<World<D, F>, NoMemory>
     requires disk { IsBlank script.now.sizes (D.means disk) }
-    requires fabric { F.fresh fabric (record { sizes = script.now.sizes; lenders = length script.now.lenders }) }
+    requires fabric { F.fresh fabric
+        (record { sizes = script.now.sizes; lenders = length script.now.lenders }) }
     ensures sizes { IfOk result (λ w. w.core.device.sizes ≡ script.now.sizes) }
     ensures lenders { IfOk result (λ w. w.core.device.lenders ≡ length script.now.lenders) }
 {
@@ -67,7 +68,8 @@ fn run_over<D: DiskPort + Drop, F: Fabric + Drop>(
     fabric: F,
 ) -> Result<Vec<(Seen, u8)>, Fail>
     requires disk { IsBlank script.now.sizes (D.means disk) }
-    requires fabric { F.fresh fabric (record { sizes = script.now.sizes; lenders = length script.now.lenders }) }
+    requires fabric { F.fresh fabric
+        (record { sizes = script.now.sizes; lenders = length script.now.lenders }) }
 {
     let mut world = world_over(alloc, script, disk, fabric)?;
     let mut page = vec![in alloc; 0u8; script.geometry().page_bytes() as usize]?;

@@ -1,4 +1,5 @@
-//! What no clause says: the worked examples by name, what goes wrong at the streams, and texts at fault.
+//! What no clause says: the worked examples by name, what goes wrong at the streams, and texts at
+//! fault.
 
 use std::alloc::Global;
 use std::process::Abort;

@@ -1,4 +1,5 @@
-//! What no clause says: that callers run beside one another, that a played trace is judged legal, and texts at fault.
+//! What no clause says: that callers run beside one another, that a played trace is judged legal,
+//! and texts at fault.
 
 use std::alloc::Global;
 use std::process::Abort;
@@ -31,8 +32,9 @@ impl Gate for Open {
     fn answered(&self, _caller: Caller, _number: u32) {}
 }
 
-/// A gate that holds the disk until a call of caller 1 is answered. The first answer of each of two callers is waited for by
-/// both. It gives up after so many questions, or looks, and is marked then.
+/// A gate that holds the disk until a call of caller 1 is answered. The first answer of each of two
+/// callers is waited for by both. It gives up after so many questions, or looks, and is marked
+/// then.
 #[derive(Drop)]
 struct Meeting {
     is_answered: AtomicBool,
@@ -122,8 +124,8 @@ fn judge(rt: &impl Abort, alloc: Global, out: &[u8], verdict: &str) -> Result<()
     Ok(())
 }
 
-/// Caller 0 needs the disk for its second call, which waits for caller 1's, and each waits for the other's first answer: so
-/// neither can run behind the other.
+/// Caller 0 needs the disk for its second call, which waits for caller 1's, and each waits for the
+/// other's first answer: so neither can run behind the other.
 #[test]
 fn two_callers_meet(rt: HostRuntime) -> Result<(), Fail> {
     let text = "geometry 8 4 2 1 2 4 20\n0 out 3 aa\n0 out 2 bb\n1 in 5\n";
@@ -165,7 +167,8 @@ fn played_traces_are_legal(rt: HostRuntime) -> Result<(), Fail> {
     Ok(())
 }
 
-/// Each lender is connected first, ascending, and the copy of a page leaves for the disk at the end.
+/// Each lender is connected first, ascending, and the copy of a page leaves for the disk at the
+/// end.
 #[test]
 fn one_caller_without_a_choice(rt: HostRuntime) -> Result<(), Fail> {
     let text = "geometry 8 4 2 4 1 4 20\nlender 4 1 1\nlender 4 1 1\n0 in 5\n";

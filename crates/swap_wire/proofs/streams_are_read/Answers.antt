@@ -9,7 +9,8 @@ returns-clause-exactly c = λ side page_bytes steps r alive. reads (fresh side p
 
 pub returns-clause-however_cut : goal.returns-clause-however_cut
 returns-clause-however_cut c = λ side page_bytes steps others r q e alive living absent missing.
-    one_reading side page_bytes (stream (fresh side page_bytes) steps) (stream (fresh side page_bytes) others) (end_of (fresh side page_bytes) steps).rest (end_of (fresh side page_bytes) others).rest (given steps) (given others)
+    one_reading side page_bytes (stream (fresh side page_bytes) steps) (stream (fresh side page_bytes) others) (end_of (fresh side page_bytes) steps).rest
+    (end_of (fresh side page_bytes) others).rest (given steps) (given others)
     (reads (fresh side page_bytes) steps r alive)
     (reads (fresh side page_bytes) others q living)
     e

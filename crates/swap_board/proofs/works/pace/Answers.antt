@@ -24,6 +24,11 @@ returns-clause-paced g c =
     let P : ℕ → Type 0 = λ n. (n, c.next_word.new.self) ≡ pcg32 c.args.words.now in
     let drew : (c.from-word.result, c.next_word.new.self) ≡ pcg32 c.args.words.now = subst P (sym c.from-word.ensures) c.next_word.ensures in
     let same : IsSame c.args.world.now c.reserve.new.self = record { device = r.device; disk = r.disk; fabric = r.fabric; log = r.log; spare = r.no_less } in
-    let works = works_step g.D.DiskPort.moves g.F.Fabric.moves c.reserve.new.self c.step.new.self Pacer (record { event = event.Round c.from-word.result; page = c.as_mut_slice.result.now }) c.step.result tt tt e.step e.log.log e.of e.adds e.room e.grows in
-    let left : 1 ≤ c.step.new.self.log_spare = room_left (has_effect (event.Round c.from-word.result) c.step.result) c.step.new.self.log_spare c.reserve.new.self.log_spare 1 e.log.room two in
-    paced_round g.D.DiskPort.moves g.F.Fabric.moves c.args.since c.args.words.now c.next_word.new.self c.from-word.result c.as_mut_slice.result.now c.step.result c.args.world.now c.reserve.new.self c.step.new.self late drew same works e.idle (omega (arith, left))
+    let works =
+    works_step g.D.DiskPort.moves g.F.Fabric.moves c.reserve.new.self c.step.new.self Pacer
+    (record { event = event.Round c.from-word.result; page = c.as_mut_slice.result.now }) c.step.result tt tt e.step e.log.log e.of e.adds e.room e.grows in
+    let left : 1 ≤ c.step.new.self.log_spare =
+    room_left (has_effect (event.Round c.from-word.result) c.step.result) c.step.new.self.log_spare c.reserve.new.self.log_spare 1 e.log.room two in
+    paced_round g.D.DiskPort.moves g.F.Fabric.moves c.args.since c.args.words.now c.next_word.new.self c.from-word.result c.as_mut_slice.result.now
+    c.step.result c.args.world.now c.reserve.new.self c.step.new.self late drew same works e.idle
+    (omega (arith, left))

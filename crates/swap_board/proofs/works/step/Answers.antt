@@ -7,5 +7,9 @@ returns-clause-made g c =
     record {
       page = c.as_mut_slice.result.now;
       seen = c.step.result;
-      works = λ by. works_step g.D.DiskPort.moves g.F.Fabric.moves c.args.world.now c.step.new.self by (record { event = c.args.event.now; page = c.as_mut_slice.result.now }) c.step.result c.requires.callless c.requires.range e.step e.log.log e.of e.adds e.room e.grows;
+      works =
+          λ by.
+          works_step g.D.DiskPort.moves g.F.Fabric.moves c.args.world.now c.step.new.self by
+          (record { event = c.args.event.now; page = c.as_mut_slice.result.now }) c.step.result c.requires.callless c.requires.range e.step e.log.log e.of
+          e.adds e.room e.grows;
     }

@@ -29,8 +29,8 @@ const TRIES: u32 = 100_000;
 /// The page that is written.
 const PAGE: [u8; 8] = [0xaa; 8];
 
-/// An address on loopback that no other process has: the process's number stands in it. The ports that are given are none that the system
-/// picks by itself.
+/// An address on loopback that no other process has: the process's number stands in it. The ports
+/// that are given are none that the system picks by itself.
 pub(super) fn own_address(process: u32, port: u16) -> Address {
     let [_, b, c, d] = process.to_be_bytes();
     Address {
@@ -118,7 +118,8 @@ impl<R: Wait + Copy> Device<R> {
         took
     }
 
-    /// Asks for a slab over one link after another, as the lender may not listen yet, and gives what comes.
+    /// Asks for a slab over one link after another, as the lender may not listen yet, and gives
+    /// what comes.
     fn ask(&mut self, slab: Slab) -> Took {
         for number in 0..TRIES {
             let took = self.ask_over(Link(number), slab);
@@ -131,7 +132,8 @@ impl<R: Wait + Copy> Device<R> {
     }
 }
 
-/// Lends at an address of this machine's host: how that ended, and the sink; none where there is no memory.
+/// Lends at an address of this machine's host: how that ended, and the sink; none where there is no
+/// memory.
 fn lend_at<R>(rt: R, alloc: Global, address: Address) -> Option<(LendEnd, MemSink)>
 where
     R: Wait

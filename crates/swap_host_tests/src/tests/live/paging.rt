@@ -80,7 +80,8 @@ fn waits_for<R: Wait + Copy>(rt: R, open: &Mutex<bool>) -> bool {
     false
 }
 
-/// Lends by words at an address of this machine's host: the status, and what was written; none where there is no memory.
+/// Lends by words at an address of this machine's host: the status, and what was written; none
+/// where there is no memory.
 fn lend_by_words<R>(
     rt: R,
     alloc: Global,

@@ -18,4 +18,5 @@ returns-then-len-eq0 c =
 pub returns : goal.returns
 returns c =
     let page = c.args.page.now in
-    c.eq.ensures ∙ ap (λ rest. bytes_eq rest (take (length page - c.args.len) page)) (take_rest page c.args.len) ∙ repeats_shift c.args.page.now c.args.len (omega arith) (search rules) (search rules)
+    c.eq.ensures ∙ ap (λ rest. bytes_eq rest (take (length page - c.args.len) page)) (take_rest page c.args.len)
+    ∙ repeats_shift c.args.page.now c.args.len (omega arith) (search rules) (search rules)

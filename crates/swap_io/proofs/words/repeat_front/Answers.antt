@@ -39,7 +39,8 @@ filling-preserved c =
                       let front : k - done < done = omega (arith, filled, copied) in
                       let residue : (k - done) % len ≡ k % len =
                       sym (mul-add-mod_self_right multiple.0 len (k - done)) ∙ ap (λ n. (n + (k - done)) % len) (sym multiple.1) ∙ ap (λ n. n % len) at in
-                      ap (λ n. get_or c.double-done.new.page n 0) (sym at) ∙ c.double-done.ensures.copied (k - done) copied ∙ c.filling.invariant.front (k - done) front
+                      ap (λ n. get_or c.double-done.new.page n 0) (sym at) ∙ c.double-done.ensures.copied (k - done) copied
+                      ∙ c.filling.invariant.front (k - done) front
                       ∙ ap (λ n. get_or c.args.page.now n 0) residue
                 ]
           ];

@@ -4,7 +4,10 @@ use Rattle.swap_link.specs.Channel.{forwarded}
 use Rattle.swap_link.proofs.channel.post_all.Given as goal
 
 abbrev pub invariant-loop-link : goal.invariant-loop-link
-invariant-loop-link l = (l.outbox ≡ leaving l.initial.outbox l.outbox.parcels l.initial.outbox.evicted) × (forwarded l.number l.lane l.outbox.parcels ≡ forwarded l.number l.initial.lane l.initial.outbox.parcels) × (l.lane.page_bytes ≡ l.initial.lane.page_bytes)
+invariant-loop-link l =
+    (l.outbox ≡ leaving l.initial.outbox l.outbox.parcels l.initial.outbox.evicted)
+    × (forwarded l.number l.lane l.outbox.parcels ≡ forwarded l.number l.initial.lane l.initial.outbox.parcels)
+    × (l.lane.page_bytes ≡ l.initial.lane.page_bytes)
 
 abbrev pub decreases-loop-link : goal.decreases-loop-link
 decreases-loop-link l = length l.outbox.parcels

@@ -9,7 +9,8 @@ pub returns : goal.returns
 returns c =
     let listen : rule_of c.required.result ≡ record (option_rule (codes "listen")) { required = true } =
     ap rule_of c.required.ensures ∙ ap (λ (r : Rule). record r { required = true }) c.option.ensures.rule in
-    let one = c.in_ok-arg.ensures.shape (ap (λ (a : Arg). a.global) c.required.ensures ∙ c.option.ensures.local) ∙ ap₂ with_rule c.bare_command.ensures listen in
+    let one =
+    c.in_ok-arg.ensures.shape (ap (λ (a : Arg). a.global) c.required.ensures ∙ c.option.ensures.local) ∙ ap₂ with_rule c.bare_command.ensures listen in
     let two = c.in_ok-arg-2.ensures.shape (search rules) ∙ ap₂ with_rule one c.defaulted.ensures.rule in
     let three = c.in_ok-arg-3.ensures.shape (search rules) ∙ ap₂ with_rule two c.defaulted-2.ensures.rule in
     let four = c.in_ok-arg-4.ensures.shape (search rules) ∙ ap₂ with_rule three c.defaulted-3.ensures.rule in

@@ -7,5 +7,8 @@ pub returns : goal.returns
 returns c = record {
   faultless = tt;
   matches = tt;
-  usage = λ _. at-fault (kind_of c.in-Err.error) (fault_of (app_of c.args.command) (map (λ w. w.now) c.args.words.now)) (λ x. c.in_default.not-OutOfMemory (c.kind.ensures ∙ x)) (c.in-Err.ensures.kinds c.requires.free);
+  usage =
+      λ _.
+      at-fault (kind_of c.in-Err.error) (fault_of (app_of c.args.command) (map (λ w. w.now) c.args.words.now))
+      (λ x. c.in_default.not-OutOfMemory (c.kind.ensures ∙ x)) (c.in-Err.ensures.kinds c.requires.free);
 }

@@ -12,12 +12,15 @@ parsed-requires-clause-free c = (play-may (app_of c.in-Ok.command) c.in-Ok.ensur
 
 pub returns-in-Ok-clause-faultless : goal.returns-in-Ok-clause-faultless
 returns-in-Ok-clause-faultless c =
-    IfOk-weaker c.parsed.result _ _ (λ m h. sym (play-faults-are (app_of c.in-Ok.command) (map (λ w. w.now) c.args.words.now) c.in-Ok.ensures) ∙ h) c.parsed.ensures.faultless
+    IfOk-weaker c.parsed.result _ _
+    (λ m h. sym (play-faults-are (app_of c.in-Ok.command) (map (λ w. w.now) c.args.words.now) c.in-Ok.ensures) ∙ h) c.parsed.ensures.faultless
 
 pub returns-in-Ok-clause-matches : goal.returns-in-Ok-clause-matches
 returns-in-Ok-clause-matches c =
-    IfOk-weaker c.parsed.result _ _ (λ m h. h ∙ play-rows-are (app_of c.in-Ok.command) (map (λ w. w.now) c.args.words.now) c.in-Ok.ensures) c.parsed.ensures.matches
+    IfOk-weaker c.parsed.result _ _
+    (λ m h. h ∙ play-rows-are (app_of c.in-Ok.command) (map (λ w. w.now) c.args.words.now) c.in-Ok.ensures) c.parsed.ensures.matches
 
 pub returns-in-Ok-clause-usage : goal.returns-in-Ok-clause-usage
 returns-in-Ok-clause-usage c =
-    IfErr-weaker c.parsed.result _ _ (λ why h is. play-refuses (app_of c.in-Ok.command) (map (λ w. w.now) c.args.words.now) c.in-Ok.ensures (h is)) c.parsed.ensures.usage
+    IfErr-weaker c.parsed.result _ _
+    (λ why h is. play-refuses (app_of c.in-Ok.command) (map (λ w. w.now) c.args.words.now) c.in-Ok.ensures (h is)) c.parsed.ensures.usage

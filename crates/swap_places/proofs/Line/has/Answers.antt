@@ -9,5 +9,6 @@ returns c =
     let bound : c.self.inside.bound ≡ c.args.self.now.bound = ap (λ (l : Line). l.bound) c.self.view_is in
     let next : c.index.result.now ≡ at c.self.inside.after.items c.args.number =
     c.index.ensures ∙ get_or_default c.self.inside.after.items c.args.number c.index.result.now 0 (omega (arith, c.self.invariant.after_fits)) in
-    ap (λ k. not (k == c.args.number)) next ∙ stands_by c.self.inside.after.items c.self.inside.before.items c.self.inside.bound c.self.inside.count c.args.number c.self.invariant (omega arith)
+    ap (λ k. not (k == c.args.number)) next
+    ∙ stands_by c.self.inside.after.items c.self.inside.before.items c.self.inside.bound c.self.inside.count c.args.number c.self.invariant (omega arith)
     ∙ ap (λ (l : Line). stands l.numbers c.args.number) c.self.view_is

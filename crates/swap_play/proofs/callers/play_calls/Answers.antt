@@ -19,5 +19,6 @@ calls-preserved g c =
       plays = λ now more.
           let Q : Script → Type 0 = λ l. Plays l.inputs c.play_call.new.pass.mine now in
           inv.plays now
-          (next_plays c.calls.left c.in-Some.event c.calls.page c.next.new.page c.calls.pass.mine c.play_call.new.pass.mine now is c.next.ensures.page (c.play_call.ensures.plays c.if-not-play_call.false) (subst Q c.next.ensures.left more));
+          (next_plays c.calls.left c.in-Some.event c.calls.page c.next.new.page c.calls.pass.mine c.play_call.new.pass.mine now is c.next.ensures.page
+          (c.play_call.ensures.plays c.if-not-play_call.false) (subst Q c.next.ensures.left more));
     }

@@ -16,4 +16,6 @@ returns-in-Linked g c =
     connected_one g.D.DiskPort.moves g.F.Fabric.moves c.args.lender.0 c.args.world.now c.reserve.new.self c.step.new.self c.args.page.now c.step.result
     (record { device = r.device; disk = r.disk; fabric = r.fabric; log = r.log; spare = r.no_less })
     (ap (λ (s : Seen). has_effect (event.Connect c.args.lender) s) c.in-Linked.is)
-    (works_step g.D.DiskPort.moves g.F.Fabric.moves c.reserve.new.self c.step.new.self Operator (record { event = event.Connect c.args.lender; page = c.args.page.now }) c.step.result tt (subst P (sym r.device) c.requires.lender) e.step e.log.log e.of e.adds e.room e.grows)
+    (works_step g.D.DiskPort.moves g.F.Fabric.moves c.reserve.new.self c.step.new.self Operator
+    (record { event = event.Connect c.args.lender; page = c.args.page.now }) c.step.result tt
+    (subst P (sym r.device) c.requires.lender) e.step e.log.log e.of e.adds e.room e.grows)

@@ -15,7 +15,9 @@ links-preserved g c =
     record {
       keeps = keeps_on c.args.board.now c.links.board c.is_quiet_at.new.board inv.keeps c.is_quiet_at.ensures.keeps;
       quiet = λ is. elim c.if-quiet.branch [
-        | then-quiet w ↦ quiet_more g.D.DiskPort.moves g.F.Fabric.moves c.links.lender c.links.board.world c.is_quiet_at.new.board.world (inv.quiet w.if-quiet.true) (c.is_quiet_at.ensures.quiet (c.in_ok-here.was ∙ ap Ok (sym w.quiet-is ∙ is)))
+        | then-quiet w ↦
+            quiet_more g.D.DiskPort.moves g.F.Fabric.moves c.links.lender c.links.board.world c.is_quiet_at.new.board.world (inv.quiet w.if-quiet.true)
+            (c.is_quiet_at.ensures.quiet (c.in_ok-here.was ∙ ap Ok (sym w.quiet-is ∙ is)))
         | else-quiet w ↦ cc
       ];
     }

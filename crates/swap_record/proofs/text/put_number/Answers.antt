@@ -6,4 +6,12 @@ pub decimal-requires : goal.decimal-requires
 decimal-requires c = omega (arith, digits_within c.args.n c.ranges.n.fits, ap length c.text.ensures, length-append c.args.out.now (32 ∷ []))
 
 pub returns-clause-len : goal.returns-clause-len
-returns-clause-len c = omega (arith, digits_within c.args.n c.ranges.n.fits, ap length c.text.ensures, length-append c.args.out.now (32 ∷ []), ap length c.decimal.ensures, length-append c.text.new.self (decimal c.args.n))
+returns-clause-len c =
+    omega (
+      arith,
+      digits_within c.args.n c.ranges.n.fits,
+      ap length c.text.ensures,
+      length-append c.args.out.now (32 ∷ []),
+      ap length c.decimal.ensures,
+      length-append c.text.new.self (decimal c.args.n),
+    )

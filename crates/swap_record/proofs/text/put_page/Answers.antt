@@ -10,4 +10,12 @@ pub returns-clause-text : goal.returns-clause-text
 returns-clause-text c = rw (c.shortest.ensures, c.text.ensures) (append_assoc c.args.out.now (32 ∷ []) (shortest c.args.bytes.now))
 
 pub returns-clause-len : goal.returns-clause-len
-returns-clause-len c = omega (arith, shortest_within c.args.bytes.now, ap length c.text.ensures, length-append c.args.out.now (32 ∷ []), ap length c.shortest.ensures, length-append c.text.new.self (shortest c.args.bytes.now))
+returns-clause-len c =
+    omega (
+      arith,
+      shortest_within c.args.bytes.now,
+      ap length c.text.ensures,
+      length-append c.args.out.now (32 ∷ []),
+      ap length c.shortest.ensures,
+      length-append c.text.new.self (shortest c.args.bytes.now),
+    )

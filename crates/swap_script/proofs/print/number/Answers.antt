@@ -11,4 +11,11 @@ decimal-requires c =
 pub returns-clause-length : goal.returns-clause-length
 returns-clause-length c =
     let short = length-decimal-le 20 c.args.n (omega arith) (omega arith) (omega arith) in
-    omega (arith, short, ap length c.text.ensures, length-append c.args.out.now (32 ∷ []), ap length c.decimal.ensures, length-append c.text.new.self (decimal c.args.n))
+    omega (
+      arith,
+      short,
+      ap length c.text.ensures,
+      length-append c.args.out.now (32 ∷ []),
+      ap length c.decimal.ensures,
+      length-append c.text.new.self (decimal c.args.n),
+    )

@@ -11,4 +11,5 @@ returns-in-Done-clause-text c =
     let H = c.args.history.now.history in
     let entry = entry_words H c.in-Done.entry in
     let sent = sent_words c.in-Done.sent in
-    c.sent_words.ensures.text ∙ ap (λ o. o ++ led sent) c.entry_words.ensures.text ∙ append_assoc c.args.out.now (led entry) (led sent) ∙ ap (λ l. c.args.out.now ++ l) (sym (led-append entry sent)) ∙ ap (λ s. c.args.out.now ++ led (seen_words H s)) (sym c.in-Done.is)
+    c.sent_words.ensures.text ∙ ap (λ o. o ++ led sent) c.entry_words.ensures.text ∙ append_assoc c.args.out.now (led entry) (led sent)
+    ∙ ap (λ l. c.args.out.now ++ l) (sym (led-append entry sent)) ∙ ap (λ s. c.args.out.now ++ led (seen_words H s)) (sym c.in-Done.is)

@@ -11,7 +11,9 @@ loop-slot-preserved c =
     let below = led (map decimal (filter (has c.args.set) (range_with_len 0 c.loop-slot.slot))) in
     let one = led (cond (has c.args.set c.loop-slot.slot) (decimal c.loop-slot.slot ∷ []) []) in
     record {
-      text = c.slot_word.ensures.text ∙ ap (λ o. o ++ one) c.loop-slot.invariant.text ∙ append_assoc c.args.out.now below one ∙ ap (λ l. c.args.out.now ++ l) (sym (led-numbers_more (has c.args.set) c.loop-slot.slot));
+      text =
+          c.slot_word.ensures.text ∙ ap (λ o. o ++ one) c.loop-slot.invariant.text ∙ append_assoc c.args.out.now below one
+          ∙ ap (λ l. c.args.out.now ++ l) (sym (led-numbers_more (has c.args.set) c.loop-slot.slot));
       room = omega arith;
     }
 

@@ -21,11 +21,14 @@ reading-preserved c =
     let inputs = ap (inputs_of g s) c.in-Some.ensures
     ∙ inputs_of-on g s c.in-Some.kept.line c.in-Some.kept.text.now c.next.new.self line c.in-Some-line_of.ensures.line in
     let calls = ap calls_of inputs ∙ calls_of-cons (input_of s line) (inputs_of g s c.next.new.self) in
-    let counts : counted (above_of c.reading.counts) (Some line) ≡ above_of c.with-counts.result = cc (c.with-counts.ensures.events, c.with-counts.ensures.calls) in
+    let counts : counted (above_of c.reading.counts) (Some line) ≡ above_of c.with-counts.result =
+    cc (c.with-counts.ensures.events, c.with-counts.ensures.calls) in
     record {
       fault = c.reading.invariant.fault ∙ ap (λ p. first_fault g end s lenders p (above_of c.reading.counts)) c.in-Some.ensures
           ∙ first_fault-on g end s lenders
-          (above_of c.reading.counts) c.in-Some.kept.line c.in-Some.kept.text.now c.next.new.self line c.in-Some-line_of.ensures.line c.in_default-fault_of.ensures ∙ ap (first_fault g end s lenders c.next.new.self) counts;
+          (above_of c.reading.counts) c.in-Some.kept.line c.in-Some.kept.text.now c.next.new.self line c.in-Some-line_of.ensures.line
+          c.in_default-fault_of.ensures
+          ∙ ap (first_fault g end s lenders c.next.new.self) counts;
       events = omega (arith, ap length inputs, c.with-counts.ensures.events);
       calls = omega (arith, calls, c.with-counts.ensures.calls);
       fewer = omega (arith, calls_in-le c.in-Some-line_of.spelled.event, c.with-counts.ensures.events, c.with-counts.ensures.calls);

@@ -9,8 +9,15 @@ use Rattle.swap_serve.proofs.links.part_all.Goals as goal
 
 pub loop-slot-init : goal.loop-slot-init
 loop-slot-init g c =
-    let items = c.into_iter-slot-iterator.ensures.into_iter_gives.0 in
-    ([], [], sym items, refl, subst (λ (es : List Ear). AreKeptBy g.D.Reader.Source.left g.D.Reader.Source.faults g.D.Writer.Sink.faults [] [] es) (sym c.requires.empty) tt, omega (arith, ap length items, ap length c.requires.empty, c.requires.room), omega arith)
+    let items = c.into_iter-slot-iterator.ensures.into_iter_gives.0 in (
+      [],
+      [],
+      sym items,
+      refl,
+      subst (λ (es : List Ear). AreKeptBy g.D.Reader.Source.left g.D.Reader.Source.faults g.D.Writer.Sink.faults [] [] es) (sym c.requires.empty) tt,
+      omega (arith, ap length items, ap length c.requires.empty, c.requires.room),
+      omega arith,
+    )
 
 pub loop-slot-preserved : goal.loop-slot-preserved
 loop-slot-preserved g c =
@@ -24,9 +31,20 @@ loop-slot-preserved g c =
       done ++ slot ∷ [],
       backs ++ back ∷ [],
       was.2 ∙ ap (λ (xs : List (Visit g.row.D-Reader.Denot)). done ++ xs) next ∙ sym (append_assoc done (slot ∷ []) rest),
-      c.back.ensures.links ∙ ap (λ (d : Dealings (Unit {0}) g.row.D-Reader.Denot (Left g.row.D-Reader.Denot g.row.D-Writer.Denot)). got_back back d) was.3 ∙ sym (back_last backs back (g.D.Door.links c.args.door.now)),
-      rw c.push_reserved.ensures.items (kept_last g.D.Reader.Source.left g.D.Reader.Source.faults g.D.Writer.Sink.faults done backs c.loop-slot.ears.items slot back c.finish-heard.result.ear was.4 c.finish-heard.ensures),
-      omega (arith, ap length next, ap length c.push_reserved.ensures.items, length-append c.loop-slot.ears.items (c.finish-heard.result.ear ∷ []), c.push_reserved.ensures.capacity, was.5),
+      c.back.ensures.links ∙ ap (λ (d : Dealings (Unit {0}) g.row.D-Reader.Denot (Left g.row.D-Reader.Denot g.row.D-Writer.Denot)). got_back back d) was.3
+          ∙ sym (back_last backs back (g.D.Door.links c.args.door.now)),
+      rw c.push_reserved.ensures.items
+          (kept_last g.D.Reader.Source.left g.D.Reader.Source.faults g.D.Writer.Sink.faults done backs c.loop-slot.ears.items slot back
+          c.finish-heard.result.ear
+          was.4 c.finish-heard.ensures),
+      omega (
+        arith,
+        ap length next,
+        ap length c.push_reserved.ensures.items,
+        length-append c.loop-slot.ears.items (c.finish-heard.result.ear ∷ []),
+        c.push_reserved.ensures.capacity,
+        was.5,
+      ),
       omega (arith, was.6, c.back.ensures.later),
     )
 
@@ -39,5 +57,8 @@ returns-clause-parted g c =
     record {
       backs = was.1;
       dealings = was.3;
-      each = subst (λ (vs : List (Visit g.row.D-Reader.Denot)). AreKeptBy g.D.Reader.Source.left g.D.Reader.Source.faults g.D.Writer.Sink.faults vs was.1 c.loop-slot.ears.items) (sym all) was.4;
+      each =
+          subst (λ (vs : List (Visit g.row.D-Reader.Denot)).
+          AreKeptBy g.D.Reader.Source.left g.D.Reader.Source.faults g.D.Writer.Sink.faults vs was.1 c.loop-slot.ears.items)
+          (sym all) was.4;
     }

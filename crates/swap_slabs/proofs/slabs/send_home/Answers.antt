@@ -8,5 +8,6 @@ use Rattle.swap_slabs.proofs.slabs.send_home.Goals as goal
 pub loop-state-preserved : goal.loop-state-preserved
 loop-state-preserved c =
     rw c.after_lost.ensures
-    (map_over_more (λ state. after_lost c.args.lender state) c.args.states.now c.loop-state.states c.loop-state.state-index (get_or c.loop-state.states c.loop-state.state-index Local)
+    (map_over_more (λ state. after_lost c.args.lender state) c.args.states.now c.loop-state.states c.loop-state.state-index
+    (get_or c.loop-state.states c.loop-state.state-index Local)
     (omega arith) c.loop-state.invariant (get_or_default c.loop-state.states c.loop-state.state-index Local _ (omega arith)))

@@ -11,7 +11,8 @@ returns-in-Err c = answers_err (transcript c.args.text.now) c.in-Err.refused c.i
 
 pub returns-in-Ok-check : goal.returns-in-Ok-check
 returns-in-Ok-check c =
-    answers_ok (transcript c.args.text.now) c.in-Ok.history (record { entries = c.len-entries.result; verdict = c.in-Ok-check.verdict }) c.in-Ok.ensures c.len-entries.ensures c.in-Ok-check.ensures
+    answers_ok (transcript c.args.text.now) c.in-Ok.history
+    (record { entries = c.len-entries.result; verdict = c.in-Ok-check.verdict }) c.in-Ok.ensures c.len-entries.ensures c.in-Ok-check.ensures
 
 no_memory : (read : Result Transcript ScriptRefused) → Answers read (Err refused.NoMemory)
 no_memory (Ok t) = tt

@@ -10,7 +10,8 @@ invariant-lines l = record {
   same : l.history.page_bytes ≡ l.geometry.page_bytes;
   fewer : l.counts.entries ≤ l.counts.events;
   within : l.counts.events ≤ 4_194_304;
-  left : judging (judged_in l.fn.history) (pairs_from l.geometry (end_of l.whole) nothing_above l.fn.place) ≡ judging (judged_in l.history) (pairs_from l.geometry (end_of l.whole) (above_of l.counts) l.place);
+  left : judging (judged_in l.fn.history) (pairs_from l.geometry (end_of l.whole) nothing_above l.fn.place)
+      ≡ judging (judged_in l.history) (pairs_from l.geometry (end_of l.whole) (above_of l.counts) l.place);
 }
 
 abbrev pub decreases-lines : goal.decreases-lines

@@ -42,7 +42,9 @@ loop-number-preserved g c =
       search rules,
       c.split_seat-next.ensures.2 ∙ (ap (λ m. (fewer_left m.0, m.1)) inv.1 ∙ ap (λ (v : View). (v, [])) (dealt-fewer k log i lt)),
       c.push_reserved.ensures.items ∙ pushed id log i _ _ inv.2
-          (ap (λ t. standing_of t i c.into_badge.result.views) lock ∙ standing_is z i k log (entries_of i log) _ _ c.into_badge.ensures.2 (ap (λ m. m.0) c.split_seat-next.ensures.4 ∙ (ap next_given is ∙ dealt-given k log i lt))),
+          (ap (λ t. standing_of t i c.into_badge.result.views) lock
+          ∙ standing_is z i k log (entries_of i log) _ _ c.into_badge.ensures.2
+          (ap (λ m. m.0) c.split_seat-next.ensures.4 ∙ (ap next_given is ∙ dealt-given k log i lt))),
       search rules,
       search rules,
     )
@@ -63,11 +65,14 @@ all_dealt g c =
     let whole : (k - 1) + 1 ≡ k = omega arith in
     c.push_reserved-2.ensures.items
     ∙ (pushed id log (k - 1) _ _ (inv.2 ∙ (λ j. map (newcomer (record { table = same j; seats = k }) log) (numbers_from 0 (last j))))
-    (ap (λ t. standing_of t (k - 1) c.into_badge-2.result.views) lock ∙ standing_is z (k - 1) k log (entries_of (k - 1) log) _ _ c.into_badge-2.ensures.2 (is ∙ dealt-last k log i last))
+    (ap (λ t. standing_of t (k - 1) c.into_badge-2.result.views) lock
+    ∙ standing_is z (k - 1) k log (entries_of (k - 1) log) _ _ c.into_badge-2.ensures.2 (is ∙ dealt-last k log i last))
     ∙ ap (λ (n : ℕ). map (newcomer id log) (numbers_from 0 n)) whole)
 
 pub returns-clause-passes : goal.returns-clause-passes
 returns-clause-passes g c = all_dealt g c
 
 pub returns-clause-free : goal.returns-clause-free
-returns-clause-free g c = newcomers_free (record { table = c.args.table.now.shared.table_id; seats = c.args.seats }) c.args.seat.me.0.seen (numbers_from 0 c.args.seats) _ (all_dealt g c)
+returns-clause-free g c =
+    newcomers_free (record { table = c.args.table.now.shared.table_id; seats = c.args.seats }) c.args.seat.me.0.seen (numbers_from 0 c.args.seats) _
+    (all_dealt g c)

@@ -29,7 +29,8 @@ loop-pass-preserved g c =
       search rules,
       search rules,
       gathers_next _ _ _ _ _ _ _ c.loop-pass.invariant.2 split (ap (λ m. m.0) c.join_seat.ensures.2 ∙ ap (taken_in c.loop-pass.seat.me.0) u),
-      all_front (IsFreeOf (record { table = c.args.table.shared.table_id; seats = c.args.seats })) c.pop-in-loop-pass.new.self.items (c.in-Some-pop.pass ∷ []) (subst (All (IsFreeOf (record { table = c.args.table.shared.table_id; seats = c.args.seats }))) split c.loop-pass.invariant.3),
+      all_front (IsFreeOf (record { table = c.args.table.shared.table_id; seats = c.args.seats })) c.pop-in-loop-pass.new.self.items (c.in-Some-pop.pass ∷ [])
+          (subst (All (IsFreeOf (record { table = c.args.table.shared.table_id; seats = c.args.seats }))) split c.loop-pass.invariant.3),
     )
 
 pub unwrap-requires : goal.unwrap-requires

@@ -6,4 +6,5 @@ use Rattle.swap_wire.proofs.frames.put_rate.Goals as goal
 
 pub returns-clause-words : goal.returns-clause-words
 returns-clause-words c =
-    appended_twice c.args.out.now c.put_one.new.out c.append.new.self (word c.args.first) (long c.args.second) c.put_one.ensures.word (c.append.ensures ∙ ap (appended c.put_one.new.out) c.to_be_bytes.ensures)
+    appended_twice c.args.out.now c.put_one.new.out c.append.new.self (word c.args.first) (long c.args.second) c.put_one.ensures.word
+    (c.append.ensures ∙ ap (appended c.put_one.new.out) c.to_be_bytes.ensures)

@@ -26,7 +26,9 @@ invariant_of-result g c =
     let O : NamedOf → Type 0 = λ x. AreOperators x.sizes x.lenders x.operator in
     record {
       board =
-          subst P (sym none) (board_made g.D.DiskPort.moves g.F.Fabric.moves n w c.reserve.new.self c.seed_from_u64.result (ap (λ (x : NamedOf). x.opening) q.named) (sym (ap (λ (x : NamedOf). x.sizes) q.named)) (sym (ap (λ (x : NamedOf). x.lenders) q.named))
+          subst P (sym none)
+          (board_made g.D.DiskPort.moves g.F.Fabric.moves n w c.reserve.new.self c.seed_from_u64.result (ap (λ (x : NamedOf). x.opening) q.named)
+          (sym (ap (λ (x : NamedOf). x.sizes) q.named)) (sym (ap (λ (x : NamedOf). x.lenders) q.named))
           (subst O (sym q.named) q.operator) q.idle (subst C (sym (ap (λ (x : NamedOf). x.calls) q.named)) room) same words);
       operator_is = sym (ap (λ (x : NamedOf). x.operator) q.named);
       places = search rules;

@@ -12,39 +12,64 @@ use Rattle.swap_disk.proofs.flight.Flights.bytes.Goals as goal
 
 pub index-requires : goal.index-requires
 index-requires c =
-    let in' = seen_in c.self.inside.geometry c.self.inside.reading.items c.self.inside.kept.items c.self.inside.order c.args.self.now c.self.view_is c.self.invariant.0.order_bound c.keeps.ensures.line.below (which.Write c.args.page) c.requires in
+    let in' =
+    seen_in c.self.inside.geometry c.self.inside.reading.items c.self.inside.kept.items c.self.inside.order c.args.self.now c.self.view_is
+    c.self.invariant.0.order_bound c.keeps.ensures.line.below
+    (which.Write c.args.page) c.requires in
     omega (arith, ltb-true c.args.page.0 (pages_of c.self.inside.geometry) in'.0, c.self.invariant.0.kept_len, c.self.inside.kept.ok)
 
 pub unwrap-requires : goal.unwrap-requires
 unwrap-requires c =
-    let in' = seen_in c.self.inside.geometry c.self.inside.reading.items c.self.inside.kept.items c.self.inside.order c.args.self.now c.self.view_is c.self.invariant.0.order_bound c.keeps.ensures.line.below (which.Write c.args.page) c.requires in
+    let in' =
+    seen_in c.self.inside.geometry c.self.inside.reading.items c.self.inside.kept.items c.self.inside.order c.args.self.now c.self.view_is
+    c.self.invariant.0.order_bound c.keeps.ensures.line.below
+    (which.Write c.args.page) c.requires in
     let within : c.args.page.0 < pages_of c.self.inside.geometry = ltb-true c.args.page.0 (pages_of c.self.inside.geometry) in'.0 in
     let there : stands c.self.inside.writes.numbers c.args.page.0 ≡ true =
-    ap (λ l. stands l c.args.page.0) c.self.invariant.0.writes_are ∙ page_stands c.self.inside.geometry c.self.inside.reading.items c.self.inside.kept.items c.self.inside.order.numbers c.args.page.0 within ∙ in'.1 in
-    let slot = c.index.ensures ∙ get_or_default c.self.inside.kept.items c.args.page.0 c.index.result.now None (omega (arith, within, c.self.invariant.0.kept_len)) in
+    ap (λ l. stands l c.args.page.0) c.self.invariant.0.writes_are
+    ∙ page_stands c.self.inside.geometry c.self.inside.reading.items c.self.inside.kept.items c.self.inside.order.numbers c.args.page.0 within ∙ in'.1 in
+    let slot =
+    c.index.ensures ∙ get_or_default c.self.inside.kept.items c.args.page.0 c.index.result.now None (omega (arith, within, c.self.invariant.0.kept_len)) in
     c.as_ref.ensures.variant ∙ ap is_some slot ∙ (c.self.invariant.0.kept_fits c.args.page.0 there).0
 
 pub returns-clause-bytes : goal.returns-clause-bytes
 returns-clause-bytes c =
-    let in' = seen_in c.self.inside.geometry c.self.inside.reading.items c.self.inside.kept.items c.self.inside.order c.args.self.now c.self.view_is c.self.invariant.0.order_bound c.keeps.ensures.line.below (which.Write c.args.page) c.requires in
+    let in' =
+    seen_in c.self.inside.geometry c.self.inside.reading.items c.self.inside.kept.items c.self.inside.order c.args.self.now c.self.view_is
+    c.self.invariant.0.order_bound c.keeps.ensures.line.below
+    (which.Write c.args.page) c.requires in
     let within : c.args.page.0 < pages_of c.self.inside.geometry = ltb-true c.args.page.0 (pages_of c.self.inside.geometry) in'.0 in
-    let slot = c.index.ensures ∙ get_or_default c.self.inside.kept.items c.args.page.0 c.index.result.now None (omega (arith, within, c.self.invariant.0.kept_len)) in
-    let held : get_or c.self.inside.kept.items c.args.page.0 None ≡ Some c.unwrap.result.now = sym slot ∙ sym c.as_ref.ensures.value ∙ ap option_copied c.unwrap.ensures in
-    seen_at c.self.inside.geometry c.self.inside.reading.items c.self.inside.kept.items c.self.inside.order c.args.self.now c.self.view_is c.self.invariant.0.order_bound c.keeps.ensures.line.below (which.Write c.args.page) c.requires
+    let slot =
+    c.index.ensures ∙ get_or_default c.self.inside.kept.items c.args.page.0 c.index.result.now None (omega (arith, within, c.self.invariant.0.kept_len)) in
+    let held : get_or c.self.inside.kept.items c.args.page.0 None ≡ Some c.unwrap.result.now =
+    sym slot ∙ sym c.as_ref.ensures.value ∙ ap option_copied c.unwrap.ensures in
+    seen_at c.self.inside.geometry c.self.inside.reading.items c.self.inside.kept.items c.self.inside.order c.args.self.now c.self.view_is
+    c.self.invariant.0.order_bound c.keeps.ensures.line.below
+    (which.Write c.args.page) c.requires
     ∙ ap (λ f. Some f) (at_write c.self.inside.geometry c.self.inside.reading.items c.self.inside.kept.items c.args.page.0 within)
     ∙ ap (λ bs. Some (Write c.args.page bs)) (ap bytes_kept held ∙ sym c.bytes.ensures)
 
 pub returns-clause-len : goal.returns-clause-len
 returns-clause-len c =
-    let in' = seen_in c.self.inside.geometry c.self.inside.reading.items c.self.inside.kept.items c.self.inside.order c.args.self.now c.self.view_is c.self.invariant.0.order_bound c.keeps.ensures.line.below (which.Write c.args.page) c.requires in
+    let in' =
+    seen_in c.self.inside.geometry c.self.inside.reading.items c.self.inside.kept.items c.self.inside.order c.args.self.now c.self.view_is
+    c.self.invariant.0.order_bound c.keeps.ensures.line.below
+    (which.Write c.args.page) c.requires in
     let within : c.args.page.0 < pages_of c.self.inside.geometry = ltb-true c.args.page.0 (pages_of c.self.inside.geometry) in'.0 in
     let there : stands c.self.inside.writes.numbers c.args.page.0 ≡ true =
-    ap (λ l. stands l c.args.page.0) c.self.invariant.0.writes_are ∙ page_stands c.self.inside.geometry c.self.inside.reading.items c.self.inside.kept.items c.self.inside.order.numbers c.args.page.0 within ∙ in'.1 in
-    let slot = c.index.ensures ∙ get_or_default c.self.inside.kept.items c.args.page.0 c.index.result.now None (omega (arith, within, c.self.invariant.0.kept_len)) in
-    let held : get_or c.self.inside.kept.items c.args.page.0 None ≡ Some c.unwrap.result.now = sym slot ∙ sym c.as_ref.ensures.value ∙ ap option_copied c.unwrap.ensures in
-    ap length (c.bytes.ensures ∙ sym (ap bytes_kept held)) ∙ (c.self.invariant.0.kept_fits c.args.page.0 there).1 ∙ ap (λ (f : Flying). f.sizes.page_bytes) c.self.view_is
+    ap (λ l. stands l c.args.page.0) c.self.invariant.0.writes_are
+    ∙ page_stands c.self.inside.geometry c.self.inside.reading.items c.self.inside.kept.items c.self.inside.order.numbers c.args.page.0 within ∙ in'.1 in
+    let slot =
+    c.index.ensures ∙ get_or_default c.self.inside.kept.items c.args.page.0 c.index.result.now None (omega (arith, within, c.self.invariant.0.kept_len)) in
+    let held : get_or c.self.inside.kept.items c.args.page.0 None ≡ Some c.unwrap.result.now =
+    sym slot ∙ sym c.as_ref.ensures.value ∙ ap option_copied c.unwrap.ensures in
+    ap length (c.bytes.ensures ∙ sym (ap bytes_kept held)) ∙ (c.self.invariant.0.kept_fits c.args.page.0 there).1
+    ∙ ap (λ (f : Flying). f.sizes.page_bytes) c.self.view_is
 
 pub returns-clause-within : goal.returns-clause-within
 returns-clause-within c =
-    let in' = seen_in c.self.inside.geometry c.self.inside.reading.items c.self.inside.kept.items c.self.inside.order c.args.self.now c.self.view_is c.self.invariant.0.order_bound c.keeps.ensures.line.below (which.Write c.args.page) c.requires in
+    let in' =
+    seen_in c.self.inside.geometry c.self.inside.reading.items c.self.inside.kept.items c.self.inside.order c.args.self.now c.self.view_is
+    c.self.invariant.0.order_bound c.keeps.ensures.line.below
+    (which.Write c.args.page) c.requires in
     subst (λ (f : Flying). c.args.page.0 < pages_of f.sizes) c.self.view_is (ltb-true c.args.page.0 (pages_of c.self.inside.geometry) in'.0)

@@ -6,5 +6,6 @@ use Rattle.swap_disk.proofs.flight.Flights.count_writes.Goals as goal
 
 pub returns : goal.returns
 returns c =
-    c.len.ensures ∙ ap length c.self.invariant.0.writes_are ∙ writes_counted c.self.inside.geometry c.self.inside.reading.items c.self.inside.kept.items c.self.inside.order.numbers
+    c.len.ensures ∙ ap length c.self.invariant.0.writes_are
+    ∙ writes_counted c.self.inside.geometry c.self.inside.reading.items c.self.inside.kept.items c.self.inside.order.numbers
     ∙ ap (λ (f : Flying). writes_in f.flights) c.self.view_is

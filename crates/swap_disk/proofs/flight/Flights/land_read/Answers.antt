@@ -12,26 +12,51 @@ use Rattle.swap_disk.proofs.flight.Flights.land_read.Goals as goal
 
 pub overflow_add-pages : goal.overflow_add-pages
 overflow_add-pages c =
-    let in' = seen_in c.self.inside.geometry c.self.inside.reading.items c.self.inside.kept.items c.self.inside.order c.args.self.now c.self.view_is c.self.invariant.0.order_bound c.keeps.ensures.line.below (which.Read c.args.caller) c.requires in
-    record { fits = omega (arith, ltb-true c.args.caller.0 c.self.inside.geometry.callers in'.0, c.pages.ensures, c.limits.ensures.within.pages, c.limits.ensures.within.callers) }
+    let in' =
+    seen_in c.self.inside.geometry c.self.inside.reading.items c.self.inside.kept.items c.self.inside.order c.args.self.now c.self.view_is
+    c.self.invariant.0.order_bound c.keeps.ensures.line.below
+    (which.Read c.args.caller) c.requires in
+    record {
+      fits =
+          omega (
+            arith,
+            ltb-true c.args.caller.0 c.self.inside.geometry.callers in'.0,
+            c.pages.ensures,
+            c.limits.ensures.within.pages,
+            c.limits.ensures.within.callers,
+          );
+    }
 
 pub leave-requires : goal.leave-requires
 leave-requires c =
-    let in' = seen_in c.self.inside.geometry c.self.inside.reading.items c.self.inside.kept.items c.self.inside.order c.args.self.now c.self.view_is c.self.invariant.0.order_bound c.keeps.ensures.line.below (which.Read c.args.caller) c.requires in
+    let in' =
+    seen_in c.self.inside.geometry c.self.inside.reading.items c.self.inside.kept.items c.self.inside.order c.args.self.now c.self.view_is
+    c.self.invariant.0.order_bound c.keeps.ensures.line.below
+    (which.Read c.args.caller) c.requires in
     ap (λ p. stands c.self.inside.order.numbers (p + c.args.caller.0)) c.pages.ensures ∙ in'.1
 
 pub invariant_of-self : goal.invariant_of-self
 invariant_of-self c =
-    let in' = seen_in c.self.inside.geometry c.self.inside.reading.items c.self.inside.kept.items c.self.inside.order c.args.self.now c.self.view_is c.self.invariant.0.order_bound c.keeps.ensures.line.below (which.Read c.args.caller) c.requires in
+    let in' =
+    seen_in c.self.inside.geometry c.self.inside.reading.items c.self.inside.kept.items c.self.inside.order c.args.self.now c.self.view_is
+    c.self.invariant.0.order_bound c.keeps.ensures.line.below
+    (which.Read c.args.caller) c.requires in
     let known = ltb-true c.args.caller.0 c.self.inside.geometry.callers in'.0 in
-    let left = c.leave.ensures.numbers ∙ ap (λ p. line.without (p + c.args.caller.0) c.self.inside.order.numbers) c.pages.ensures in
-    (still_reading c.is_a_line.ensures.leave c.self.inside.geometry c.self.inside.order c.self.inside.writes c.leave.new.self c.self.inside.reading.items c.self.inside.kept.items c.self.inside.spare.items c.args.caller c.self.invariant.0 c.keeps.ensures.line.once known left c.leave.ensures.bound, c.self.invariant.1)
+    let left = c.leave.ensures.numbers ∙ ap (λ p. line.without (p + c.args.caller.0) c.self.inside.order.numbers) c.pages.ensures in (
+      still_reading c.is_a_line.ensures.leave c.self.inside.geometry c.self.inside.order c.self.inside.writes c.leave.new.self c.self.inside.reading.items
+          c.self.inside.kept.items c.self.inside.spare.items c.args.caller c.self.invariant.0 c.keeps.ensures.line.once known left c.leave.ensures.bound,
+      c.self.invariant.1,
+    )
 
 pub returns : goal.returns
 returns c =
-    let in' = seen_in c.self.inside.geometry c.self.inside.reading.items c.self.inside.kept.items c.self.inside.order c.args.self.now c.self.view_is c.self.invariant.0.order_bound c.keeps.ensures.line.below (which.Read c.args.caller) c.requires in
+    let in' =
+    seen_in c.self.inside.geometry c.self.inside.reading.items c.self.inside.kept.items c.self.inside.order c.args.self.now c.self.view_is
+    c.self.invariant.0.order_bound c.keeps.ensures.line.below
+    (which.Read c.args.caller) c.requires in
     let known = ltb-true c.args.caller.0 c.self.inside.geometry.callers in'.0 in
     let left = c.leave.ensures.numbers ∙ ap (λ p. line.without (p + c.args.caller.0) c.self.inside.order.numbers) c.pages.ensures in
     ap (λ l. record { sizes = c.self.inside.geometry; flights = l })
-    (read_landed c.is_a_line.ensures.leave c.self.inside.geometry c.self.inside.order c.self.inside.writes c.leave.new.self c.self.inside.reading.items c.self.inside.kept.items c.self.inside.spare.items c.args.caller c.self.invariant.0 c.keeps.ensures.line.once known left)
+    (read_landed c.is_a_line.ensures.leave c.self.inside.geometry c.self.inside.order c.self.inside.writes c.leave.new.self c.self.inside.reading.items
+    c.self.inside.kept.items c.self.inside.spare.items c.args.caller c.self.invariant.0 c.keeps.ensures.line.once known left)
     ∙ ap (λ (f : Flying). record { sizes = f.sizes; flights = without (which.Read c.args.caller) f.flights }) c.self.view_is

@@ -5,11 +5,17 @@ use Rattle.swap_disk.proofs.DriveMoves.{is_drive, start_is, start_holds}
 use Rattle.swap_disk.proofs.mem_disk.MemDiskDiskPort.start_read.Goals as goal
 
 pub invariant_of-self : goal.invariant_of-self
-invariant_of-self c = start_holds c.self.inside.blocks c.self.inside.flights c.start_read.new.self c.self.inside.ended c.self.inside.faults (Read c.args.caller c.args.page ∷ []) c.self.invariant c.start_read.ensures
+invariant_of-self c =
+    start_holds c.self.inside.blocks c.self.inside.flights c.start_read.new.self c.self.inside.ended c.self.inside.faults
+    (Read c.args.caller c.args.page ∷ []) c.self.invariant c.start_read.ensures
 
 pub returns : goal.returns
 returns c =
     let D : Drive → Drive = λ d. record { sizes = d.sizes; disk = started d.disk (Read c.args.caller c.args.page ∷ []) } in (
-      subst (λ (d : Drive). IsDrive d) c.self.view_is (is_drive c.self.inside.blocks c.self.inside.flights c.self.inside.ended c.self.inside.faults c.self.invariant),
-      ap (λ (d : Drive). (tt, d)) (ap D (sym c.self.view_is) ∙ start_is c.self.inside.blocks c.self.inside.flights c.start_read.new.self c.self.inside.ended c.self.inside.faults (Read c.args.caller c.args.page ∷ []) c.self.invariant c.start_read.ensures),
+      subst (λ (d : Drive). IsDrive d) c.self.view_is
+          (is_drive c.self.inside.blocks c.self.inside.flights c.self.inside.ended c.self.inside.faults c.self.invariant),
+      ap (λ (d : Drive). (tt, d))
+          (ap D (sym c.self.view_is)
+          ∙ start_is c.self.inside.blocks c.self.inside.flights c.start_read.new.self c.self.inside.ended c.self.inside.faults
+          (Read c.args.caller c.args.page ∷ []) c.self.invariant c.start_read.ensures),
     )

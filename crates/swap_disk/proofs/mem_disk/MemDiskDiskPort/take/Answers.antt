@@ -11,11 +11,22 @@ returns c =
     let now : drive_in c.self.inside.blocks c.self.inside.flights (Some c.in_ok-ended.ended) c.self.inside.faults ≡ c.args.self.now =
     ap (λ o. drive_in c.self.inside.blocks c.self.inside.flights o c.self.inside.faults) (sym c.in_ok-ended.was) ∙ c.self.view_is in
     let A : Drive → Drive = λ d. record { sizes = d.sizes; disk = after_take d.disk } in (
-      subst (λ (d : Drive). IsDrive d) c.self.view_is (is_drive c.self.inside.blocks c.self.inside.flights c.self.inside.ended c.self.inside.faults c.self.invariant),
+      subst (λ (d : Drive). IsDrive d) c.self.view_is
+          (is_drive c.self.inside.blocks c.self.inside.flights c.self.inside.ended c.self.inside.faults c.self.invariant),
       ap (λ t. P t (A c.args.self.now))
           (ap (λ (d : Drive). taken d.disk) (sym now)
-          ∙ taken_is c.self.inside.blocks c.self.inside.flights c.land.new.self c.in_ok-ended.ended c.self.inside.faults c.counted-self-inside.result c.page-page.result c.args.buf.now c.hand_over.new.buf c.page-page.ensures.page c.hand_over.ensures c.land.ensures c.counted-self-inside.ensures)
-          ∙ ap (λ d. P (Some (record { done = record { which = c.in_ok-ended.ended.which; page = c.page-page.result; ok = c.in_ok-ended.ended.ok }; bytes = bytes_given c.in_ok-ended.ended.which c.in_ok-ended.ended.ok c.hand_over.new.buf })) d)
+          ∙ taken_is c.self.inside.blocks c.self.inside.flights c.land.new.self c.in_ok-ended.ended c.self.inside.faults c.counted-self-inside.result
+          c.page-page.result c.args.buf.now c.hand_over.new.buf c.page-page.ensures.page c.hand_over.ensures c.land.ensures c.counted-self-inside.ensures)
+          ∙ ap
+          (λ d.
+          P
+          (Some
+          (record {
+            done = record { which = c.in_ok-ended.ended.which; page = c.page-page.result; ok = c.in_ok-ended.ended.ok };
+            bytes = bytes_given c.in_ok-ended.ended.which c.in_ok-ended.ended.ok c.hand_over.new.buf;
+          }))
+          d)
           (ap A (sym now)
-          ∙ after_is c.self.inside.blocks c.self.inside.flights c.land.new.self c.in_ok-ended.ended c.self.inside.faults c.counted-self-inside.result c.page-page.result c.args.buf.now c.hand_over.new.buf c.page-page.ensures.page c.hand_over.ensures c.land.ensures c.counted-self-inside.ensures),
+          ∙ after_is c.self.inside.blocks c.self.inside.flights c.land.new.self c.in_ok-ended.ended c.self.inside.faults c.counted-self-inside.result
+          c.page-page.result c.args.buf.now c.hand_over.new.buf c.page-page.ensures.page c.hand_over.ensures c.land.ensures c.counted-self-inside.ensures),
     )

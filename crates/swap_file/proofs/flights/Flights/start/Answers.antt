@@ -16,6 +16,10 @@ pub invariant_of-self : goal.invariant_of-self
 invariant_of-self c =
     let items = c.self.inside.list.items in
     let F : List Flight → Roster = λ fs. record { flights = fs; queue = c.self.inside.queue; callers = c.self.inside.callers } in
-    let may : MayStart (F (flights_of items)) (flight_of c.args.flying) = subst (λ (x : Roster). MayStart x (flight_of c.args.flying)) (sym c.self.view_is) c.requires in
-    let more : flights_of c.push_reserved.new.self.items ≡ flights_of items ++ flight_of c.args.flying ∷ [] = ap flights_of c.push_reserved.ensures.items ∙ map-append flight_of items (c.args.flying ∷ []) in
-    (subst (λ (fs : List Flight). Holds (F fs)) (sym more) (holds_started (F (flights_of items)) (flight_of c.args.flying) may c.self.invariant.0), omega (arith, c.self.invariant.1, c.push_reserved.ensures.capacity))
+    let may : MayStart (F (flights_of items)) (flight_of c.args.flying) =
+    subst (λ (x : Roster). MayStart x (flight_of c.args.flying)) (sym c.self.view_is) c.requires in
+    let more : flights_of c.push_reserved.new.self.items ≡ flights_of items ++ flight_of c.args.flying ∷ [] =
+    ap flights_of c.push_reserved.ensures.items ∙ map-append flight_of items (c.args.flying ∷ []) in (
+      subst (λ (fs : List Flight). Holds (F fs)) (sym more) (holds_started (F (flights_of items)) (flight_of c.args.flying) may c.self.invariant.0),
+      omega (arith, c.self.invariant.1, c.push_reserved.ensures.capacity),
+    )

@@ -20,5 +20,8 @@ returns-clause-bytes g c =
     let before : Keeps (gathered c.args.self.now) (append_known (g.K.Sink.taken c.self-2.inside.sink) (drop c.self-2.inside.at c.self-2.inside.block.items)) =
     subst (λ (s : Gathered). Keeps (gathered c.args.self.now) (gathered s)) (sym c.self-2.view_is) kept in
     let pushed : c.extend_from_slice.new.self.items ≡ c.self-2.inside.block.items ++ take c.min-count.result c.args.bytes.now = search rules in
-    append_known-grown (gathered c.args.self.now) (g.K.Sink.taken c.self-2.inside.sink) (drop c.self-2.inside.at c.self-2.inside.block.items) (drop c.self-2.inside.at c.extend_from_slice.new.self.items) (take c.min-count.result c.args.bytes.now) before
-    (ap (λ l. drop c.self-2.inside.at l) pushed ∙ drop-append-le c.self-2.inside.at c.self-2.inside.block.items (take c.min-count.result c.args.bytes.now) (omega (arith, c.self-2.invariant.0, c.self-2.inside.block.ok)))
+    append_known-grown (gathered c.args.self.now) (g.K.Sink.taken c.self-2.inside.sink) (drop c.self-2.inside.at c.self-2.inside.block.items)
+    (drop c.self-2.inside.at c.extend_from_slice.new.self.items) (take c.min-count.result c.args.bytes.now) before
+    (ap (λ l. drop c.self-2.inside.at l) pushed
+    ∙ drop-append-le c.self-2.inside.at c.self-2.inside.block.items (take c.min-count.result c.args.bytes.now)
+    (omega (arith, c.self-2.invariant.0, c.self-2.inside.block.ok)))

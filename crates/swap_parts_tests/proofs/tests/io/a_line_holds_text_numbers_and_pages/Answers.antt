@@ -16,4 +16,11 @@ text-requires-2 g c =
 
 pub shortest-requires : goal.shortest-requires
 shortest-requires g c =
-    omega (arith, short, simp length-append at (ap length c.text-2.ensures), simp length-append at (ap length c.decimal.ensures), simp length-append at (ap length c.text.ensures), ap length c.in_ok-line.ensures)
+    omega (
+      arith,
+      short,
+      simp length-append at (ap length c.text-2.ensures),
+      simp length-append at (ap length c.decimal.ensures),
+      simp length-append at (ap length c.text.ensures),
+      ap length c.in_ok-line.ensures,
+    )

@@ -14,4 +14,6 @@ give-requires-clause-own g c =
     (subst (λ (H : History). Extends c.number-caller.result H c.page_out-outcome.new.self.record.history) (lent ∙ sym seen) c.page_out-outcome.ensures)
 
 pub returns-clause-seen : goal.returns-clause-seen
-returns-clause-seen g c = earlier_trans _ _ _ c.take-turn.ensures.seen (subst (λ (H : History). IsEarlier H c.give.new.pass.seen) (ap (λ (p : Standing). p.seen) c.take-turn.ensures.turn) c.give.ensures.seen)
+returns-clause-seen g c =
+    earlier_trans _ _ _ c.take-turn.ensures.seen
+    (subst (λ (H : History). IsEarlier H c.give.new.pass.seen) (ap (λ (p : Standing). p.seen) c.take-turn.ensures.turn) c.give.ensures.seen)

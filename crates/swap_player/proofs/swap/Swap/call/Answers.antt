@@ -8,7 +8,8 @@ returns-in-Some-turned-clause-pages g c =
     let n = g.N.Naming.named in
     let inv = c.steps.invariant in
     let P : List ℕ → Type 0 = λ page. Pages n.calls n.sizes.callers c.args.event.now page c.in-Some-turned.ended c.steps.pass c.turn-turned.new.pass in
-    turns_after n.calls n.sizes.callers c.args.event.now c.args.page.now (Some c.in-Some-turned.ended) c.args.pass.now c.steps.pass c.turn-turned.new.pass inv.2 (subst P inv.3 c.in-Some-turned.ensures.turns)
+    turns_after n.calls n.sizes.callers c.args.event.now c.args.page.now (Some c.in-Some-turned.ended) c.args.pass.now c.steps.pass c.turn-turned.new.pass inv.2
+    (subst P inv.3 c.in-Some-turned.ensures.turns)
 
 pub steps-preserved : goal.steps-preserved
 steps-preserved g c =

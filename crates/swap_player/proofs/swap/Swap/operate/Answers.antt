@@ -11,17 +11,27 @@ use Rattle.swap_player.proofs.swap.Swap.operate.Goals as goal
 pub give-requires-clause-own : goal.give-requires-clause-own
 give-requires-clause-own g c =
     let h : Standing = holder c.take-turn.result in
-    let seen : h.seen ≡ c.value.result.now.world.core.device.history = ap (λ (s : Standing). s.seen) c.take-turn.ensures.turn ∙ sym (ap (λ (b : BoardOf g.row.D.Denot g.row.F.Denot). b.world.core.device.history) c.value.ensures.value) in
-    none_extends h.number h.seen c.operate-operated.new.self.world.core.device.history (operated_history g.D.DiskPort.moves g.F.Fabric.moves g.N.Naming.named.operator c.operate-operated.result c.value.result.now c.operate-operated.new.self c.operate-operated.ensures.makes ∙ sym seen)
+    let seen : h.seen ≡ c.value.result.now.world.core.device.history =
+    ap (λ (s : Standing). s.seen) c.take-turn.ensures.turn
+    ∙ sym (ap (λ (b : BoardOf g.row.D.Denot g.row.F.Denot). b.world.core.device.history) c.value.ensures.value) in
+    none_extends h.number h.seen c.operate-operated.new.self.world.core.device.history
+    (operated_history g.D.DiskPort.moves g.F.Fabric.moves g.N.Naming.named.operator c.operate-operated.result c.value.result.now c.operate-operated.new.self
+    c.operate-operated.ensures.makes
+    ∙ sym seen)
 
 pub returns-clause-looked : goal.returns-clause-looked
 returns-clause-looked g c =
     let p : Standing = c.args.pass.now in
     let h : Standing = holder c.take-turn.result in
     let now : History = c.operate-operated.new.self.world.core.device.history in
-    let seen : h.seen ≡ c.value.result.now.world.core.device.history = ap (λ (s : Standing). s.seen) c.take-turn.ensures.turn ∙ sym (ap (λ (b : BoardOf g.row.D.Denot g.row.F.Denot). b.world.core.device.history) c.value.ensures.value) in
+    let seen : h.seen ≡ c.value.result.now.world.core.device.history =
+    ap (λ (s : Standing). s.seen) c.take-turn.ensures.turn
+    ∙ sym (ap (λ (b : BoardOf g.row.D.Denot g.row.F.Denot). b.world.core.device.history) c.value.ensures.value) in
     let earlier : IsEarlier p.seen h.seen = subst (IsEarlier p.seen) (sym (ap (λ (s : Standing). s.seen) c.take-turn.ensures.turn)) c.take-turn.ensures.seen in
-    none_turned p h c.give.new.pass now earlier (ap (λ (s : Standing). s.mine) c.take-turn.ensures.turn) c.give.ensures.pass (operated_history g.D.DiskPort.moves g.F.Fabric.moves g.N.Naming.named.operator c.operate-operated.result c.value.result.now c.operate-operated.new.self c.operate-operated.ensures.makes ∙ sym seen)
+    none_turned p h c.give.new.pass now earlier (ap (λ (s : Standing). s.mine) c.take-turn.ensures.turn) c.give.ensures.pass
+    (operated_history g.D.DiskPort.moves g.F.Fabric.moves g.N.Naming.named.operator c.operate-operated.result c.value.result.now c.operate-operated.new.self
+    c.operate-operated.ensures.makes
+    ∙ sym seen)
 
 pub returns-clause-operates : goal.returns-clause-operates
 returns-clause-operates g c = record {

@@ -11,17 +11,27 @@ use Rattle.swap_player.proofs.swap.Swap.pump_turn.Goals as goal
 pub give-requires-clause-own : goal.give-requires-clause-own
 give-requires-clause-own g c =
     let h : Standing = holder c.take-turn.result in
-    let seen : h.seen ≡ c.value.result.now.world.core.device.history = ap (λ (s : Standing). s.seen) c.take-turn.ensures.turn ∙ sym (ap (λ (b : BoardOf g.row.D.Denot g.row.F.Denot). b.world.core.device.history) c.value.ensures.value) in
-    none_extends h.number h.seen c.pump-moved.new.self.world.core.device.history (pumped_history g.D.DiskPort.moves g.F.Fabric.moves g.D.DiskPort.means c.args.point c.pump-moved.result c.value.result.now.world c.pump-moved.new.self.world c.pump-moved.ensures.pumps ∙ sym seen)
+    let seen : h.seen ≡ c.value.result.now.world.core.device.history =
+    ap (λ (s : Standing). s.seen) c.take-turn.ensures.turn
+    ∙ sym (ap (λ (b : BoardOf g.row.D.Denot g.row.F.Denot). b.world.core.device.history) c.value.ensures.value) in
+    none_extends h.number h.seen c.pump-moved.new.self.world.core.device.history
+    (pumped_history g.D.DiskPort.moves g.F.Fabric.moves g.D.DiskPort.means c.args.point c.pump-moved.result c.value.result.now.world
+    c.pump-moved.new.self.world c.pump-moved.ensures.pumps
+    ∙ sym seen)
 
 pub returns-clause-looked : goal.returns-clause-looked
 returns-clause-looked g c =
     let p : Standing = c.args.pass.now in
     let h : Standing = holder c.take-turn.result in
     let now : History = c.pump-moved.new.self.world.core.device.history in
-    let seen : h.seen ≡ c.value.result.now.world.core.device.history = ap (λ (s : Standing). s.seen) c.take-turn.ensures.turn ∙ sym (ap (λ (b : BoardOf g.row.D.Denot g.row.F.Denot). b.world.core.device.history) c.value.ensures.value) in
+    let seen : h.seen ≡ c.value.result.now.world.core.device.history =
+    ap (λ (s : Standing). s.seen) c.take-turn.ensures.turn
+    ∙ sym (ap (λ (b : BoardOf g.row.D.Denot g.row.F.Denot). b.world.core.device.history) c.value.ensures.value) in
     let earlier : IsEarlier p.seen h.seen = subst (IsEarlier p.seen) (sym (ap (λ (s : Standing). s.seen) c.take-turn.ensures.turn)) c.take-turn.ensures.seen in
-    none_turned p h c.give.new.pass now earlier (ap (λ (s : Standing). s.mine) c.take-turn.ensures.turn) c.give.ensures.pass (pumped_history g.D.DiskPort.moves g.F.Fabric.moves g.D.DiskPort.means c.args.point c.pump-moved.result c.value.result.now.world c.pump-moved.new.self.world c.pump-moved.ensures.pumps ∙ sym seen)
+    none_turned p h c.give.new.pass now earlier (ap (λ (s : Standing). s.mine) c.take-turn.ensures.turn) c.give.ensures.pass
+    (pumped_history g.D.DiskPort.moves g.F.Fabric.moves g.D.DiskPort.means c.args.point c.pump-moved.result c.value.result.now.world
+    c.pump-moved.new.self.world c.pump-moved.ensures.pumps
+    ∙ sym seen)
 
 pub returns-clause-pumps : goal.returns-clause-pumps
 returns-clause-pumps g c = record {

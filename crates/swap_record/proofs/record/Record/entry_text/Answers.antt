@@ -9,5 +9,11 @@ put_op-requires-clause-page c = omega (arith, c.bytes-bytes.ensures.len, c.bytes
 
 pub returns-clause-text : goal.returns-clause-text
 returns-clause-text c =
-    rw (row_by_parts (named c.args.self.now.history c.args.no.0) c.entry-entry.result c.bytes-bytes.result.now c.entry-entry.ensures c.bytes-bytes.ensures.bytes, c.put_op.ensures.text, c.put_number.ensures.text, c.from.ensures, c.text.ensures)
+    rw (
+      row_by_parts (named c.args.self.now.history c.args.no.0) c.entry-entry.result c.bytes-bytes.result.now c.entry-entry.ensures c.bytes-bytes.ensures.bytes,
+      c.put_op.ensures.text,
+      c.put_number.ensures.text,
+      c.from.ensures,
+      c.text.ensures,
+    )
     (entry_line c.args.out.now (codes "entry") (decimal c.args.no.0) (op_words c.entry-entry.result.page.0 c.bytes-bytes.result.now c.entry-entry.result.op))

@@ -12,7 +12,9 @@ loop-n-preserved c =
     let within : c.loop-n.n < length c.args.self.now.history = omega arith in
     let right = c.if-not-is_right.ensures.right refl in
     rw add-one (record {
-      newest = has_put c.loop-n.newest.items c.put_newest.new.newest.items c.args.self.now.history c.loop-n.n c.entry-entry.result within c.entry-entry.ensures c.loop-n.invariant.newest c.in_ok-put_newest.ensures;
+      newest =
+          has_put c.loop-n.newest.items c.put_newest.new.newest.items c.args.self.now.history c.loop-n.n c.entry-entry.result within c.entry-entry.ensures
+          c.loop-n.invariant.newest c.in_ok-put_newest.ensures;
       legal = right.1;
       unmarked = λ k is lt. elim (below k c.loop-n.n lt) [
         | inl less ↦ c.loop-n.invariant.unmarked k is less

@@ -18,7 +18,8 @@ pub returns-in-Some-line_in-clause-reads : goal.returns-in-Some-line_in-clause-r
 returns-in-Some-line_in-clause-reads c =
     let w = c.looking.self-inside in
     reads_line w.part w.grammar w.geometry _ w.lenders _ c.in-Some.kept.line c.in-Some.kept.text.now c.next.new.self w.place
-    (spelled c.in-Some-line_in.line) c.looking.invariant.sizes c.looking.invariant.lenders c.in-Some.ensures c.looking.invariant.reads c.in-Some-line_in.ensures.line
+    (spelled c.in-Some-line_in.line) c.looking.invariant.sizes c.looking.invariant.lenders c.in-Some.ensures c.looking.invariant.reads
+    c.in-Some-line_in.ensures.line
 
 pub looking-preserved : goal.looking-preserved
 looking-preserved c =

@@ -7,7 +7,8 @@ use Rattle.swap_slabs.proofs.row.Row.give_up.Goals as goal
 pub unwrap-place-requires : goal.unwrap-place-requires
 unwrap-place-requires c =
     ap (λ (o : Option ℕ). is_some o) (c.place_of.ensures ∙ ap (λ (l : List Leased). position (has_number c.args.lease) l) c.deref.ensures.value)
-    ∙ place_some c.args.lease c.self.inside.leases.items (subst (λ (r : LenderRow). IsSome (find (has_number c.args.lease) r.leases)) (sym c.self.view_is) c.requires.lease)
+    ∙ place_some c.args.lease c.self.inside.leases.items
+    (subst (λ (r : LenderRow). IsSome (find (has_number c.args.lease) r.leases)) (sym c.self.view_is) c.requires.lease)
 
 pub returns : goal.returns
 returns c =

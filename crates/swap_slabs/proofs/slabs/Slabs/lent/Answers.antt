@@ -11,25 +11,45 @@ use Rattle.swap_slabs.proofs.slabs.Slabs.lent.Goals as goal
 
 pub overflow_add-self : goal.overflow_add-self
 overflow_add-self c =
-    let lt : c.args.slab.0 < length c.self.inside.states.items = subst (λ (l : List SlabState). c.args.slab.0 < length l) (sym c.self.view_is) c.requires.slab in
-    let was : state_of c.self.inside.states.items c.args.slab ≡ Borrowing c.in-Borrowing.lender = state_read c.self.inside.states.items c.args.slab c.index.result.now lt c.index.ensures ∙ c.in-Borrowing.is in
+    let lt : c.args.slab.0 < length c.self.inside.states.items =
+    subst (λ (l : List SlabState). c.args.slab.0 < length l) (sym c.self.view_is) c.requires.slab in
+    let was : state_of c.self.inside.states.items c.args.slab ≡ Borrowing c.in-Borrowing.lender =
+    state_read c.self.inside.states.items c.args.slab c.index.result.now lt c.index.ensures ∙ c.in-Borrowing.is in
     let within : c.in-Borrowing.lender.0 < MOST_LENDERS = subst StateFits was (c.self.invariant.slabs.fits c.args.slab) in
-    omega (arith, (lent_room c.self.inside.states.items c.args.slab c.self.inside.rows.items c.self.inside.mapped c.in-Borrowing.lender c.args.lease lt c.self.invariant was within).1)
+    omega (
+      arith,
+      (lent_room c.self.inside.states.items c.args.slab c.self.inside.rows.items c.self.inside.mapped c.in-Borrowing.lender c.args.lease lt c.self.invariant
+          was within).1,
+    )
 
 pub add-requires : goal.add-requires
 add-requires c =
-    let lt : c.args.slab.0 < length c.self.inside.states.items = subst (λ (l : List SlabState). c.args.slab.0 < length l) (sym c.self.view_is) c.requires.slab in
-    let was : state_of c.self.inside.states.items c.args.slab ≡ Borrowing c.in-Borrowing.lender = state_read c.self.inside.states.items c.args.slab c.index.result.now lt c.index.ensures ∙ c.in-Borrowing.is in
+    let lt : c.args.slab.0 < length c.self.inside.states.items =
+    subst (λ (l : List SlabState). c.args.slab.0 < length l) (sym c.self.view_is) c.requires.slab in
+    let was : state_of c.self.inside.states.items c.args.slab ≡ Borrowing c.in-Borrowing.lender =
+    state_read c.self.inside.states.items c.args.slab c.index.result.now lt c.index.ensures ∙ c.in-Borrowing.is in
     let within : c.in-Borrowing.lender.0 < MOST_LENDERS = subst StateFits was (c.self.invariant.slabs.fits c.args.slab) in
-    let read = row_read c.self.inside.states.items c.self.inside.rows.items c.self.inside.mapped c.in-Borrowing.lender c.self.invariant within c.index_mut-row.result.now c.index_mut-row.ensures.value in
-    subst (λ (r : LenderRow). length r.leases < r.room) (sym read) (lent_room c.self.inside.states.items c.args.slab c.self.inside.rows.items c.self.inside.mapped c.in-Borrowing.lender c.args.lease lt c.self.invariant was within).0
+    let read =
+    row_read c.self.inside.states.items c.self.inside.rows.items c.self.inside.mapped c.in-Borrowing.lender c.self.invariant within c.index_mut-row.result.now
+    c.index_mut-row.ensures.value in
+    subst (λ (r : LenderRow). length r.leases < r.room) (sym read)
+    (lent_room c.self.inside.states.items c.args.slab c.self.inside.rows.items c.self.inside.mapped c.in-Borrowing.lender c.args.lease lt c.self.invariant was
+    within).0
 
 pub invariant_of-self : goal.invariant_of-self
 invariant_of-self c =
-    let lt : c.args.slab.0 < length c.self.inside.states.items = subst (λ (l : List SlabState). c.args.slab.0 < length l) (sym c.self.view_is) c.requires.slab in
-    let was : state_of c.self.inside.states.items c.args.slab ≡ Borrowing c.in-Borrowing.lender = state_read c.self.inside.states.items c.args.slab c.index.result.now lt c.index.ensures ∙ c.in-Borrowing.is in
+    let lt : c.args.slab.0 < length c.self.inside.states.items =
+    subst (λ (l : List SlabState). c.args.slab.0 < length l) (sym c.self.view_is) c.requires.slab in
+    let was : state_of c.self.inside.states.items c.args.slab ≡ Borrowing c.in-Borrowing.lender =
+    state_read c.self.inside.states.items c.args.slab c.index.result.now lt c.index.ensures ∙ c.in-Borrowing.is in
     let within : c.in-Borrowing.lender.0 < MOST_LENDERS = subst StateFits was (c.self.invariant.slabs.fits c.args.slab) in
-    let read = row_read c.self.inside.states.items c.self.inside.rows.items c.self.inside.mapped c.in-Borrowing.lender c.self.invariant within c.index_mut-row.result.now c.index_mut-row.ensures.value in
-    let new : by_lease c.self.inside.states.items c.in-Borrowing.lender c.args.lease ≡ None = subst (λ s. IsNew c.self.inside.states.items s c.args.lease) was (subst (λ (l : List SlabState). IsNew l (state_of l c.args.slab) c.args.lease) (sym c.self.view_is) c.requires.lease) in
+    let read =
+    row_read c.self.inside.states.items c.self.inside.rows.items c.self.inside.mapped c.in-Borrowing.lender c.self.invariant within c.index_mut-row.result.now
+    c.index_mut-row.ensures.value in
+    let new : by_lease c.self.inside.states.items c.in-Borrowing.lender c.args.lease ≡ None =
+    subst (λ s. IsNew c.self.inside.states.items s c.args.lease) was
+    (subst (λ (l : List SlabState). IsNew l (state_of l c.args.slab) c.args.lease) (sym c.self.view_is) c.requires.lease) in
     let P : LenderRow → Type 0 = λ r. Puts r (record { lease = c.args.lease; slab = c.args.slab }) c.add.new.self in
-    lent_fits c.self.inside.states.items c.args.slab c.self.inside.rows.items c.self.inside.mapped c.in-Borrowing.lender c.args.lease c.add.new.self lt c.self.invariant was within new (subst P read c.add.ensures)
+    lent_fits c.self.inside.states.items c.args.slab c.self.inside.rows.items c.self.inside.mapped c.in-Borrowing.lender c.args.lease c.add.new.self lt
+    c.self.invariant was within new
+    (subst P read c.add.ensures)

@@ -11,17 +11,29 @@ use Rattle.swap_slabs.proofs.slabs.Slabs.refused.Goals as goal
 
 pub let_go-requires : goal.let_go-requires
 let_go-requires c =
-    let lt : c.args.slab.0 < length c.self.inside.states.items = subst (λ (l : List SlabState). c.args.slab.0 < length l) (sym c.self.view_is) c.requires.slab in
-    let was : state_of c.self.inside.states.items c.args.slab ≡ Borrowing c.in-Borrowing.lender = state_read c.self.inside.states.items c.args.slab c.index.result.now lt c.index.ensures ∙ c.in-Borrowing.is in
+    let lt : c.args.slab.0 < length c.self.inside.states.items =
+    subst (λ (l : List SlabState). c.args.slab.0 < length l) (sym c.self.view_is) c.requires.slab in
+    let was : state_of c.self.inside.states.items c.args.slab ≡ Borrowing c.in-Borrowing.lender =
+    state_read c.self.inside.states.items c.args.slab c.index.result.now lt c.index.ensures ∙ c.in-Borrowing.is in
     let within : c.in-Borrowing.lender.0 < MOST_LENDERS = subst StateFits was (c.self.invariant.slabs.fits c.args.slab) in
-    let read = row_read c.self.inside.states.items c.self.inside.rows.items c.self.inside.mapped c.in-Borrowing.lender c.self.invariant within c.index_mut-row.result.now c.index_mut-row.ensures.value in
-    subst (λ (r : LenderRow). 0 < r.held) (sym read) (held_some c.self.inside.states.items c.args.slab c.self.inside.rows.items c.self.inside.mapped c.in-Borrowing.lender lt c.self.invariant (ap lender_of was) within)
+    let read =
+    row_read c.self.inside.states.items c.self.inside.rows.items c.self.inside.mapped c.in-Borrowing.lender c.self.invariant within c.index_mut-row.result.now
+    c.index_mut-row.ensures.value in
+    subst (λ (r : LenderRow). 0 < r.held) (sym read)
+    (held_some c.self.inside.states.items c.args.slab c.self.inside.rows.items c.self.inside.mapped c.in-Borrowing.lender lt c.self.invariant
+    (ap lender_of was) within)
 
 pub invariant_of-self : goal.invariant_of-self
 invariant_of-self c =
-    let lt : c.args.slab.0 < length c.self.inside.states.items = subst (λ (l : List SlabState). c.args.slab.0 < length l) (sym c.self.view_is) c.requires.slab in
-    let was : state_of c.self.inside.states.items c.args.slab ≡ Borrowing c.in-Borrowing.lender = state_read c.self.inside.states.items c.args.slab c.index.result.now lt c.index.ensures ∙ c.in-Borrowing.is in
+    let lt : c.args.slab.0 < length c.self.inside.states.items =
+    subst (λ (l : List SlabState). c.args.slab.0 < length l) (sym c.self.view_is) c.requires.slab in
+    let was : state_of c.self.inside.states.items c.args.slab ≡ Borrowing c.in-Borrowing.lender =
+    state_read c.self.inside.states.items c.args.slab c.index.result.now lt c.index.ensures ∙ c.in-Borrowing.is in
     let within : c.in-Borrowing.lender.0 < MOST_LENDERS = subst StateFits was (c.self.invariant.slabs.fits c.args.slab) in
-    let read = row_read c.self.inside.states.items c.self.inside.rows.items c.self.inside.mapped c.in-Borrowing.lender c.self.invariant within c.index_mut-row.result.now c.index_mut-row.ensures.value in
+    let read =
+    row_read c.self.inside.states.items c.self.inside.rows.items c.self.inside.mapped c.in-Borrowing.lender c.self.invariant within c.index_mut-row.result.now
+    c.index_mut-row.ensures.value in
     let F : LenderRow → LenderRow = λ r. record r { held = r.held - 1 } in
-    refuse_fits c.self.inside.states.items c.args.slab c.self.inside.rows.items c.self.inside.mapped c.in-Borrowing.lender c.let_go.new.self lt c.self.invariant was within (c.let_go.ensures ∙ ap F read)
+    refuse_fits c.self.inside.states.items c.args.slab c.self.inside.rows.items c.self.inside.mapped c.in-Borrowing.lender c.let_go.new.self lt c.self.invariant
+    was within
+    (c.let_go.ensures ∙ ap F read)
