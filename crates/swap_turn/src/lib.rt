@@ -3,6 +3,7 @@
 
 ghost use Rattle.swap_turn.specs.Laws.{NothingAdded, OneAdded, MoreAdded, EarlierStill};
 
+mod bells;
 mod lends;
 mod lock;
 mod plays;

@@ -5,6 +5,7 @@ ghost use Rattle.swap_turn.specs.Turns.{entries_of, IsEarlier, resting, posed, t
 ghost use Rattle.swap_turn.specs.Standing.{newcomer, IsFreeOf, StandsFor, after_turn};
 ghost use Rattle.swap_turn.specs.declared.view.Stage.TheVariants.{Drawn, Serving};
 
+use crate::bells::{Bells, NEAR};
 use crate::plays::{Draw, Look, NextNumber, Note, PassOn, TakeIn};
 use crate::view::{Opening, Told, Turning, View};
 use atomic_table::{Badge, Seat, Table};
@@ -19,11 +20,12 @@ const LAST: u64 = 1 << 63;
 
 type Turntable<T, A> = Table<Option<T>, View, Opening<T>, Turning, A>;
 
-/// A lock that is taken in the order of the tickets.
+/// A lock that is taken in the order of the tickets. Whoever isn't among the next sleeps until it is.
 #[derive(Drop)]
 pub struct TurnLock<T: Told + Drop, A: Allocator = Global> {
     table: Turntable<T, A>,
     seats: u32,
+    bells: Bells,
 }
 
 impl<T: Told + Drop, A: Allocator> Model for TurnLock<T, A> {
@@ -122,7 +124,15 @@ impl<T: Told + Drop, A: Allocator> TurnLock<T, A> {
             return Err(AllocError);
         };
         deal(&table, seats, seat, &mut passes);
-        Ok((TurnLock { table, seats }, passes))
+        let bells = Bells::new();
+        Ok((
+            TurnLock {
+                table,
+                seats,
+                bells,
+            },
+            passes,
+        ))
     }
 
     /// Draws a ticket, waits for its turn, and takes the value. Its history begins with what the
@@ -140,7 +150,8 @@ impl<T: Told + Drop, A: Allocator> TurnLock<T, A> {
         self.wait(rt, seat, ticket)
     }
 
-    // Waits for the turn of the ticket, for ever where it is too late.
+    // Waits for the turn of the ticket, for ever where it is too late. While the turn is far off the thread sleeps: the bell
+    // was looked at before the ticket that is served, so a ring in between isn't lost.
     fn wait<R: Wait>(&self, rt: &R, mut seat: Seat<Option<T>, View>, ticket: u64) -> Turn<T>
         requires lock { seat.table_id ≡ self.now.table }
         requires drawn { seat.me ≡ (posed (Drawn ticket) seat.me.0, []) }
@@ -156,11 +167,15 @@ impl<T: Told + Drop, A: Allocator> TurnLock<T, A> {
         ensures own { seat.me.0.mine ≡ entries_of seat.me.0.number (T.history (value_of result)) }
     {
         for _ in rt.forever() {
+            let rung = self.bells.rung(ticket);
             if ticket < LAST {
                 let served = self.table.shared.load::<Look>(&mut seat, 1);
                 if served == ticket {
                     let value = self.table.shared.exchange(&mut seat, 0, None).unwrap();
                     return Turn { seat, value };
+                }
+                if ticket.saturating_sub(served) > NEAR {
+                    self.bells.wait(rt, ticket, rung);
                 }
             }
             thread::yield_now();
@@ -182,8 +197,17 @@ impl<T: Told + Drop, A: Allocator> TurnLock<T, A> {
         let shared = &self.table.shared;
         shared.exchange(&mut seat, 0, Some(value));
         shared.store::<Note>(&mut seat, 2, told);
-        shared.fetch_add::<PassOn>(&mut seat, 1, 1);
+        let passed = shared.fetch_add::<PassOn>(&mut seat, 1, 1);
         pass.badge = seat.into_badge();
+        self.wake_next(passed);
+    }
+
+    // Wakes the thread that is among the next by now, if a ticket so far behind the one that was served is drawn.
+    fn wake_next(&self, passed: u64) {
+        let ticket = passed.saturating_add(1 + NEAR);
+        if ticket < self.table.shared.peek(0) {
+            self.bells.ring(ticket);
+        }
     }
 
     /// Takes all passes and gives the value. Each pass's entries are those that the value's history
@@ -198,7 +222,11 @@ impl<T: Told + Drop, A: Allocator> TurnLock<T, A> {
         if passes.len() < self.seats as usize {
             return Err((self, passes));
         }
-        let TurnLock { table, seats } = self;
+        let TurnLock {
+            table,
+            seats,
+            bells: _,
+        } = self;
         Ok(end(table, seats, passes))
     }
 }
