@@ -47,7 +47,8 @@ impl Bells {
         (self.of(ticket).load(Ordering::SeqCst) & 0xffff_ffff) as u32
     }
 
-    /// Sleeps unless the ticket's bell was rung since, until it is. It may also return for no reason.
+    /// Sleeps unless the ticket's bell was rung since, until it is. It may also return for no
+    /// reason.
     pub(crate) fn wait<R: Wait>(&self, rt: &R, ticket: u64, rung: u32) {
         self.of(ticket).park(rt, rung);
     }

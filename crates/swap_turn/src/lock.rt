@@ -20,7 +20,8 @@ const LAST: u64 = 1 << 63;
 
 type Turntable<T, A> = Table<Option<T>, View, Opening<T>, Turning, A>;
 
-/// A lock that is taken in the order of the tickets. Whoever isn't among the next sleeps until it is.
+/// A lock that is taken in the order of the tickets. Whoever isn't among the next sleeps until it
+/// is.
 #[derive(Drop)]
 pub struct TurnLock<T: Told + Drop, A: Allocator = Global> {
     table: Turntable<T, A>,
@@ -150,8 +151,9 @@ impl<T: Told + Drop, A: Allocator> TurnLock<T, A> {
         self.wait(rt, seat, ticket)
     }
 
-    // Waits for the turn of the ticket, for ever where it is too late. While the turn is far off the thread sleeps: the bell
-    // was looked at before the ticket that is served, so a ring in between isn't lost.
+    // Waits for the turn of the ticket, for ever where it is too late. While the turn is far off
+    // the thread sleeps: the bell was looked at before the ticket that is served, so a ring in
+    // between isn't lost.
     fn wait<R: Wait>(&self, rt: &R, mut seat: Seat<Option<T>, View>, ticket: u64) -> Turn<T>
         requires lock { seat.table_id ≡ self.now.table }
         requires drawn { seat.me ≡ (posed (Drawn ticket) seat.me.0, []) }
@@ -202,7 +204,8 @@ impl<T: Told + Drop, A: Allocator> TurnLock<T, A> {
         self.wake_next(passed);
     }
 
-    // Wakes the thread that is among the next by now, if a ticket so far behind the one that was served is drawn.
+    // Wakes the thread that is among the next by now, if a ticket so far behind the one that was
+    // served is drawn.
     fn wake_next(&self, passed: u64) {
         let ticket = passed.saturating_add(1 + NEAR);
         if ticket < self.table.shared.peek(0) {
