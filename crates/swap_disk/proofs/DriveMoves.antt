@@ -1,5 +1,5 @@
 -- Each call of the disk in memory is its move, and keeps what the disk keeps.
-use Rattle.std.proofs.Common.{◌≡◌, ℕ, ◌+◌, ◌^◌, ◌<◌, Bool, true, false, ◌&&◌, if◌then◌else◌, List, [], ◌∷◌, ◌++◌, length, get_or, set, replicate, find, option_map, refl, sym, ap, ◌∙◌, subst, is_some, is_none, Option, None, Some, IsSome}
+use Rattle.std.proofs.Common.{◌≡◌, ℕ, Bool, true, false, ◌&&◌, if◌then◌else◌, List, [], ◌++◌, length, get_or, set, replicate, find, option_map, refl, sym, ap, ◌∙◌, subst, is_some, is_none, Option, None, Some, IsSome}
 use Rattle.std.specs.Option.{option_or}
 use Rattle.std.proofs.lemmas.Bool.{cond-true, cond-false, false≢true}
 use Rattle.std.proofs.lemmas.List.Folds.{find-append}
@@ -8,10 +8,9 @@ use Rattle.swap_base.specs.declared.Page.{Page}
 use Rattle.swap_base.specs.declared.Caller.{Caller}
 use Rattle.swap_base.specs.declared.DiskWhich.{DiskWhich}
 use Rattle.swap_base.specs.declared.DiskWhich.TheVariants as which
-use Rattle.swap_base.specs.Sizes.{Sizes, pages_of, zeros}
 use Rattle.swap_disk.specs.declared.mem_disk.Ended.{Ended}
-use Rattle.swap_disk.specs.Disk.{Disk, Flight, Write, Read, which_of, page_of, Finished, is_flight_of, without, spoilt, settled, finish, finish_flight, can_finish, bytes_given, one_more, Taken, taken, taken_of, after_take, after_take_of, started}
-use Rattle.swap_disk.specs.Drive.{Drive, IsInFlight, IsDrive, new_drive}
+use Rattle.swap_disk.specs.Disk.{Disk, Flight, Write, Read, which_of, page_of, Finished, is_flight_of, without, spoilt, finish, finish_flight, can_finish, bytes_given, one_more, Taken, taken, taken_of, after_take, after_take_of, started}
+use Rattle.swap_disk.specs.Drive.{Drive, IsInFlight, IsDrive}
 use Rattle.swap_disk.specs.lemmas.Follows.{found_is, found_again}
 use Rattle.swap_disk.specs.Blocks.{Table}
 use Rattle.swap_disk.specs.Flights.{Flying, ended_as, ended_in, drive_in, Stands, settled_by, handed, Holds}

@@ -1,5 +1,5 @@
 -- Operations in flight by their numbers.
-use Rattle.std.proofs.Common.{◌≡◌, ◌≢◌, ℕ, suc, ◌+◌, ◌-◌, ◌<◌, ◌≤◌, Bool, true, false, cond, ◌&&◌, ◌||◌, ◌==◌, nat_lt, if◌then◌else◌, List, [], ◌∷◌, ◌++◌, length, map, find, slice_get, option_map, refl, sym, ap, ◌∙◌, subst, arith, is_some, Option, None, Some, IsSome, ⊎_elim, eq-eqb, ne_eqb, lt-ltb, le-ltb}
+use Rattle.std.proofs.Common.{◌≡◌, ◌≢◌, ℕ, ◌+◌, ◌-◌, ◌<◌, ◌≤◌, Bool, true, false, cond, ◌&&◌, ◌||◌, ◌==◌, nat_lt, List, [], ◌∷◌, ◌++◌, length, map, find, slice_get, option_map, refl, sym, ap, ◌∙◌, subst, arith, is_some, Option, None, Some, IsSome, ⊎_elim, eq-eqb, ne_eqb, lt-ltb, le-ltb}
 use Rattle.std.proofs.lemmas.Bool.{cases_eq, cases_lt, cond-true, cond-false, ltb-true, ltb-false, and_parts, or_left, false≢true}
 use Rattle.std.proofs.lemmas.List.{append-nil}
 use Rattle.std.proofs.lemmas.List.Elements.{filter-append}
@@ -10,7 +10,7 @@ use Rattle.swap_base.specs.declared.DiskWhich.TheVariants as which
 use Rattle.swap_base.specs.Sizes.{Sizes, pages_of}
 use Rattle.swap_places.specs.Line.{Line, stands, AreBelow}
 use Rattle.swap_places.specs.Line as line
-use Rattle.swap_disk.specs.Disk.{Flight, Write, Read, which_of, same_which, is_flight_of, without}
+use Rattle.swap_disk.specs.Disk.{Flight, Write, Read, which_of, is_flight_of, without}
 use Rattle.swap_disk.specs.Port.{writes_in, oldest_in, oldest_write_in, is_write}
 use Rattle.swap_disk.specs.Flights.{Flying, number_of, is_known, which_at, bytes_at, page_read, flight_at, flights_in, pages_among}
 

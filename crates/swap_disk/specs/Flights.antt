@@ -1,5 +1,5 @@
 -- How operations in flight are kept in memory, and what the disk keeps of them.
-use Rattle.std.specs.Prelude.{◌≡◌, ℕ, ◌+◌, ◌-◌, ◌<◌, ◌≤◌, ◌^◌, Bool, true, nat_lt, if◌then◌else◌, List, [], map, length, find, IsSome, slice_index_or, Option, None, Some}
+use Rattle.std.specs.Prelude.{◌≡◌, ℕ, ◌+◌, ◌-◌, ◌<◌, ◌^◌, Bool, true, nat_lt, if◌then◌else◌, List, [], map, length, find, IsSome, slice_index_or, Option, None, Some}
 use Rattle.std.specs.List.{filter}
 use Rattle.swap_base.specs.declared.Page.{Page}
 use Rattle.swap_base.specs.declared.DiskWhich.{DiskWhich}

@@ -1,7 +1,5 @@
-use Rattle.std.proofs.Common.{◌≡◌, ℕ, List, find, Some, sym, ap, ◌∙◌, refl, subst}
-use Rattle.swap_base.specs.declared.DiskWhich.TheVariants as which
+use Rattle.std.proofs.Common.{◌≡◌, ℕ, List, find, Some, sym, ap, ◌∙◌, refl}
 use Rattle.swap_disk.specs.Disk.{Write, is_flight_of}
-use Rattle.swap_disk.specs.Blocks.{Table}
 use Rattle.swap_disk.proofs.DriveMoves.{settles_read, spoils}
 use Rattle.swap_disk.proofs.mem_disk.settle.Goals as goal
 

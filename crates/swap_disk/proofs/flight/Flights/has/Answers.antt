@@ -1,4 +1,4 @@
-use Rattle.std.proofs.Common.{◌≡◌, ◌+◌, Bool, true, false, ◌&&◌, find, is_some, sym, ap, ◌∙◌, subst}
+use Rattle.std.proofs.Common.{◌≡◌, ◌+◌, true, false, ◌&&◌, find, is_some, sym, ap, ◌∙◌, subst}
 use Rattle.swap_base.specs.Sizes.{Sizes, pages_of}
 use Rattle.swap_places.specs.Line.{stands, AreBelow}
 use Rattle.swap_disk.specs.Disk.{is_flight_of}

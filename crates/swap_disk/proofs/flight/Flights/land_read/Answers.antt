@@ -1,7 +1,6 @@
-use Rattle.std.proofs.Common.{◌≡◌, ◌+◌, ◌<◌, true, find, IsSome, sym, ap, ◌∙◌, subst, arith}
+use Rattle.std.proofs.Common.{◌+◌, ap, ◌∙◌, arith}
 use Rattle.std.proofs.lemmas.Bool.{ltb-true}
 use Rattle.swap_base.specs.declared.DiskWhich.TheVariants as which
-use Rattle.swap_base.specs.Sizes.{pages_of}
 use Rattle.swap_places.specs.Line.{stands}
 use Rattle.swap_places.specs.Line as line
 use Rattle.swap_disk.specs.Disk.{without}

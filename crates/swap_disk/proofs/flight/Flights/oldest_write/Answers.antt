@@ -1,6 +1,6 @@
-use Rattle.std.proofs.Common.{◌≡◌, ℕ, List, slice_get, sym, ap, ◌∙◌, option_map, Option}
+use Rattle.std.proofs.Common.{ℕ, List, slice_get, sym, ap, ◌∙◌, option_map, Option}
 use Rattle.swap_disk.specs.Port.{oldest_write_in}
-use Rattle.swap_disk.specs.Flights.{Flying, pages_among}
+use Rattle.swap_disk.specs.Flights.{Flying}
 use Rattle.swap_disk.proofs.Numbers.{page_numbered, oldest_write_is}
 use Rattle.swap_disk.proofs.flight.Flights.oldest_write.Goals as goal
 

@@ -1,6 +1,5 @@
-use Rattle.std.proofs.Common.{◌≡◌, Bool, false, sym, ap, ◌∙◌, subst, find, is_some}
-use Rattle.std.proofs.lemmas.Bool.{not-true}
-use Rattle.swap_disk.specs.Disk.{Disk, finish, can_finish, is_flight_of}
+use Rattle.std.proofs.Common.{◌≡◌, Bool, false, sym, ap, ◌∙◌, subst}
+use Rattle.swap_disk.specs.Disk.{Disk, finish, can_finish}
 use Rattle.swap_disk.specs.Drive.{Drive, IsDrive}
 use Rattle.swap_disk.specs.Flights.{drive_in}
 use Rattle.swap_disk.proofs.DriveMoves.{is_drive, stays, none_finishes}
