@@ -15,7 +15,7 @@ use std::thread::Threads;
 use swap_base::{Caller, EntryNo, Lender, NoMemory};
 use swap_board::{Naming, Operated, Point};
 use swap_disk::DiskPort;
-use swap_player::{Gate, Swap, SwapFault};
+use swap_player::{Gate, Pumped, Swap, SwapFault};
 use swap_trace::{CallerWalk, Trace};
 use swap_turn::Pass;
 use swap_wire::{Event, Fabric};
@@ -125,26 +125,68 @@ fn operate_all<D: DiskPort + Drop, F: Fabric + Drop, N: Naming<D, F>, R: Wait>(
     unreachable!()
 }
 
-// A pump's thread at the disk, or at a lender's link: it works until no caller, and no operator, is busy.
+// Of the seats of callers and of the operator: how many aren't over, and how many of those haven't begun.
+#[derive(Drop)]
+struct Counts {
+    busy: AtomicU32,
+    waiting: AtomicU32,
+}
+
+impl Counts {
+    fn are_over(&self) -> bool {
+        self.busy.load(Ordering::SeqCst) == 0
+    }
+
+    fn have_begun(&self) -> bool {
+        self.waiting.load(Ordering::SeqCst) == 0
+    }
+}
+
+// For so many rounds without an effect a pump waits for seats that haven't begun. Where threads can't be made they may
+// stand behind the pump, in its own thread, and begin only when it has left.
+const PATIENCE: u32 = 1_000;
+
+// How often a pump with nothing to do lets other threads go first, at most.
+const REST: u32 = 64;
+
+// Lets other threads go first, the more often the longer there was nothing to do.
+fn rest(idle: u32) {
+    for _ in 0..idle.min(REST) {
+        thread::yield_now();
+    }
+}
+
+fn has_moved<T>(first: &Pumped<T>, second: &Pumped<T>) -> bool {
+    matches!(first, Pumped::Did) || matches!(second, Pumped::Did)
+}
+
+// A pump's thread at the disk, or at a lender's link: it works until no caller, and no operator, is busy, or until it has
+// found nothing to do for so long that those who haven't begun may wait for it.
 fn pump_while_busy<D: DiskPort + Drop, F: Fabric + Drop, N: Naming<D, F>, G: Gate, R: Wait>(
     rt: &R,
     swap: &Swap<D, F, N>,
     pass: &mut Pass,
     points: (Point, Point),
-    busy: &AtomicU32,
+    counts: &Counts,
     gate: &G,
 )
     requires pass { IsFreeOf swap.now pass.old }
     requires points { IsPoint N.named.lenders points.0 × IsPoint N.named.lenders points.1 }
     ensures pass { IsFreeOf swap.now pass.new × (pass.new.number ≡ pass.old.number) }
 {
+    let mut idle: u32 = 0;
     'turns: for _ in rt.forever() {
-        if busy.load(Ordering::SeqCst) == 0 {
+        if counts.are_over() || idle >= PATIENCE && !counts.have_begun() {
             return;
         }
-        let _ = swap.pump(rt, pass, points.0, gate);
-        let _ = swap.pump(rt, pass, points.1, gate);
-        thread::yield_now();
+        let first = swap.pump(rt, pass, points.0, gate);
+        let second = swap.pump(rt, pass, points.1, gate);
+        idle = if has_moved(&first, &second) {
+            0
+        } else {
+            idle.saturating_add(1)
+        };
+        rest(idle);
     }
     unreachable!()
 }
@@ -169,7 +211,7 @@ fn play_seat<D: DiskPort + Drop, F: Fabric + Drop, N: Naming<D, F>, G: Gate, R: 
     swap: &Swap<D, F, N>,
     trace: &Trace<'_>,
     mut pass: Pass,
-    busy: &AtomicU32,
+    counts: &Counts,
     gate: &G,
 ) -> (Pass, bool)
     requires sizes { trace.now.sizes ≡ N.named.sizes }
@@ -180,6 +222,9 @@ fn play_seat<D: DiskPort + Drop, F: Fabric + Drop, N: Naming<D, F>, G: Gate, R: 
 {
     let callers = trace.script().geometry().callers();
     let number = pass.number();
+    if number <= callers {
+        counts.waiting.fetch_sub(1, Ordering::SeqCst);
+    }
     if number < callers {
         let done = play_caller(rt, alloc, swap, trace, &mut pass, gate);
         return (pass, done);
@@ -193,7 +238,7 @@ fn play_seat<D: DiskPort + Drop, F: Fabric + Drop, N: Naming<D, F>, G: Gate, R: 
         swap,
         &mut pass,
         points_of(number - callers - 1),
-        busy,
+        counts,
         gate,
     );
     (pass, true)
@@ -258,8 +303,11 @@ pub(crate) fn play_seats<
     ensures each { IfSome result (λ v. (i : ℕ) (d : _) (e : _) → i < vec_len passes → IsOver swap.now trace.now (slice_index_or passes.items i e) (slice_index_or v.items i d)) }
 {
     let callers = trace.script().geometry().callers();
-    let busy = AtomicU32::new(callers + 1);
-    let Ok(seats) = tickets_of(alloc, passes, callers, &busy) else {
+    let counts = Counts {
+        busy: AtomicU32::new(callers + 1),
+        waiting: AtomicU32::new(callers + 1),
+    };
+    let Ok(seats) = tickets_of(alloc, passes, callers, &counts.busy) else {
         return None;
     };
     let Ok(overs) = thread::map_vec(
@@ -270,7 +318,7 @@ pub(crate) fn play_seats<
             ensures { IsOver swap.entry.now trace.entry.now seat.entry.0 result }
         {
             let (pass, ticket) = seat;
-            let over = play_seat(rt, alloc, swap, trace, pass, &busy, gate);
+            let over = play_seat(rt, alloc, swap, trace, pass, &counts, gate);
             drop(ticket);
             over
         },
