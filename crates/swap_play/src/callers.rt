@@ -144,17 +144,7 @@ impl Counts {
 
 // For so many rounds without an effect a pump waits for seats that haven't begun. Where threads can't be made they may
 // stand behind the pump, in its own thread, and begin only when it has left.
-const PATIENCE: u32 = 1_000;
-
-// How often a pump with nothing to do lets other threads go first, at most.
-const REST: u32 = 64;
-
-// Lets other threads go first, the more often the longer there was nothing to do.
-fn rest(idle: u32) {
-    for _ in 0..idle.min(REST) {
-        thread::yield_now();
-    }
-}
+const PATIENCE: u32 = 10_000;
 
 fn has_moved<T>(first: &Pumped<T>, second: &Pumped<T>) -> bool {
     matches!(first, Pumped::Did) || matches!(second, Pumped::Did)
@@ -186,7 +176,7 @@ fn pump_while_busy<D: DiskPort + Drop, F: Fabric + Drop, N: Naming<D, F>, G: Gat
         } else {
             idle.saturating_add(1)
         };
-        rest(idle);
+        thread::yield_now();
     }
     unreachable!()
 }
