@@ -15,7 +15,7 @@ use std::thread::Threads;
 use swap_base::{Caller, EntryNo, Lender, NoMemory};
 use swap_board::{Naming, Operated, Point};
 use swap_disk::DiskPort;
-use swap_player::{Gate, Swap, SwapFault};
+use swap_player::{Gate, Pumped, Swap, SwapFault};
 use swap_trace::{CallerWalk, Trace};
 use swap_turn::Pass;
 use swap_wire::{Event, Fabric};
@@ -126,26 +126,59 @@ fn operate_all<D: DiskPort + Drop, F: Fabric + Drop, N: Naming<D, F>, R: Wait>(
     unreachable!()
 }
 
+// Of the seats of callers and of the operator: how many aren't over, and how many of those haven't
+// begun.
+#[derive(Drop)]
+struct Counts {
+    busy: AtomicU32,
+    waiting: AtomicU32,
+}
+
+impl Counts {
+    fn are_over(&self) -> bool {
+        self.busy.load(Ordering::SeqCst) == 0
+    }
+
+    fn have_begun(&self) -> bool {
+        self.waiting.load(Ordering::SeqCst) == 0
+    }
+}
+
+// For so many rounds without an effect a pump waits for seats that haven't begun. Where threads
+// can't be made they may stand behind the pump, in its own thread, and begin only when it has left.
+const PATIENCE: u32 = 10_000;
+
+fn has_moved<T>(first: &Pumped<T>, second: &Pumped<T>) -> bool {
+    matches!(first, Pumped::Did) || matches!(second, Pumped::Did)
+}
+
 // A pump's thread at the disk, or at a lender's link: it works until no caller, and no operator, is
-// busy.
+// busy, or until it has found nothing to do for so long that those who haven't begun may wait for
+// it.
 fn pump_while_busy<D: DiskPort + Drop, F: Fabric + Drop, N: Naming<D, F>, G: Gate, R: Wait>(
     rt: &R,
     swap: &Swap<D, F, N>,
     pass: &mut Pass,
     points: (Point, Point),
-    busy: &AtomicU32,
+    counts: &Counts,
     gate: &G,
 )
     requires pass { IsFreeOf swap.now pass.old }
     requires points { IsPoint N.named.lenders points.0 × IsPoint N.named.lenders points.1 }
     ensures pass { IsFreeOf swap.now pass.new × (pass.new.number ≡ pass.old.number) }
 {
+    let mut idle: u32 = 0;
     'turns: for _ in rt.forever() {
-        if busy.load(Ordering::SeqCst) == 0 {
+        if counts.are_over() || idle >= PATIENCE && !counts.have_begun() {
             return;
         }
-        let _ = swap.pump(rt, pass, points.0, gate);
-        let _ = swap.pump(rt, pass, points.1, gate);
+        let first = swap.pump(rt, pass, points.0, gate);
+        let second = swap.pump(rt, pass, points.1, gate);
+        idle = if has_moved(&first, &second) {
+            0
+        } else {
+            idle.saturating_add(1)
+        };
         thread::yield_now();
     }
     unreachable!()
@@ -173,7 +206,7 @@ fn play_seat<D: DiskPort + Drop, F: Fabric + Drop, N: Naming<D, F>, G: Gate, R: 
     swap: &Swap<D, F, N>,
     trace: &Trace<'_>,
     mut pass: Pass,
-    busy: &AtomicU32,
+    counts: &Counts,
     gate: &G,
 ) -> (Pass, bool)
     requires sizes { trace.now.sizes ≡ N.named.sizes }
@@ -184,6 +217,9 @@ fn play_seat<D: DiskPort + Drop, F: Fabric + Drop, N: Naming<D, F>, G: Gate, R: 
 {
     let callers = trace.script().geometry().callers();
     let number = pass.number();
+    if number <= callers {
+        counts.waiting.fetch_sub(1, Ordering::SeqCst);
+    }
     if number < callers {
         let done = play_caller(rt, alloc, swap, trace, &mut pass, gate);
         return (pass, done);
@@ -197,7 +233,7 @@ fn play_seat<D: DiskPort + Drop, F: Fabric + Drop, N: Naming<D, F>, G: Gate, R: 
         swap,
         &mut pass,
         points_of(number - callers - 1),
-        busy,
+        counts,
         gate,
     );
     (pass, true)
@@ -267,8 +303,11 @@ pub(crate) fn play_seats<
         (slice_index_or v.items i d)) }
 {
     let callers = trace.script().geometry().callers();
-    let busy = AtomicU32::new(callers + 1);
-    let Ok(seats) = tickets_of(alloc, passes, callers, &busy) else {
+    let counts = Counts {
+        busy: AtomicU32::new(callers + 1),
+        waiting: AtomicU32::new(callers + 1),
+    };
+    let Ok(seats) = tickets_of(alloc, passes, callers, &counts.busy) else {
         return None;
     };
     let Ok(overs) = thread::map_vec(
@@ -282,7 +321,7 @@ pub(crate) fn play_seats<
             ensures { IsOver swap.entry.now trace.entry.now seat.entry.0 result }
         {
             let (pass, ticket) = seat;
-            let over = play_seat(rt, alloc, swap, trace, pass, &busy, gate);
+            let over = play_seat(rt, alloc, swap, trace, pass, &counts, gate);
             drop(ticket);
             over
         },
