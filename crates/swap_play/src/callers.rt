@@ -135,12 +135,15 @@ struct Counts {
 }
 
 impl Counts {
-    fn are_over(&self) -> bool {
-        self.busy.load(Ordering::SeqCst) == 0
+    // Counts a caller, or the operator, as begun.
+    fn begin(&self) {
+        self.waiting.fetch_sub(1, Ordering::SeqCst);
     }
 
-    fn have_begun(&self) -> bool {
-        self.waiting.load(Ordering::SeqCst) == 0
+    // Whether a pump may leave that found nothing to do for so many rounds.
+    fn let_go(&self, idle: u32) -> bool {
+        self.busy.load(Ordering::SeqCst) == 0
+            || idle >= PATIENCE && self.waiting.load(Ordering::SeqCst) != 0
     }
 }
 
@@ -148,8 +151,13 @@ impl Counts {
 // can't be made they may stand behind the pump, in its own thread, and begin only when it has left.
 const PATIENCE: u32 = 10_000;
 
-fn has_moved<T>(first: &Pumped<T>, second: &Pumped<T>) -> bool {
-    matches!(first, Pumped::Did) || matches!(second, Pumped::Did)
+// For how many rounds a pump has found nothing to do, after one more.
+fn idle_after<T>(idle: u32, first: &Pumped<T>, second: &Pumped<T>) -> u32 {
+    if matches!(first, Pumped::Did) || matches!(second, Pumped::Did) {
+        0
+    } else {
+        idle.saturating_add(1)
+    }
 }
 
 // A pump's thread at the disk, or at a lender's link: it works until no caller, and no operator, is
@@ -169,16 +177,12 @@ fn pump_while_busy<D: DiskPort + Drop, F: Fabric + Drop, N: Naming<D, F>, G: Gat
 {
     let mut idle: u32 = 0;
     'turns: for _ in rt.forever() {
-        if counts.are_over() || idle >= PATIENCE && !counts.have_begun() {
+        if counts.let_go(idle) {
             return;
         }
         let first = swap.pump(rt, pass, points.0, gate);
         let second = swap.pump(rt, pass, points.1, gate);
-        idle = if has_moved(&first, &second) {
-            0
-        } else {
-            idle.saturating_add(1)
-        };
+        idle = idle_after(idle, &first, &second);
         thread::yield_now();
     }
     unreachable!()
@@ -217,14 +221,13 @@ fn play_seat<D: DiskPort + Drop, F: Fabric + Drop, N: Naming<D, F>, G: Gate, R: 
 {
     let callers = trace.script().geometry().callers();
     let number = pass.number();
-    if number <= callers {
-        counts.waiting.fetch_sub(1, Ordering::SeqCst);
-    }
     if number < callers {
+        counts.begin();
         let done = play_caller(rt, alloc, swap, trace, &mut pass, gate);
         return (pass, done);
     }
     if number == callers {
+        counts.begin();
         let done = operate_all(rt, swap, &mut pass);
         return (pass, done);
     }
