@@ -1,28 +1,34 @@
--- While the bits of one slab after another are cleared: each page's bit, by the slabs that were looked at.
-use Rattle.std.proofs.Common.{◌≡◌, ◌≢◌, ℕ, ◌+◌, ◌*◌, ◌/◌, ◌<◌, ◌≤◌, Bool, true, false, ◌&&◌, not, nat_lt, nat_le, zero, suc, List, [], ◌∷◌, length, get_or, refl, sym, ap, ◌∙◌, subst, arith, ⊎_elim, lt-ltb, le-ltb, le-leb, add-zero, zero-add}
-use Rattle.std.proofs.lemmas.Bool.{cases_eq, cases_lt, lt-leb, cond-true, cond-false, and_left, and_right, and_from}
-use Rattle.std.proofs.lemmas.List.{ext_get_or}
+-- While a lender's slabs are sent home one after another: what is left of slabs and bits stays the same.
+use Rattle.std.proofs.Common.{◌≡◌, ◌≢◌, ℕ, ◌+◌, ◌*◌, ◌/◌, ◌<◌, ◌≤◌, Bool, true, false, ◌&&◌, not, nat_lt, nat_le, zero, suc, List, [], ◌∷◌, length, get_or, count_by, refl, sym, ap, ap₂, ◌∙◌, subst, arith, ⊎_elim, lt-ltb, le-ltb, le-leb, add-zero, zero-add, length-set, get_or-set_other}
+use Rattle.std.proofs.lemmas.Bool.{cases_eq, cases_lt, cases_Bool, lt-leb, cond-true, cond-false, and_left, and_right, and_from, false≢true}
+use Rattle.std.proofs.lemmas.List.{ext_get_or, get_or_past, length-map}
+use Rattle.std.proofs.lemmas.List.Folds.{list_any_at}
+use Rattle.std.proofs.lemmas.List.Sums.{sum_by-set}
 use Rattle.std.proofs.Math.Bool.{and-false, and-true}
+use Rattle.std.proofs.Math.ListN.{get_or-map}
 use Rattle.std.proofs.Math.Numerals.{add-one}
+use Rattle.std.proofs.Math.Seq.{map-set_same}
 use Rattle.std.proofs.Math.Nat.{div-lt_iff_lt-mul, le-div_iff_mul-le, suc-mul, mul_comm, mul-le-mul_right}
 use Rattle.swap_base.specs.declared.Lender.{Lender}
+use Rattle.swap_base.specs.declared.Slab.{Slab}
 use Rattle.swap_base.specs.Sizes.{Sizes, pages_of, slab_of}
 use Rattle.swap_bits.specs.Bits.{has, is_in_range, without_range, TakesRange, KeepsBound}
 use Rattle.swap_slabs.specs.declared.SlabState.{SlabState}
-use Rattle.swap_slabs.specs.Slabs.{state_of, is_at}
+use Rattle.swap_slabs.specs.declared.SlabState.TheVariants.{Local}
+use Rattle.swap_slabs.specs.Slabs.{state_of, with_state, is_at, after_lost, lost, holds}
+use Rattle.swap_slabs.specs.Rows.{one}
 use Rattle.swap_remote.specs.Remote.{left_from}
 
 -- the slab of a number is at the lender
 abbrev pub at : List SlabState → Lender → ℕ → Bool
 at states lender slab = is_at lender (state_of states (record { 0 = slab }))
 
--- a bit stays unless its page's slab is before the n-th, and at the lender
-abbrev pub stays : Sizes → List SlabState → Lender → List Bool → ℕ → ℕ → Bool
-stays s states lender bits n q = has bits q && not (nat_lt (slab_of s q) n && at states lender (slab_of s q))
-
-pub record IsLeft (s : Sizes) (states : List SlabState) (lender : Lender) (bits now : List Bool) (n : ℕ) : Type 0 where
-  pub len : length now ≡ pages_of s
-  pub each : (q : ℕ) → has now q ≡ stays s states lender bits n q
+-- a loss from here comes to what the loss at first comes to
+pub record IsLeaving (s : Sizes) (lender : Lender) (states : List SlabState) (bits : List Bool) (states' : List SlabState) (bits' : List Bool) : Type 0 where
+  pub slabs_len : length states' ≡ s.slabs
+  pub bits_len : length bits' ≡ pages_of s
+  pub slabs_left : lost states' lender ≡ lost states lender
+  pub bits_left : left_from s states' lender bits' 0 ≡ left_from s states lender bits 0
 
 -- a slab's pages are those in its range
 pub in_slab : (e n q : ℕ) → 0 < e → q / e ≡ n → is_in_range (n * e) (n * e + e) q ≡ true
@@ -43,58 +49,6 @@ off_slab e n q some other =
     and_right (nat_le (n * e) q) (nat_lt q (n * e + e)) (le-ltb q (n * e + e) (subst (λ m. m ≤ q) more high)))
     (cases_lt (q / e) n)
 
--- the n-th slab was looked at
-looked_same : (a n : ℕ) (b x : Bool) → (a ≡ n → ⊥) → (b && not (nat_lt a n && x)) ≡ (b && not (nat_lt a (n + 1) && x))
-looked_same a n b x other =
-    ap (λ t. b && not (t && x))
-    (⊎_elim
-    (λ (below : a < n). lt-ltb a n below ∙ sym (lt-ltb a (n + 1) (omega (arith, below))))
-    (λ (above : n ≤ a). le-ltb a n above ∙ sym (le-ltb a (n + 1) (omega (arith, above, other))))
-    (cases_lt a n))
-
-not_yet : (n : ℕ) (b x : Bool) → (b && not (nat_lt n n && x)) ≡ b
-not_yet n b x = ap (λ t. b && not (t && x)) (le-ltb n n (omega arith)) ∙ and-true b
-
-now_looked : (n : ℕ) (b x : Bool) → (b && not (nat_lt n (n + 1) && x)) ≡ (b && not x)
-now_looked n b x = ap (λ t. b && not (t && x)) (lt-ltb n (n + 1) (omega arith))
-
-pub kept_more :
-    (s : Sizes) (states : List SlabState) (lender : Lender) (bits now : List Bool) (n : ℕ) → at states lender n ≡ false → IsLeft s states lender bits now n
-    → IsLeft s states lender bits now (n + 1)
-kept_more s states lender bits now n away k = record {
-  len = k.len;
-  each =
-      λ q. k.each q
-      ∙ ⊎_elim
-      (λ (is : slab_of s q ≡ n).
-      let P : ℕ → Type 0 = λ a. (has bits q && not (nat_lt a n && at states lender a)) ≡ (has bits q && not (nat_lt a (n + 1) && at states lender a)) in
-      subst P (sym is)
-      (not_yet n (has bits q) (at states lender n)
-      ∙ sym (now_looked n (has bits q) (at states lender n) ∙ ap (λ t. has bits q && not t) away ∙ and-true (has bits q))))
-      (λ (other : slab_of s q ≢ n). looked_same (slab_of s q) n (has bits q) (at states lender (slab_of s q)) other)
-      (cases_eq (slab_of s q) n);
-}
-
-pub cleared_more :
-    TakesRange → KeepsBound → (s : Sizes) (states : List SlabState) (lender : Lender) (bits now : List Bool) (n e : ℕ) → e ≡ s.pages_per_slab → 0 < e
-    → n * e + e ≤ length now → at states lender n ≡ true → IsLeft s states lender bits now n
-    → IsLeft s states lender bits (without_range now (n * e) (n * e + e)) (n + 1)
-cleared_more takes_range keeps_bound s states lender bits now n e is_e some within here k = record {
-  len = (keeps_bound now (n * e) (n * e + e) 0 (omega arith) within).2 ∙ k.len;
-  each =
-      λ q. takes_range now (n * e) (n * e + e) q (omega arith) within
-      ∙ ⊎_elim
-      (λ (is : q / e ≡ n).
-      let slab : slab_of s q ≡ n = ap (λ m. q / m) (sym is_e) ∙ is in
-      let P : ℕ → Type 0 = λ a. false ≡ (has bits q && not (nat_lt a (n + 1) && at states lender a)) in
-      cond-true (is_in_range (n * e) (n * e + e) q) false (has now q) (in_slab e n q some is)
-      ∙ subst P (sym slab) (sym (now_looked n (has bits q) (at states lender n) ∙ ap (λ t. has bits q && not t) here ∙ and-false (has bits q))))
-      (λ (other : q / e ≢ n).
-      cond-false (is_in_range (n * e) (n * e + e) q) false (has now q) (off_slab e n q some other) ∙ k.each q
-      ∙ looked_same (slab_of s q) n (has bits q) (at states lender (slab_of s q)) (λ same. other (ap (λ m. q / m) is_e ∙ same)))
-      (cases_eq (q / e) n);
-}
-
 -- which pages are left, page by page
 pub length-left : (s : Sizes) (states : List SlabState) (lender : Lender) (bits : List Bool) (n : ℕ) → length (left_from s states lender bits n) ≡ length bits
 length-left s states lender [] n = refl
@@ -108,22 +62,77 @@ get_or-left s states lender (bit ∷ bits) n zero = ap (λ m. bit && not (at sta
 get_or-left s states lender (bit ∷ bits) n (suc i) =
     get_or-left s states lender bits (n + 1) i ∙ ap (λ m. get_or bits i false && not (at states lender (slab_of s m))) (omega arith)
 
-pub first : (s : Sizes) (states : List SlabState) (lender : Lender) (bits : List Bool) → length bits ≡ pages_of s → IsLeft s states lender bits bits 0
-first s states lender bits len =
-    record {
-      len = len;
-      each = λ q. sym (ap (λ t. has bits q && not (t && at states lender (slab_of s q))) (le-ltb (slab_of s q) 0 (omega arith)) ∙ and-true (has bits q));
-    }
+-- a slab at the lender is sent home, with its bits cleared
+module _ (s : Sizes) (states : List SlabState) (lender : Lender) (bits : List Bool) (slab : Slab) (within : slab.0 < length states)
+    (here : is_at lender (state_of states slab) ≡ true) where
+  sent_lost : lost (with_state states slab Local) lender ≡ lost states lender
+  sent_lost =
+      map-set_same (after_lost lender) states slab.0 Local Local (sym (cond-true (is_at lender (state_of states slab)) Local (state_of states slab) here))
 
-pub all_looked :
-    (s : Sizes) (states : List SlabState) (lender : Lender) (bits now : List Bool) (n : ℕ) → 0 < s.pages_per_slab → s.slabs ≤ n → length bits ≡ pages_of s
-    → IsLeft s states lender bits now n → now ≡ left_from s states lender bits 0
-all_looked s states lender bits now n some past len k =
-    ext_get_or false now (left_from s states lender bits 0) (k.len ∙ sym (length-left s states lender bits 0 ∙ len)) (λ i within.
-    let page : i < s.slabs * s.pages_per_slab = subst (λ m. i < m) (mul_comm s.pages_per_slab s.slabs) (subst (λ m. i < m) k.len within) in
-    let slab : slab_of s i < s.slabs = (div-lt_iff_lt-mul {k = s.pages_per_slab} {x = i} {y = s.slabs} some).1 page in
-    k.each i ∙ ap (λ t. has bits i && not (t && at states lender (slab_of s i))) (lt-ltb (slab_of s i) n (omega (arith, slab, past)))
-    ∙ sym (get_or-left s states lender bits 0 i ∙ ap (λ m. get_or bits i false && not (at states lender (slab_of s m))) (zero-add i)))
+  sent_bit :
+      TakesRange → (e : ℕ) → e ≡ s.pages_per_slab → 0 < e → slab.0 * e + e ≤ length bits → (i : ℕ)
+      → (has (without_range bits (slab.0 * e) (slab.0 * e + e)) i && not (at (with_state states slab Local) lender (slab_of s i)))
+      ≡ (has bits i && not (at states lender (slab_of s i)))
+  sent_bit takes_range e is_e some ends i =
+      let taken = takes_range bits (slab.0 * e) (slab.0 * e + e) i (omega arith) ends in
+      ⊎_elim
+      (λ (is : i / e ≡ slab.0).
+      let n : slab_of s i ≡ slab.0 = ap (λ m. i / m) (sym is_e) ∙ is in
+      ap (λ b. b && not (at (with_state states slab Local) lender (slab_of s i)))
+      (taken ∙ cond-true (is_in_range (slab.0 * e) (slab.0 * e + e) i) false (has bits i) (in_slab e slab.0 i some is))
+      ∙ sym (ap (λ b. has bits i && not b) (ap (λ m. at states lender m) n ∙ here) ∙ and-false (has bits i)))
+      (λ (other : i / e ≢ slab.0).
+      ap (λ b. b && not (at (with_state states slab Local) lender (slab_of s i)))
+      (taken ∙ cond-false (is_in_range (slab.0 * e) (slab.0 * e + e) i) false (has bits i) (off_slab e slab.0 i some other))
+      ∙ ap (λ x. has bits i && not (is_at lender x))
+      (get_or-set_other states slab.0 (slab_of s i) Local Local (λ same. other (ap (λ m. i / m) is_e ∙ same))))
+      (cases_eq (i / e) slab.0)
+
+  pub sent_home :
+      TakesRange → KeepsBound → (e : ℕ) → e ≡ s.pages_per_slab → 0 < e → slab.0 * e + e ≤ length bits → (states₀ : List SlabState) (bits₀ : List Bool)
+      → IsLeaving s lender states₀ bits₀ states bits
+      → IsLeaving s lender states₀ bits₀ (with_state states slab Local) (without_range bits (slab.0 * e) (slab.0 * e + e))
+  sent_home takes_range keeps_bound e is_e some ends states₀ bits₀ k =
+      let now : List Bool = without_range bits (slab.0 * e) (slab.0 * e + e) in
+      let same : length (without_range bits (slab.0 * e) (slab.0 * e + e)) ≡ length bits =
+      (keeps_bound bits (slab.0 * e) (slab.0 * e + e) 0 (omega arith) ends).2 in
+      record {
+        slabs_len = length-set states slab.0 Local ∙ k.slabs_len;
+        bits_len = same ∙ k.bits_len;
+        slabs_left = sent_lost ∙ k.slabs_left;
+        bits_left =
+            ext_get_or false (left_from s (with_state states slab Local) lender now 0) (left_from s states lender bits 0)
+            (length-left s (with_state states slab Local) lender now 0 ∙ same ∙ sym (length-left s states lender bits 0))
+            (λ i lt.
+            get_or-left s (with_state states slab Local) lender now 0 i
+            ∙ ap (λ m. has now i && not (at (with_state states slab Local) lender (slab_of s m))) (zero-add i)
+            ∙ sent_bit takes_range e is_e some ends i
+            ∙ sym (get_or-left s states lender bits 0 i ∙ ap (λ m. has bits i && not (at states lender (slab_of s m))) (zero-add i)))
+            ∙ k.bits_left;
+      }
+
+  pub fewer_at : count_by (λ state. is_at lender state) (with_state states slab Local) < count_by (λ state. is_at lender state) states
+  fewer_at = omega (arith, sum_by-set (λ x. one (is_at lender x)) states slab.0 Local Local within, ap (λ b. one b) here)
+
+-- none is left at the lender
+module _ (s : Sizes) (states : List SlabState) (lender : Lender) (none : holds states lender ≡ false) where
+  none_at : (n : ℕ) → is_at lender (get_or states n Local) ≡ false
+  none_at n =
+      ⊎_elim
+      (λ (lt : n < length states).
+      ⊎_elim (λ (t : is_at lender (get_or states n Local) ≡ true). absurd
+      (false≢true (sym none ∙ list_any_at (λ state. is_at lender state) states n Local lt t)))
+      (λ (t : is_at lender (get_or states n Local) ≡ false). t) (cases_Bool (is_at lender (get_or states n Local))))
+      (λ (ge : length states ≤ n). ap (is_at lender) (get_or_past states n Local ge)) (cases_lt n (length states))
+
+  pub none_lost : lost states lender ≡ states
+  none_lost =
+      ext_get_or Local (lost states lender) states (length-map states (after_lost lender))
+      (λ i lt. get_or-map (after_lost lender) states i Local ∙ cond-false (is_at lender (get_or states i Local)) Local (get_or states i Local) (none_at i))
+
+  pub none_left : (bits : List Bool) (n : ℕ) → left_from s states lender bits n ≡ bits
+  none_left [] n = refl
+  none_left (bit ∷ bits) n = ap₂ (λ b bs. b ∷ bs) (ap (λ b. bit && not b) (none_at (slab_of s n)) ∙ and-true bit) (none_left bits (n + 1))
 
 -- a slab's range ends among the pages
 pub range_ends : (e slabs n : ℕ) → n < slabs → n * e + e ≤ e * slabs

@@ -59,18 +59,6 @@ fn is_mapped(state: SlabState) -> bool
     matches!(state, SlabState::Mapped { .. })
 }
 
-// Whether a slab is borrowed from a lender, mapped to it or drains at it.
-fn is_at(state: SlabState, lender: Lender) -> bool
-    ensures { result ≡ slabs.is_at lender state }
-{
-    match state {
-        SlabState::Local | SlabState::Asking(_) => false,
-        SlabState::Borrowing { lender: other } => other.0 == lender.0,
-        SlabState::Mapped { lender: other, .. } => other.0 == lender.0,
-        SlabState::Draining { lender: other, .. } => other.0 == lender.0,
-    }
-}
-
 // Whether a slab has this lease of a lender.
 fn has_lease(state: SlabState, lender: Lender, lease: Lease) -> bool
     ensures { result ≡ slabs.has_lease lender lease state }
@@ -137,19 +125,20 @@ fn lenders_up(rings: &Rings, states: &Slabs) -> Askable
     Askable { fresh, others }
 }
 
-// The bits of the slabs at a lender are cleared.
-fn clear_at(geometry: &Geometry, slabs: &Slabs, bits: &mut PageBits, lender: Lender)
-    requires slabs { length slabs.now ≡ geometry.now.slabs }
+// Each slab at a lender is local, with its bits cleared.
+fn send_home(geometry: &Geometry, states: &mut Slabs, bits: &mut PageBits, lender: Lender)
+    requires lender { lender.0 < MOST_LENDERS }
+    requires states { length states.old ≡ geometry.now.slabs }
     requires bits { length bits.old ≡ pages_of geometry.now }
-    ensures { bits.new ≡ left_from geometry.now slabs.now lender bits.old 0 }
+    ensures states { states.new ≡ slabs.lost states.old lender }
+    ensures bits { bits.new ≡ left_from geometry.now states.old lender bits.old 0 }
 {
     let each = geometry.pages_per_slab();
     geometry.limits();
     is_a_set();
-    for slab in 0..geometry.slabs() {
-        if is_at(slabs.state(Slab(slab)), lender) {
-            bits.clear_range(slab * each, slab * each + each);
-        }
+    while let Some(slab) = states.one_at(lender) {
+        bits.clear_range(slab.0 * each, slab.0 * each + each);
+        states.send_home(slab);
     }
 }
 
@@ -466,8 +455,7 @@ impl Remote {
         ensures { self.new
             ≡ record self.old { remote = lost self.old.sizes self.old.remote lender } }
     {
-        clear_at(&self.geometry, &self.slabs, &mut self.bits, lender);
-        self.slabs.lost(lender);
+        send_home(&self.geometry, &mut self.slabs, &mut self.bits, lender);
         self.rings.lose(lender);
     }
 

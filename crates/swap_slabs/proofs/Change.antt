@@ -1,6 +1,6 @@
 -- What one slab's change makes of the table and of the lenders' rows.
-use Rattle.std.proofs.Common.{◌≡◌, ◌≢◌, ℕ, ◌+◌, ◌<◌, ◌≤◌, Bool, true, false, cond, ◌||◌, ◌==◌, nat_lt, List, [], ◌∷◌, length, get_or, set, find, position, option_map, count_by, refl, sym, ap, ◌∙◌, subst, arith, Option, None, Some, IsSome, ⊎_elim, length-set, get_or-set_same, get_or-set_other, eq-eqb, lt-ltb, not}
-use Rattle.std.specs.List.{list_any, position_or_len}
+use Rattle.std.proofs.Common.{◌≡◌, ◌≢◌, ℕ, ◌+◌, ◌<◌, ◌≤◌, Bool, true, false, cond, ◌&&◌, ◌==◌, nat_lt, List, [], ◌∷◌, length, get_or, set, find, position, option_map, count_by, refl, sym, ap, ap₂, ◌∙◌, subst, arith, Option, None, Some, IsSome, ⊎_elim, length-set, get_or-set_same, get_or-set_other, eq-eqb, ne_eqb, not}
+use Rattle.std.specs.List.{position_or_len}
 use Rattle.std.proofs.lemmas.Bool.{cases_eq, cases_lt, cases_Bool, cond-true, cond-false, false≢true, and_left, and_from, ltb-false}
 use Rattle.std.proofs.lemmas.List.{get_or_past}
 use Rattle.std.proofs.lemmas.List.Sums.{sum_by-set, sum_by-cons, get_or-le-sum_by}
@@ -14,7 +14,8 @@ use Rattle.swap_slabs.specs.declared.row.Leased.{Leased}
 use Rattle.swap_slabs.specs.declared.TheConstants.{MOST_LENDERS}
 use Rattle.swap_slabs.specs.Slabs.{state_of, is_at, has_lease_at, has_lease, is_mapped}
 use Rattle.swap_slabs.specs.Kept.{StateFits, IsSlabs}
-use Rattle.swap_slabs.specs.Rows.{LenderRow, new_row, has_number, is_entry, without, row_of, one, RowFits, Fits}
+use Rattle.swap_places.specs.Line.{stands}
+use Rattle.swap_slabs.specs.Rows.{LenderRow, new_row, has_number, is_entry, without, row_of, one, borrows_from, SetsBorrowing, RowFits, Fits}
 
 -- a slab that isn't at a lender has no lease of it
 pub no_lease_at : (l : Lender) (state : SlabState) → is_at l state ≡ false → has_lease_at l state ≡ false
@@ -60,12 +61,37 @@ module _ (states : List SlabState) (slab : Slab) (st : SlabState) (lt : slab.0 <
         (cases_Bool (has_lease l k st));
   }
 
+  -- the slabs that borrow from a lender stay where this one borrows as before
+  pub borrowing_same :
+      (l : Lender) (borrowing : List ℕ) → borrows_from l old ≡ borrows_from l st
+      → ((s : Slab) → stands borrowing s.0 ≡ borrows_from l (state_of states s)) → (s : Slab)
+      → stands borrowing s.0 ≡ borrows_from l (state_of after s)
+  borrowing_same l borrowing same each s =
+      each s
+      ∙ ⊎_elim
+      (λ e. ap (λ n. borrows_from l (get_or states n Local)) e ∙ same ∙ sym (ap (λ x. borrows_from l x) (state_here s e)))
+      (λ ne. sym (ap (λ x. borrows_from l x) (state_other s ne))) (cases_eq s.0 slab.0)
+
+  -- and change with it where it's entered or taken out
+  pub borrowing_set :
+      (l : Lender) (before : LenderRow) (now : Bool) (row : LenderRow) → SetsBorrowing before slab now row → borrows_from l st ≡ now
+      → ((s : Slab) → stands before.borrowing s.0 ≡ borrows_from l (state_of states s)) → (s : Slab)
+      → stands row.borrowing s.0 ≡ borrows_from l (state_of after s)
+  borrowing_set l before now row sets is each s =
+      sets.each s.0
+      ∙ ⊎_elim
+      (λ (e : s.0 ≡ slab.0). cond-true (slab.0 == s.0) now (stands before.borrowing s.0) (eq-eqb slab.0 s.0 (sym e))
+      ∙ sym (ap (λ x. borrows_from l x) (state_here s e) ∙ is))
+      (λ (ne : s.0 ≢ slab.0). cond-false (slab.0 == s.0) now (stands before.borrowing s.0) (ne_eqb slab.0 s.0 (λ e. ne (sym e)))
+      ∙ each s ∙ sym (ap (λ x. borrows_from l x) (state_other s ne)))
+      (cases_eq s.0 slab.0)
+
   -- a lender that the change is none of keeps its row
   pub row_same :
       (l : Lender) (row : LenderRow) → is_at l old ≡ is_at l st → has_lease_at l old ≡ has_lease_at l st → ((k : Lease) → has_lease l k old ≡ has_lease l k st)
       → RowFits states l row → RowFits after l row
   row_same l row held leased leases h = record {
-    held = omega (arith, h.held, count_after (λ state. is_at l state), ap one held);
+    borrowing = borrowing_same l row.borrowing (ap₂ (λ a b. a && not b) held leased) h.borrowing;
     leases = λ k s.
         h.leases k s
         ∙ ap one
@@ -137,16 +163,6 @@ module _ {X : Type 0} (p : X → Bool) where
   count_none xs e =
       none_passes xs (ltb-false (position_or_len p xs) (length xs) (found_of (nat_lt (position_or_len p xs) (length xs)) (position_or_len p xs) e))
 
-  pub any_counted : (xs : List X) → nat_lt 0 (count_by p xs) ≡ list_any p xs
-  any_counted [] = refl
-  any_counted (x ∷ xs) =
-      ⊎_elim
-      (λ (t : p x ≡ true). lt-ltb 0 (count_by p (x ∷ xs)) (omega (arith, sum_by-cons (λ x. cond (p x) 1 0) x xs, ap one t))
-      ∙ sym (ap (λ b. b || list_any p xs) t))
-      (λ (t : p x ≡ false). ap (λ n. nat_lt 0 n) (sum_by-cons (λ x. cond (p x) 1 0) x xs ∙ ap (λ b. cond b 1 0 + count_by p xs) t ∙ omega arith)
-      ∙ any_counted xs ∙ sym (ap (λ b. b || list_any p xs) t))
-      (cases_Bool (p x))
-
 -- a number of leases
 pub without-count :
     (k : Lease) (p : Leased → Bool) (xs : List Leased) (e : Leased) → find (has_number k) xs ≡ Some e → count_by p (without k xs) + one (p e) ≡ count_by p xs
@@ -214,7 +230,7 @@ none_entry k s (x ∷ xs) found =
     some_none : {X : Type 0} {x : X} → Some x ≡ None → ⊥
     some_none h = cc
 
-one_some : (b : Bool) → 1 ≤ one b → b ≡ true
+pub one_some : (b : Bool) → 1 ≤ one b → b ≡ true
 one_some true le = refl
 one_some false le = absurd (omega arith)
 

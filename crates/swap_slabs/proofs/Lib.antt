@@ -1,5 +1,6 @@
 pub mod Change
 pub mod RowReads
 pub mod Moves
+pub mod Held
 pub mod Lost
 pub mod Keeps

@@ -1,12 +1,14 @@
 -- Each move keeps what a table of slabs is, and the lenders' rows agree after it.
-use Rattle.std.proofs.Common.{◌≡◌, ◌≢◌, ℕ, ◌+◌, ◌-◌, ◌<◌, ◌≤◌, ◌^◌, Bool, true, false, ◌&&◌, ◌==◌, List, length, get_or, set, find, position, option_map, count_by, refl, sym, ap, ◌∙◌, subst, arith, Option, None, Some, IsSome, ⊎_elim, length-set, eq-eqb, ne_eqb, eqb-true}
+use Rattle.std.proofs.Common.{◌≡◌, ◌≢◌, ℕ, ◌+◌, ◌<◌, ◌≤◌, ◌^◌, Bool, true, false, ◌&&◌, not, ◌==◌, List, length, get_or, set, find, position, option_map, count_by, refl, sym, ap, ap₂, ◌∙◌, subst, arith, Option, None, Some, IsSome, ⊎_elim, length-set, eq-eqb, ne_eqb, eqb-true}
 use Rattle.std.proofs.lemmas.Bool.{cases_eq, cases_Bool, cond-true, cond-false, false≢true, and_parts, and_right, and_from}
+use Rattle.std.proofs.Math.Bool.{and-false}
 use Rattle.std.specs.List.{insert}
 use Rattle.std.proofs.lemmas.List.Edits.{length-insert}
 use Rattle.std.proofs.lemmas.List.Sums.{sum_by-insert, get_or-le-sum_by, count_by-le-length}
 use Rattle.swap_base.specs.declared.Slab.{Slab}
 use Rattle.swap_base.specs.declared.Lender.{Lender}
 use Rattle.swap_base.specs.declared.Lease.{Lease}
+use Rattle.swap_places.specs.Line.{stands}
 use Rattle.swap_slabs.specs.declared.Reply.{Reply}
 use Rattle.swap_slabs.specs.declared.Pair.{Pair}
 use Rattle.swap_slabs.specs.declared.SlabState.{SlabState}
@@ -15,8 +17,8 @@ use Rattle.swap_slabs.specs.declared.row.Leased.{Leased}
 use Rattle.swap_slabs.specs.declared.TheConstants.{MOST_LENDERS, MOST_FLYING}
 use Rattle.swap_slabs.specs.Slabs.{state_of, with_state, is_local, is_mapped, lender_of, leased_of, is_lender, is_leased_at, is_lease, is_at, has_lease_at, has_lease, flying_of, replied, waits, by_lease}
 use Rattle.swap_slabs.specs.Kept.{IsSecond, StateFits, IsSlabs}
-use Rattle.swap_slabs.specs.Rows.{LenderRow, has_number, is_entry, without, row_of, one, Puts, RowFits, Fits}
-use Rattle.swap_slabs.proofs.Change.{count_after, state_here, state_other, slabs_after, fits_same, fits_row, length-without, without-count, entry_of, entry_slab, count_none}
+use Rattle.swap_slabs.specs.Rows.{LenderRow, has_number, is_entry, without, row_of, one, Puts, SetsBorrowing, borrows_from, RowFits, Fits}
+use Rattle.swap_slabs.proofs.Change.{count_after, state_here, state_other, borrowing_same, borrowing_set, slabs_after, fits_same, fits_row, length-without, without-count, entry_of, entry_slab, count_none}
 
 pub local_is : (state : SlabState) → is_local state ≡ true → state ≡ Local
 local_is Local e = refl
@@ -88,76 +90,69 @@ leases_same states slab st lt l leases same each k s =
 is_lender_self : (l : Lender) → is_lender l (Some l) ≡ true
 is_lender_self l = eq-eqb l.0 l.0 refl
 
+-- a slab at a lender borrows from it unless it has a lease
+borrows_is : (l : Lender) (state : SlabState) → lender_of state ≡ Some l → leased_of state ≡ None → borrows_from l state ≡ true
+borrows_is l state at leased = ap₂ (λ o m. is_lender l o && not (is_leased_at l m)) at leased ∙ ap (λ b. b && true) (is_lender_self l)
+
+leased_not : (l : Lender) (k : Lease) (state : SlabState) → leased_of state ≡ Some (l, k) → borrows_from l state ≡ false
+leased_not l k state leased =
+    ap (λ o. is_at l state && not (is_leased_at l o)) leased ∙ ap (λ b. is_at l state && not b) (is_lender_self l) ∙ and-false (is_at l state)
+
+-- a slab that has no lease enters the slabs that borrow, or is taken out
+sets_fits :
+    (states : List SlabState) (slab : Slab) (st : SlabState) (lt : slab.0 < length states) (l : Lender) (before : LenderRow) (now : Bool) (row' : LenderRow)
+    → leased_of (state_of states slab) ≡ None → leased_of st ≡ None → borrows_from l st ≡ now → SetsBorrowing before slab now row' → RowFits states l before
+    → RowFits (set states slab.0 st) l row'
+sets_fits states slab st lt l before now row' none none' is sets row =
+    let same : (k : Lease) → has_lease l k (state_of states slab) ≡ has_lease l k st = λ k. ap (λ o. is_lease l k o) (none ∙ sym none') in
+    let put : RowFits (set states slab.0 st) l (record before { borrowing = row'.borrowing }) =
+    record {
+      borrowing = borrowing_set states slab st lt l before now row' sets is row.borrowing;
+      leases = leases_same states slab st lt l before.leases same row.leases;
+      number =
+          omega
+          (arith, row.number, count_after states slab st lt (λ state. has_lease_at l state), ap (λ o. one (is_leased_at l o)) (none ∙ sym none'));
+      room = omega (arith, row.room, length-set states slab.0 st);
+    } in
+    subst (λ r. RowFits (set states slab.0 st) l r) (sym sets.rest) put
+
 -- a local slab borrows
 pub borrow_fits :
     (states : List SlabState) (slab : Slab) (table : List LenderRow) (m : ℕ) (l : Lender) (row' : LenderRow) → slab.0 < length states → Fits states table m
-    → is_local (state_of states slab) ≡ true → l.0 < MOST_LENDERS
-    → row' ≡ record (row_of table l) { held = (row_of table l).held + 1 } → Fits (with_state states slab (Borrowing l)) (set table l.0 row') m
+    → is_local (state_of states slab) ≡ true → l.0 < MOST_LENDERS → SetsBorrowing (row_of table l) slab true row'
+    → Fits (with_state states slab (Borrowing l)) (set table l.0 row') m
 borrow_fits states slab table m l row' lt h local within made =
     let was : state_of states slab ≡ Local = local_is (state_of states slab) local in
-    let row : RowFits states l (row_of table l) = h.row l within in
-    let P : LenderRow → Type 0 = λ r. Fits (with_state states slab (Borrowing l)) (set table l.0 r) m in
-    subst P (sym made)
-    (fits_row states slab (Borrowing l) lt table m m l (record (row_of table l) { held = (row_of table l).held + 1 }) h
-    (slabs_none states slab (Borrowing l) lt h.slabs within refl) within
+    fits_row states slab (Borrowing l) lt table m m l row' h (slabs_none states slab (Borrowing l) lt h.slabs within refl) within
     (λ other ne. (ap (λ x. is_at other x) was, not_other other l ne))
-    (record {
-      held =
-          omega (arith, row.held, count_after states slab (Borrowing l) lt (λ state. is_at l state), ap (λ x. one (is_at l x)) was, ap one (is_lender_self l));
-      leases = leases_same states slab (Borrowing l) lt l (row_of table l).leases (λ k. ap (λ x. has_lease l k x) was) row.leases;
-      number = omega (arith, row.number, count_after states slab (Borrowing l) lt (λ state. has_lease_at l state), ap (λ x. one (has_lease_at l x)) was);
-      room = omega (arith, row.room, length-set states slab.0 (Borrowing l));
-    })
-    (omega (arith, ap (λ x. one (is_mapped x)) was)))
+    (sets_fits states slab (Borrowing l) lt l (row_of table l) true row' (ap leased_of was) refl (borrows_is l (Borrowing l) refl refl) made (h.row l within))
+    (omega (arith, ap (λ x. one (is_mapped x)) was))
 
 -- there is room for one slab more at the lender
 pub borrow_room :
     (states : List SlabState) (slab : Slab) (table : List LenderRow) (m : ℕ) (l : Lender) → slab.0 < length states → Fits states table m
-    → is_local (state_of states slab) ≡ true → l.0 < MOST_LENDERS → (row_of table l).held + 1 < 2 ^ 32
+    → is_local (state_of states slab) ≡ true → l.0 < MOST_LENDERS
+    → (slab.0 < (row_of table l).room) × (stands (row_of table l).borrowing slab.0 ≡ false)
 borrow_room states slab table m l lt h local within =
-    omega (
-      arith,
-      h.few,
-      (h.row l within).held,
-      count_after states slab (Borrowing l) lt (λ state. is_at l state),
-      ap (λ x. one (is_at l x)) (local_is (state_of states slab) local),
-      ap one (is_lender_self l),
-      count_by-le-length (λ state. is_at l state) (with_state states slab (Borrowing l)),
-      length-set states slab.0 (Borrowing l),
-    )
+    (omega (arith, lt, (h.row l within).room), (h.row l within).borrowing slab ∙ ap (λ x. borrows_from l x) (local_is (state_of states slab) local))
 
 -- a slab that borrows is local again
 pub refuse_fits :
     (states : List SlabState) (slab : Slab) (table : List LenderRow) (m : ℕ) (l : Lender) (row' : LenderRow) → slab.0 < length states → Fits states table m
-    → state_of states slab ≡ Borrowing l → l.0 < MOST_LENDERS
-    → row' ≡ record (row_of table l) { held = (row_of table l).held - 1 } → Fits (with_state states slab Local) (set table l.0 row') m
+    → state_of states slab ≡ Borrowing l → l.0 < MOST_LENDERS → SetsBorrowing (row_of table l) slab false row'
+    → Fits (with_state states slab Local) (set table l.0 row') m
 refuse_fits states slab table m l row' lt h was within made =
-    let row : RowFits states l (row_of table l) = h.row l within in
-    let P : LenderRow → Type 0 = λ r. Fits (with_state states slab Local) (set table l.0 r) m in
-    subst P (sym made)
-    (fits_row states slab Local lt table m m l (record (row_of table l) { held = (row_of table l).held - 1 }) h
-    (slabs_none states slab Local lt h.slabs tt refl) within
+    fits_row states slab Local lt table m m l row' h (slabs_none states slab Local lt h.slabs tt refl) within
     (λ other ne. (lender_at (state_of states slab) other l (ap lender_of was) ne, refl))
-    (record {
-      held = omega (arith, row.held, count_after states slab Local lt (λ state. is_at l state), ap (λ x. one (is_at l x)) was, ap one (is_lender_self l));
-      leases = leases_same states slab Local lt l (row_of table l).leases (λ k. ap (λ x. has_lease l k x) was) row.leases;
-      number = omega (arith, row.number, count_after states slab Local lt (λ state. has_lease_at l state), ap (λ x. one (has_lease_at l x)) was);
-      room = omega (arith, row.room, length-set states slab.0 Local);
-    })
-    (omega (arith, ap (λ x. one (is_mapped x)) was)))
+    (sets_fits states slab Local lt l (row_of table l) false row' (ap leased_of was) refl refl made (h.row l within))
+    (omega (arith, ap (λ x. one (is_mapped x)) was))
 
--- a lender that a slab is at is told to hold one
-pub held_some :
-    (states : List SlabState) (slab : Slab) (table : List LenderRow) (m : ℕ) (l : Lender) → slab.0 < length states → Fits states table m
-    → lender_of (state_of states slab) ≡ Some l → l.0 < MOST_LENDERS → 0 < (row_of table l).held
-held_some states slab table m l lt h was within =
-    omega (
-      arith,
-      (h.row l within).held,
-      get_or-le-sum_by (λ (x : SlabState). one (is_at l x)) states slab.0 Local lt,
-      ap (λ o. one (is_lender l o)) was,
-      ap one (is_lender_self l),
-    )
+-- a slab that borrows stands in its lender's row
+pub borrowing_there :
+    (states : List SlabState) (slab : Slab) (table : List LenderRow) (m : ℕ) (l : Lender) → Fits states table m → state_of states slab ≡ Borrowing l
+    → l.0 < MOST_LENDERS → stands (row_of table l).borrowing slab.0 ≡ true
+borrowing_there states slab table m l h was within =
+    (h.row l within).borrowing slab ∙ borrows_is l (state_of states slab) (ap lender_of was) (ap leased_of was)
 
 lender_is : (a b : Lender) → a.0 ≡ b.0 → a ≡ b
 lender_is a b e = let F : ℕ → Lender = λ n. record { 0 = n } in ap F e
@@ -218,31 +213,36 @@ lent_entry states slab l k leases i lt was each j s =
     (cases_eq s.0 slab.0)
 
 pub lent_fits :
-    (states : List SlabState) (slab : Slab) (table : List LenderRow) (m : ℕ) (l : Lender) (k : Lease) (row' : LenderRow) → slab.0 < length states
+    (states : List SlabState) (slab : Slab) (table : List LenderRow) (m : ℕ) (l : Lender) (k : Lease) (mid row' : LenderRow) → slab.0 < length states
     → Fits states table m → state_of states slab ≡ Borrowing l → l.0 < MOST_LENDERS → by_lease states l k ≡ None
-    → Puts (row_of table l) (record { lease = k; slab = slab }) row' → Fits (with_state states slab (Mapped l k 0)) (set table l.0 row') (m + 1)
-lent_fits states slab table m l k row' lt h was within new (i, le, made) =
+    → SetsBorrowing (row_of table l) slab false mid → Puts mid (record { lease = k; slab = slab }) row'
+    → Fits (with_state states slab (Mapped l k 0)) (set table l.0 row') (m + 1)
+lent_fits states slab table m l k mid row' lt h was within new sets (i, le, made) =
     let row : RowFits states l (row_of table l) = h.row l within in
-    let st : SlabState = Mapped l k 0 in
+    let same : mid.leases ≡ (row_of table l).leases = ap (λ (r : LenderRow). r.leases) sets.rest in
+    let room_ : mid.room ≡ (row_of table l).room = ap (λ (r : LenderRow). r.room) sets.rest in
     let P : LenderRow → Type 0 = λ r. Fits (with_state states slab (Mapped l k 0)) (set table l.0 r) (m + 1) in
     subst P (sym made)
-    (fits_row states slab (Mapped l k 0) lt table m (m + 1) l
-    (record (row_of table l) { leases = insert (row_of table l).leases i (record { lease = k; slab = slab }) }) h
+    (fits_row states slab (Mapped l k 0) lt table m (m + 1) l (record mid { leases = insert mid.leases i (record { lease = k; slab = slab }) }) h
     (lent_slabs states slab l k lt h.slabs within new) within
     (λ other ne. (lender_at (state_of states slab) other l (ap lender_of was) ne, not_other other l ne))
     (record {
-      held = omega (arith, row.held, count_after states slab (Mapped l k 0) lt (λ state. is_at l state), ap (λ x. one (is_at l x)) was);
-      leases = lent_entry states slab l k (row_of table l).leases i lt was row.leases;
+      borrowing =
+          borrowing_set states slab (Mapped l k 0) lt l (row_of table l) false mid sets (leased_not l k (Mapped l k 0) refl) row.borrowing;
+      leases =
+          lent_entry states slab l k mid.leases i lt was
+          (λ j s. ap (λ xs. count_by (λ e. is_entry j s e) xs) same ∙ row.leases j s);
       number =
           omega (
             arith,
             row.number,
+            ap length same,
             count_after states slab (Mapped l k 0) lt (λ state. has_lease_at l state),
             ap (λ x. one (has_lease_at l x)) was,
             ap one (is_lender_self l),
-            length-insert (row_of table l).leases i (record { lease = k; slab = slab }) le,
+            length-insert mid.leases i (record { lease = k; slab = slab }) le,
           );
-      room = omega (arith, row.room, length-set states slab.0 (Mapped l k 0));
+      room = omega (arith, row.room, room_, length-set states slab.0 (Mapped l k 0));
     })
     (omega (arith, ap (λ x. one (is_mapped x)) was)))
 
@@ -309,15 +309,13 @@ module _ (states : List SlabState) (slab : Slab) (table : List LenderRow) (m m' 
 
   given_row :
       (o : Option Leased) → find (has_number k) (row_of table l).leases ≡ o → IsSome o
-      → RowFits (set states slab.0 Local) l (record (row_of table l) { held = (row_of table l).held - 1; leases = without k (row_of table l).leases })
+      → RowFits (set states slab.0 Local) l (record (row_of table l) { leases = without k (row_of table l).leases })
   given_row None found some = absurd (false≢true some)
   given_row (Some e) found some =
       let row : RowFits states l (row_of table l) = h.row l within in
-      let at_l : one (is_at l (state_of states slab)) ≡ 1 =
-      ap (λ o. one (is_lender l o)) (leased_lender (state_of states slab) l k was) ∙ ap one (is_lender_self l) in
       let leased_l : one (has_lease_at l (state_of states slab)) ≡ 1 = ap (λ o. one (is_leased_at l o)) was ∙ ap one (is_lender_self l) in
       record {
-        held = omega (arith, row.held, count_after states slab Local lt (λ state. is_at l state), at_l);
+        borrowing = borrowing_same states slab Local lt l (row_of table l).borrowing (leased_not l k (state_of states slab) was) row.borrowing;
         leases = given_leases e found;
         number =
             omega
@@ -326,12 +324,12 @@ module _ (states : List SlabState) (slab : Slab) (table : List LenderRow) (m m' 
       }
 
   pub given_fits :
-      (row' : LenderRow) → row' ≡ record (row_of table l) { held = (row_of table l).held - 1; leases = without k (row_of table l).leases }
+      (row' : LenderRow) → row' ≡ record (row_of table l) { leases = without k (row_of table l).leases }
       → m' + one (is_mapped (state_of states slab)) ≡ m → Fits (with_state states slab Local) (set table l.0 row') m'
   given_fits row' made counted =
       let P : LenderRow → Type 0 = λ r. Fits (with_state states slab Local) (set table l.0 r) m' in
       subst P (sym made)
-      (fits_row states slab Local lt table m m' l (record (row_of table l) { held = (row_of table l).held - 1; leases = without k (row_of table l).leases }) h
+      (fits_row states slab Local lt table m m' l (record (row_of table l) { leases = without k (row_of table l).leases }) h
       (slabs_none states slab Local lt h.slabs tt refl) within
       (λ other ne. (lender_at (state_of states slab) other l (leased_lender (state_of states slab) l k was) ne, refl))
       (given_row (find (has_number k) (row_of table l).leases) refl lease_found) (omega (arith, counted)))

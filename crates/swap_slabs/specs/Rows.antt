@@ -1,24 +1,25 @@
 -- The index of the slabs by their lenders, which no state depends on.
-use Rattle.std.specs.Prelude.{◌≡◌, ℕ, ◌<◌, ◌≤◌, ◌^◌, Bool, true, false, nat_lt, ◌&&◌, ◌==◌, if◌then◌else◌, List, [], ◌∷◌, length, count_by, find, option_map, slice_index_or, Option}
+use Rattle.std.specs.Prelude.{◌≡◌, ℕ, ◌-◌, ◌<◌, ◌≤◌, ◌^◌, Bool, true, false, nat_lt, ◌&&◌, not, ◌==◌, if◌then◌else◌, List, [], ◌∷◌, length, count_by, find, option_map, slice_get, slice_index_or, Option, None, Some}
 use Rattle.std.specs.List.{insert}
 use Rattle.std.specs.List.Sorted.{IsNonDecreasingBy, IsPartitionPoint}
 use Rattle.swap_base.specs.declared.Slab.{Slab}
 use Rattle.swap_base.specs.declared.Lender.{Lender}
 use Rattle.swap_base.specs.declared.Lease.{Lease}
+use Rattle.swap_places.specs.Line.{stands}
 use Rattle.swap_slabs.specs.declared.SlabState.{SlabState}
 use Rattle.swap_slabs.specs.declared.row.Leased.{Leased}
 use Rattle.swap_slabs.specs.declared.TheConstants.{MOST_LENDERS}
 use Rattle.swap_slabs.specs.Slabs.{state_of, is_at, has_lease_at, has_lease, mapped}
 use Rattle.swap_slabs.specs.Kept.{IsSlabs}
 
--- how many slabs are at a lender, the leases of those that are mapped or drain, and how many leases may be kept
+-- the slabs that borrow from a lender, the leases of those that are mapped or drain, and how many of each may be kept
 pub record LenderRow : Type 0 where
-  pub held : ℕ
+  pub borrowing : List ℕ
   pub leases : List Leased
   pub room : ℕ
 
 abbrev pub new_row : ℕ → LenderRow
-new_row room = record { held = 0; leases = []; room = room }
+new_row room = record { borrowing = []; leases = []; room = room }
 
 abbrev pub has_number : Lease → Leased → Bool
 has_number lease l = l.lease.0 == lease.0
@@ -45,6 +46,11 @@ abbrev pub Puts : LenderRow → Leased → LenderRow → Type 0
 Puts before leased after =
     (i : ℕ) × (i ≤ length before.leases) × (after ≡ record before { leases = insert before.leases i leased })
 
+-- a slab borrows, or no longer does, and nothing else is changed
+pub record SetsBorrowing (before : LenderRow) (slab : Slab) (now : Bool) (after : LenderRow) : Type 0 where
+  pub rest : after ≡ record before { borrowing = after.borrowing }
+  pub each : (k : ℕ) → stands after.borrowing k ≡ (if slab.0 == k then now else stands before.borrowing k)
+
 -- the leases without the first of this number
 abbrev pub without : Lease → List Leased → List Leased
 without lease [] = []
@@ -53,15 +59,27 @@ without lease (l ∷ leases) = if has_number lease l then leases else l ∷ with
 abbrev pub slab_in : Lease → List Leased → Option Slab
 slab_in lease leases = option_map (λ (l : Leased). l.slab) (find (has_number lease) leases)
 
+-- a slab of the row: the last that has a lease, or else the first that borrows
+abbrev pub last_or_first : Option Leased → Option ℕ → Option Slab
+last_or_first None n = option_map (λ (n : ℕ). record { 0 = n }) n
+last_or_first (Some l) n = Some l.slab
+
+abbrev pub slab_of_row : LenderRow → Option Slab
+slab_of_row row = last_or_first (slice_get row.leases (length row.leases - 1)) (slice_get row.borrowing 0)
+
 abbrev pub row_of : List LenderRow → Lender → LenderRow
 row_of rows lender = slice_index_or rows lender.0 (new_row 0)
 
 abbrev pub one : Bool → ℕ
 one b = if b then 1 else 0
 
+-- the slab is borrowed from the lender and has no lease
+abbrev pub borrows_from : Lender → SlabState → Bool
+borrows_from lender state = is_at lender state && not (has_lease_at lender state)
+
 -- a lender's row agrees with the states
 pub record RowFits (states : List SlabState) (lender : Lender) (row : LenderRow) : Type 0 where
-  pub held : row.held ≡ count_by (λ state. is_at lender state) states
+  pub borrowing : (slab : Slab) → stands row.borrowing slab.0 ≡ borrows_from lender (state_of states slab)
   pub leases :
       (lease : Lease) (slab : Slab)
       → count_by (λ l. is_entry lease slab l) row.leases ≡ one (has_lease lender lease (state_of states slab))

@@ -1,9 +1,11 @@
-ghost use Rattle.std.specs.Prelude.{◌≡◌, ℕ, ◌+◌, ◌-◌, ◌<◌, ◌≤◌, ◌^◌, length, IfOk, IsSome, find, position, nat_lt};
-ghost use Rattle.swap_slabs.specs.Rows.{new_row, has_number, without, slab_in, Ascend, IsPlace, Puts};
+ghost use Rattle.std.specs.Prelude.{◌≡◌, ℕ, ◌<◌, ◌≤◌, ◌^◌, true, false, length, IfOk, IsSome, find, position};
+ghost use Rattle.swap_places.specs.Line.{stands};
+ghost use Rattle.swap_slabs.specs.Rows.{new_row, has_number, without, slab_in, slab_of_row, Ascend, IsPlace, Puts, SetsBorrowing};
 
-use std::alloc::{AllocError, Global};
+use std::alloc::Global;
 use std::marker::Model;
-use swap_base::{Lease, Slab};
+use swap_base::{Lease, NoMemory, Slab};
+use swap_places::{Line, is_a_line};
 
 /// A lease with the slab that has it.
 #[derive(Clone, Copy)]
@@ -12,59 +14,73 @@ pub(crate) struct Leased {
     pub(crate) slab: Slab,
 }
 
-/// What one lender has of the slabs: how many are borrowed from it, mapped to it or drain at it,
-/// and the leases of those that are mapped or drain, ascending, so that one is found by halving. It
-/// has room for a lease of every slab.
+/// What one lender has of the slabs: those that borrow from it, and the leases of those that are
+/// mapped to it or drain at it, ascending, so that one is found by halving. It has room for every
+/// slab, and for a lease of each.
 #[derive(Drop)]
 pub(crate) struct Row {
-    held: u32,
+    borrowing: Line,
     leases: Vec<Leased>,
     room: u32,
 }
 
 impl Model for Row {
-    ghost use Rattle.std.specs.Prelude.{◌≤◌, vec_capacity};
+    ghost use Rattle.std.specs.Prelude.{◌≡◌, ◌≤◌, vec_capacity};
     ghost use Rattle.swap_slabs.specs.Rows.{LenderRow, Ascend};
 
     ghost Value = { LenderRow };
 
-    ghost view = { λ r. record { held = r.held; leases = r.leases.items; room = r.room } };
+    ghost view = { λ r.
+        record { borrowing = r.borrowing.numbers; leases = r.leases.items; room = r.room } };
 
-    ghost invariant = { λ r. (r.room ≤ vec_capacity r.leases) × Ascend r.leases.items };
+    ghost invariant = { λ r.
+        (r.borrowing.bound ≡ r.room) × (r.room ≤ vec_capacity r.leases) × Ascend r.leases.items };
 }
 
 impl Row {
-    pub(crate) fn make(alloc: Global, room: u32) -> Result<Row, AllocError>
+    pub(crate) fn make(alloc: Global, room: u32) -> Result<Row, NoMemory>
         ensures { IfOk result (λ r. r ≡ new_row room) }
     {
-        Ok(Row {
-            held: 0,
-            leases: Vec::with_capacity(alloc, room as usize)?,
-            room,
-        })
+        let borrowing = Line::make(alloc, room)?;
+        match Vec::with_capacity(alloc, room as usize) {
+            Ok(leases) => Ok(Row {
+                borrowing,
+                leases,
+                room,
+            }),
+            Err(_) => Err(NoMemory),
+        }
     }
 
-    /// Whether a slab is borrowed from the lender, mapped to it or drains at it.
-    pub(crate) fn holds(&self) -> bool
-        ensures { result ≡ nat_lt 0 self.now.held }
+    /// A slab that is borrowed from the lender, mapped to it or drains at it. Where one has a lease
+    /// it is the one of the highest, whose place is given up at once.
+    pub(crate) fn slab(&self) -> Option<Slab>
+        ensures { result ≡ slab_of_row self.now }
     {
-        0 < self.held
+        match self.leases.last() {
+            Some(leased) => Some(leased.slab),
+            None => self.borrowing.first().map(Slab),
+        }
     }
 
-    /// One slab more is at the lender.
-    pub(crate) fn hold(&mut self)
-        requires { self.old.held + 1 < 2 ^ 32 }
-        ensures { self.new ≡ record self.old { held = self.old.held + 1 } }
+    /// A slab borrows from the lender.
+    pub(crate) fn borrow(&mut self, slab: Slab)
+        requires below { slab.0 < self.old.room }
+        requires out { stands self.old.borrowing slab.0 ≡ false }
+        ensures { SetsBorrowing self.old slab true self.new }
     {
-        self.held += 1;
+        is_a_line();
+        self.borrowing.enter(slab.0);
     }
 
-    /// One slab fewer is at the lender.
-    pub(crate) fn let_go(&mut self)
-        requires { 0 < self.old.held }
-        ensures { self.new ≡ record self.old { held = self.old.held - 1 } }
+    /// A slab that borrows was lent a slot, or refused.
+    pub(crate) fn answer(&mut self, slab: Slab)
+        requires { stands self.old.borrowing slab.0 ≡ true }
+        ensures { SetsBorrowing self.old slab false self.new }
     {
-        self.held -= 1;
+        is_a_line();
+        self.borrowing.keeps();
+        self.borrowing.leave(slab.0);
     }
 
     /// A slab has a lease.
@@ -76,25 +92,13 @@ impl Row {
         self.leases.insert(place, leased).unwrap();
     }
 
-    /// A slab no longer has its lease, and isn't at the lender.
+    /// A slab no longer has its lease.
     pub(crate) fn give_up(&mut self, lease: Lease)
-        requires held { 0 < self.old.held }
-        requires lease { IsSome (find (has_number lease) self.old.leases) }
-        ensures { self.new
-            ≡ record self.old
-            { held = self.old.held - 1; leases = without lease self.old.leases } }
+        requires { IsSome (find (has_number lease) self.old.leases) }
+        ensures { self.new ≡ record self.old { leases = without lease self.old.leases } }
     {
         let place = place_of(&self.leases, lease).unwrap();
         self.leases.remove(place);
-        self.held -= 1;
-    }
-
-    /// No slab is at the lender.
-    pub(crate) fn clear(&mut self)
-        ensures { self.new ≡ new_row self.old.room }
-    {
-        self.leases.clear();
-        self.held = 0;
     }
 
     /// The slab that has a lease.

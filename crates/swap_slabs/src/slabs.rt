@@ -1,5 +1,5 @@
-ghost use Rattle.std.specs.Prelude.{◌≡◌, ℕ, ◌+◌, ◌<◌, ◌≤◌, false, length, IfOk, IsTrue, Some, None, replicate};
-ghost use Rattle.swap_slabs.specs.Slabs.{all_local, state_of, with_state, is_local, is_borrowing, is_mapped, is_at, leased_of, flying_of, asks, is_waiting, replied, waits, free_in, choice, pair_of, asked, answered, answer_choice, borrowed, lent, refused, begun, drained, given_at, settled, settled_lease, evicted, evicted_lease, after_lost, lost, holds, by_lease, mapped};
+ghost use Rattle.std.specs.Prelude.{◌≡◌, ℕ, ◌+◌, ◌<◌, ◌≤◌, false, length, IfOk, IfSome, IsSome, IsTrue, is_some, Some, None, replicate};
+ghost use Rattle.swap_slabs.specs.Slabs.{all_local, state_of, with_state, is_local, is_borrowing, is_mapped, is_at, lender_of, leased_of, flying_of, asks, is_waiting, replied, waits, free_in, choice, pair_of, asked, answered, answer_choice, borrowed, lent, refused, begun, drained, given_at, settled, settled_lease, evicted, evicted_lease, holds, by_lease, mapped};
 ghost use Rattle.swap_slabs.specs.Kept.{IsSlabs, IsSecond, IsNew};
 ghost use Rattle.swap_slabs.specs.Rows.{new_row, one};
 
@@ -34,9 +34,7 @@ fn make_rows(alloc: Global, room: u32) -> Result<Vec<Row>, NoMemory>
 {
     let mut rows = Vec::new(alloc);
     for _ in 0..MOST_LENDERS {
-        let Ok(row) = Row::make(alloc, room) else {
-            return Err(NoMemory);
-        };
+        let row = Row::make(alloc, room)?;
         if rows.push(row).is_err() {
             return Err(NoMemory);
         }
@@ -86,45 +84,6 @@ fn choice(pair: Pair) -> Chosen
     } else {
         Chosen::Nobody
     }
-}
-
-fn is_at(state: SlabState, lender: Lender) -> bool
-    ensures { result ≡ is_at lender state }
-{
-    match state {
-        SlabState::Local | SlabState::Asking(_) => false,
-        SlabState::Borrowing { lender: other } => other.0 == lender.0,
-        SlabState::Mapped { lender: other, .. } => other.0 == lender.0,
-        SlabState::Draining { lender: other, .. } => other.0 == lender.0,
-    }
-}
-
-fn after_lost(lender: Lender, state: SlabState) -> SlabState
-    ensures { result ≡ after_lost lender state }
-{
-    if is_at(state, lender) {
-        SlabState::Local
-    } else {
-        state
-    }
-}
-
-/// Each slab at the lender is local.
-fn send_home(states: &mut [SlabState], lender: Lender)
-    ensures { states.new ≡ lost states.old lender }
-{
-    for state in states.iter_mut() {
-        *state = after_lost(lender, *state);
-    }
-}
-
-fn count_mapped(states: &[SlabState]) -> usize
-    ensures { result ≡ mapped states.now }
-{
-    states
-        .iter()
-        .filter(|state| matches!(state, SlabState::Mapped { .. }))
-        .count()
 }
 
 /// The number of mapped slabs without this one.
@@ -234,7 +193,7 @@ impl Slabs {
     {
         self.states[slab.0 as usize] = SlabState::Borrowing { lender };
         let row = &mut self.rows[lender.0 as usize];
-        row.hold();
+        row.borrow(slab);
     }
 
     /// The lender lent a slot by a lease that no slab of it has: the slab is mapped.
@@ -254,6 +213,7 @@ impl Slabs {
         };
         self.mapped += 1;
         let row = &mut self.rows[lender.0 as usize];
+        row.answer(slab);
         row.add(Leased { lease, slab });
     }
 
@@ -268,7 +228,7 @@ impl Slabs {
         };
         self.states[slab.0 as usize] = SlabState::Local;
         let row = &mut self.rows[lender.0 as usize];
-        row.let_go();
+        row.answer(slab);
     }
 
     /// One request more flies for a mapped slab.
@@ -365,15 +325,31 @@ impl Slabs {
         }
     }
 
-    /// A lender is lost: each slab that is borrowed from it, mapped to it or drains at it is local.
-    pub fn lost(&mut self, lender: Lender)
+    /// A slab that is borrowed from the lender, mapped to it or drains at it.
+    pub fn one_at(&self, lender: Lender) -> Option<Slab>
         requires { lender.0 < MOST_LENDERS }
-        ensures { self.new ≡ lost self.old lender }
+        ensures some { is_some result ≡ holds self.now lender }
+        ensures within { IfSome result (λ slab. slab.0 < length self.now) }
+        ensures at { IfSome result (λ slab. IsTrue (is_at lender (state_of self.now slab))) }
     {
-        send_home(&mut self.states, lender);
-        self.mapped = count_mapped(&self.states) as u32;
-        let row = &mut self.rows[lender.0 as usize];
-        row.clear();
+        let row = &self.rows[lender.0 as usize];
+        row.slab()
+    }
+
+    /// A slab that is borrowed from a lender, mapped to it or drains at it is local: its lender is
+    /// lost.
+    pub fn send_home(&mut self, slab: Slab)
+        requires slab { slab.0 < length self.old }
+        requires held { IsSome (lender_of (state_of self.old slab)) }
+        ensures { self.new ≡ with_state self.old slab SlabState.Local }
+    {
+        match self.states[slab.0 as usize] {
+            SlabState::Borrowing { .. } => self.refused(slab),
+            SlabState::Mapped { lender, lease, .. } | SlabState::Draining { lender, lease, .. } => {
+                self.drain(slab, lender, lease, 0);
+            }
+            SlabState::Local | SlabState::Asking(_) => unreachable!(),
+        }
     }
 
     /// Whether a slab is borrowed from the lender, mapped to it or drains at it.
@@ -381,8 +357,7 @@ impl Slabs {
         requires { lender.0 < MOST_LENDERS }
         ensures { result ≡ holds self.now lender }
     {
-        let row = &self.rows[lender.0 as usize];
-        row.holds()
+        self.one_at(lender).is_some()
     }
 
     /// The slab that is mapped or drains at the lender with this lease.

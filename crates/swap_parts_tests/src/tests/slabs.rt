@@ -187,7 +187,9 @@ fn make(rt: &impl Abort, slabs: &mut Slabs, slab: Slab, step: Move) -> Told
         }
         Move::Lost(lender) => {
             assert!(rt; lender < MOST_LENDERS);
-            slabs.lost(Lender(lender));
+            if let Some(slab) = slabs.one_at(Lender(lender)) {
+                slabs.send_home(slab);
+            }
             assert!(rt; !slabs.holds(Lender(lender)));
         }
     }

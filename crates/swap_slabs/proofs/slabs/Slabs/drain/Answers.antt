@@ -1,9 +1,9 @@
-use Rattle.std.proofs.Common.{◌≡◌, ◌+◌, ◌-◌, ◌<◌, ◌≤◌, List, length, find, sym, ap, ◌∙◌, subst, arith, Some, IsSome}
+use Rattle.std.proofs.Common.{◌≡◌, ◌+◌, ◌<◌, ◌≤◌, List, length, find, sym, ap, ◌∙◌, subst, arith, Some, IsSome}
 use Rattle.swap_slabs.specs.declared.SlabState.{SlabState}
 use Rattle.swap_slabs.specs.Slabs.{state_of, is_mapped, flying_of, leased_of}
 use Rattle.swap_slabs.specs.Rows.{LenderRow, has_number, without, one}
 use Rattle.swap_slabs.proofs.RowReads.{row_read, state_read}
-use Rattle.swap_slabs.proofs.Moves.{held_some, given_fits, lease_found, leased_range, mapped_some, drain_fits, leased_lender}
+use Rattle.swap_slabs.proofs.Moves.{given_fits, lease_found, leased_range, mapped_some, drain_fits}
 use Rattle.swap_slabs.proofs.slabs.Slabs.drain.Goals as goal
 
 pub fewer-self-inside-requires : goal.fewer-self-inside-requires
@@ -21,24 +21,8 @@ fewer-self-inside-requires c =
       ap (λ s. one (is_mapped s)) there,
     )
 
-pub give_up-requires-clause-held : goal.give_up-requires-clause-held
-give_up-requires-clause-held c =
-    let lt : c.args.slab.0 < length c.self.inside.states.items =
-    subst (λ (l : List SlabState). c.args.slab.0 < length l) (sym c.self.view_is) c.requires.slab in
-    let leased : leased_of (state_of c.self.inside.states.items c.args.slab) ≡ Some (c.args.lender, c.args.lease) =
-    subst (λ (l : List SlabState). leased_of (state_of l c.args.slab) ≡ Some (c.args.lender, c.args.lease)) (sym c.self.view_is) c.requires.leased in
-    let range = leased_range (state_of c.self.inside.states.items c.args.slab) c.args.lender c.args.lease (c.self.invariant.slabs.fits c.args.slab) leased in
-    let there : state_of c.self.inside.states.items c.args.slab ≡ c.index.result.now =
-    state_read c.self.inside.states.items c.args.slab c.index.result.now lt c.index.ensures in
-    let read =
-    row_read c.self.inside.states.items c.self.inside.rows.items c.self.inside.mapped c.args.lender c.self.invariant range.0 c.index_mut-row.result.now
-    c.index_mut-row.ensures.value in
-    subst (λ (r : LenderRow). 0 < r.held) (sym read)
-    (held_some c.self.inside.states.items c.args.slab c.self.inside.rows.items c.self.inside.mapped c.args.lender lt c.self.invariant
-    (leased_lender (state_of c.self.inside.states.items c.args.slab) c.args.lender c.args.lease leased) range.0)
-
-pub give_up-requires-clause-lease : goal.give_up-requires-clause-lease
-give_up-requires-clause-lease c =
+pub give_up-requires : goal.give_up-requires
+give_up-requires c =
     let lt : c.args.slab.0 < length c.self.inside.states.items =
     subst (λ (l : List SlabState). c.args.slab.0 < length l) (sym c.self.view_is) c.requires.slab in
     let leased : leased_of (state_of c.self.inside.states.items c.args.slab) ≡ Some (c.args.lender, c.args.lease) =
@@ -67,7 +51,7 @@ invariant_of-self c =
     c.index_mut-row.ensures.value in
     let counted : c.fewer-self-inside.result + one (is_mapped (state_of c.self.inside.states.items c.args.slab)) ≡ c.self.inside.mapped =
     omega (arith, c.fewer-self-inside.ensures, ap (λ s. one (is_mapped s)) there) in
-    let F : LenderRow → LenderRow = λ r. record r { held = r.held - 1; leases = without c.args.lease r.leases } in
+    let F : LenderRow → LenderRow = λ r. record r { leases = without c.args.lease r.leases } in
     given_fits c.self.inside.states.items c.args.slab c.self.inside.rows.items c.self.inside.mapped c.fewer-self-inside.result c.args.lender c.args.lease lt
     c.self.invariant leased range.0 c.give_up.new.self
     (c.give_up.ensures ∙ ap F read) counted
