@@ -1,9 +1,10 @@
 -- The set, number by number.
-use Rattle.std.proofs.Common.{◌≡◌, ◌≢◌, ℕ, ◌+◌, ◌-◌, ◌<◌, ◌≤◌, Bool, true, false, cond, ◌==◌, nat_lt, nat_le, List, [], ◌∷◌, ◌++◌, length, take, drop, get_or, set, replicate, count_by, sym, ap, ◌∙◌, arith, ⊎_elim, length-set, length-append, length-take, length-drop, eq-eqb, ne_eqb, get_or-set_same, get_or-set_other, lt-ltb, le-ltb, le-leb, get_or-take, get_or-drop, take-add, drop-drop, zero-add}
-use Rattle.std.proofs.lemmas.Bool.{cases_eq, cases_lt, lt-leb, cond-true, cond-false, and_left, and_right, and_from}
-use Rattle.std.proofs.lemmas.List.{set_past, get_or_append_left, get_or-append_right, get_or-replicate, length-replicate, get_or_past, drop_more}
+use Rattle.std.proofs.Common.{◌≡◌, ◌≢◌, ℕ, ◌+◌, ◌-◌, ◌<◌, ◌≤◌, Bool, true, false, cond, ◌==◌, List, [], ◌∷◌, ◌++◌, length, take, drop, get_or, set, count_by, sym, ap, ◌∙◌, arith, ⊎_elim, length-set, eq-eqb, ne_eqb, get_or-set_same, get_or-set_other, take-add, drop-drop, zero-add}
+use Rattle.std.proofs.lemmas.Bool.{cases_eq, cases_lt, cond-true, cond-false}
+use Rattle.std.proofs.lemmas.List.{set_past, get_or_past, drop_more}
 use Rattle.std.proofs.lemmas.List.Sums.{sum_by-append}
-use Rattle.swap_bits.specs.Bits.{has, is_in_range, AddsOne, TakesOne, TakesRange, CountsParts, CountsOne, KeepsBound}
+use Rattle.swap_bits.specs.lemmas.Ranges.{length-without_range}
+use Rattle.swap_bits.specs.Bits.{has, AddsOne, TakesOne, CountsParts, CountsOne, KeepsBound}
 
 -- the set with one value replaced
 pub has_set : (s : List Bool) (i j : ℕ) (v : Bool) → i < length s → has (set s i v) j ≡ cond (i == j) v (has s j)
@@ -30,32 +31,6 @@ takes_one s i j =
     (λ (ne : i ≢ j). get_or-set_other s i j false false (λ e. ne (sym e)) ∙ sym (cond-false (i == j) false (has s j) (ne_eqb i j ne)))
     (cases_eq i j)
 
-length-front : (s : List Bool) (first : ℕ) → first ≤ length s → length (take first s) ≡ first
-length-front s first le = omega (arith, length-take first s, le)
-
-pub takes_range : TakesRange
-takes_range s first end i le within =
-    let front : length (take first s) ≡ first = length-front s first (omega arith) in
-    let middle : length (replicate (end - first) false) ≡ end - first = length-replicate (end - first) false in
-    ⊎_elim
-    (λ (before : i < first).
-    get_or_append_left (take first s) (replicate (end - first) false ++ drop end s) false i (omega (arith, front, before)) ∙ get_or-take first s i false before
-    ∙ sym (cond-false (is_in_range first end i) false (has s i) (and_left (nat_le first i) (nat_lt i end) (lt-leb first i before))))
-    (λ (after : first ≤ i).
-    get_or-append_right (take first s) (replicate (end - first) false ++ drop end s) first i false front after
-    ∙ ⊎_elim
-    (λ (inside : i < end).
-    get_or_append_left (replicate (end - first) false) (drop end s) false (i - first) (omega (arith, middle, inside, after))
-    ∙ get_or-replicate (end - first) (i - first) false false (omega (arith, inside, after))
-    ∙ sym (cond-true (is_in_range first end i) false (has s i) (and_from (nat_le first i) (nat_lt i end) (le-leb first i after) (lt-ltb i end inside))))
-    (λ (past : end ≤ i).
-    get_or-append_right (replicate (end - first) false) (drop end s) (end - first) (i - first) false middle (omega (arith, past, le))
-    ∙ get_or-drop end s (i - first - (end - first)) false
-    ∙ ap (λ n. get_or s n false) (omega (arith, past, le, after))
-    ∙ sym (cond-false (is_in_range first end i) false (has s i) (and_right (nat_le first i) (nat_lt i end) (le-ltb i end past))))
-    (cases_lt i end))
-    (cases_lt i first)
-
 pub counts_parts : CountsParts
 counts_parts s first middle end le le' within =
     let split : take (end - first) (drop first s) ≡ take (middle - first) (drop first s) ++ take (end - middle) (drop middle s) =
@@ -71,17 +46,4 @@ counts_one s i lt =
     ap (λ l. count_by (λ (b : Bool). b) l) one ∙ zero-add (cond (has s i) 1 0)
 
 pub keeps_bound : KeepsBound
-keeps_bound s first end i le within = (
-  length-set s i true,
-  length-set s i false,
-  length-append (take first s) (replicate (end - first) false ++ drop end s)
-      ∙ omega (
-        arith,
-        length-front s first (omega arith),
-        length-append (replicate (end - first) false) (drop end s),
-        length-replicate (end - first) false,
-        length-drop end s,
-        le,
-        within,
-      ),
-)
+keeps_bound s first end i le within = (length-set s i true, length-set s i false, length-without_range s first end le within)
