@@ -3,7 +3,7 @@ use Rattle.std.proofs.Common.{◌≡◌, ◌≢◌, ℕ, ◌+◌, ◌-◌, ◌<�
 use Rattle.std.proofs.lemmas.Bool.{cases_eq, cases_lt, cond-true, cond-false}
 use Rattle.std.proofs.lemmas.List.{set_past, get_or_past, drop_more}
 use Rattle.std.proofs.lemmas.List.Sums.{sum_by-append}
-use Rattle.swap_bits.specs.lemmas.Ranges.{length-without_range}
+use Rattle.swap_bits.specs.lemmas.Taken.{length-without_range}
 use Rattle.swap_bits.specs.Bits.{has, AddsOne, TakesOne, CountsParts, CountsOne, KeepsBound}
 
 -- the set with one value replaced

@@ -7,7 +7,7 @@ use Rattle.std.proofs.lemmas.Nat.{pow_pos, mod_below, div-add-mod'}
 use Rattle.std.proofs.lemmas.Nat.Bits.{bit_at_or, bit_at-zero, bit_at_above, bit_at_cat_low, bit_at_cat_high}
 use Rattle.swap_bits.specs.Bits.{is_in_range, without_range}
 use Rattle.swap_bits.specs.Words.{is_in, set_of}
-use Rattle.swap_bits.specs.lemmas.Ranges.{takes_range}
+use Rattle.swap_bits.specs.lemmas.Taken.{takes_range}
 use Rattle.swap_bits.proofs.Numbers.{keeps_bound}
 use Rattle.swap_bits.proofs.InWords.{length-set_of, has_of, set_by_all, is_in_word, is_in_other}
 

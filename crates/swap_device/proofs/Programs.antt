@@ -16,7 +16,7 @@ use Rattle.swap_slabs.specs.declared.SlabState.{SlabState}
 use Rattle.swap_slabs.specs.declared.SlabState.TheVariants.{Asking}
 use Rattle.swap_activity.specs.Rates.{Activity}
 use Rattle.swap_rates.specs.Table.{hottest}
-use Rattle.swap_rates.proofs.Hottest.{hottest_within}
+use Rattle.swap_rates.specs.lemmas.Hottest.{hottest_within}
 use Rattle.swap_remote.specs.Remote.{Remote, query_sent}
 use Rattle.swap_disk.specs.Port.{DiskCall, DiskAnswer}
 use Rattle.swap_wire.specs.declared.Msg.{Msg}

@@ -38,7 +38,7 @@ use Rattle.swap_rings.specs.Rings as rings
 use Rattle.swap_rings.specs.Rings.{LinkState, link_of, ring_of, is_up}
 use Rattle.swap_remote.specs.Remote as remote
 use Rattle.swap_remote.specs.Remote.{Remote, slab_for, has_page}
-use Rattle.swap_remote.proofs.Left.{get_or-left}
+use Rattle.swap_remote.specs.lemmas.Cleared.{get_or-left}
 use Rattle.swap_table.specs.Device.{Device, enter, give, fault, lost}
 use Rattle.swap_table.proofs.Lists.{by_page, by_caller, not_eqb}
 use Rattle.swap_table.proofs.Links.{by_slab, link-other, state-same, state-other}

@@ -29,7 +29,7 @@ use Rattle.swap_rings.specs.declared.Request.{Request}
 use Rattle.swap_rings.specs.declared.Request.TheVariants as request
 use Rattle.swap_remote.specs.Remote as remote
 use Rattle.swap_remote.specs.Remote.{Remote, slab_for, state_for, has_page}
-use Rattle.swap_remote.proofs.Asked.{evicted_bit, length-evicted}
+use Rattle.swap_remote.specs.lemmas.Cleared.{evicted_bit, length-evicted}
 use Rattle.swap_table.specs.Device.{Device, Heard, query_reply, borrow_reply, write_reply, read_reply, rate_asked, taken_back, is_newest, done_word}
 use Rattle.swap_table.specs.Serves.{is_for_slab, flying_for, entry_to, latest, IsLeasedFrom, IsAwaited, MayPrecede, AreInOrder, SlabFits, PageFits}
 use Rattle.swap_table.specs.Moves.{words, Hears, roomy, lent, refused, written, brought, asked_rate, told_to_go}

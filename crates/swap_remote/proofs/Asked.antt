@@ -1,15 +1,12 @@
--- The lenders that are asked are lenders, and two are different; which slab a lease names; and an evicted slab's bits.
-use Rattle.std.proofs.Common.{◌≡◌, ◌≢◌, ℕ, ◌+◌, ◌*◌, ◌<◌, ◌≤◌, Bool, true, false, ◌&&◌, ◌==◌, if◌then◌else◌, not, nat_eq, List, [], ◌∷◌, ◌++◌, length, position, option_map, Option, None, Some, refl, sym, ap, ◌∙◌, subst, arith, ⊎_elim, ne_eqb, eq-eqb}
+-- The lenders that are asked are lenders, and two are different; and which slab a lease names.
+use Rattle.std.proofs.Common.{◌≡◌, ◌≢◌, ℕ, ◌+◌, ◌<◌, ◌≤◌, Bool, true, false, ◌&&◌, not, nat_eq, List, [], ◌∷◌, ◌++◌, length, position, option_map, Option, None, Some, refl, sym, ap, ◌∙◌, subst, arith, ⊎_elim, ne_eqb, eq-eqb}
 use Rattle.std.specs.List.{AllByRecursion, Contains, IsDistinct}
-use Rattle.std.proofs.lemmas.Bool.{cases_eq, cases_Bool, cond-true, cond-false, false≢true, and_parts}
+use Rattle.std.proofs.lemmas.Bool.{cases_Bool, cond-true, cond-false, false≢true, and_parts}
 use Rattle.std.proofs.lemmas.List.Elements.{All-contains, All-from_recursion}
 use Rattle.std.proofs.lemmas.List.Quantifiers.{position-Some}
 use Rattle.swap_base.specs.declared.Slab.{Slab}
 use Rattle.swap_base.specs.declared.Lender.{Lender}
 use Rattle.swap_base.specs.declared.Lease.{Lease}
-use Rattle.swap_base.specs.Sizes.{Sizes, pages_of, slab_of}
-use Rattle.swap_bits.specs.Bits.{has, is_in_range}
-use Rattle.swap_bits.proofs.Numbers.{takes_range, keeps_bound}
 use Rattle.swap_slabs.specs.declared.SlabState.{SlabState}
 use Rattle.swap_slabs.specs.declared.SlabState.TheVariants.{Local}
 use Rattle.swap_slabs.specs.declared.TheConstants.{MOST_LENDERS}
@@ -19,9 +16,8 @@ use Rattle.swap_choice.specs.declared.lenders.Asked.{Asked}
 use Rattle.swap_choice.specs.declared.lenders.Asked.TheVariants.{Nobody, One, Two}
 use Rattle.swap_choice.specs.Asked as choice
 use Rattle.swap_choice.proofs.PicksLemmas.{asked_members, asked_different}
-use Rattle.swap_remote.specs.Remote.{Remote, up_from, fresh, others, only_mapped, mapped_by, evicted}
+use Rattle.swap_remote.specs.Remote.{Remote, up_from, fresh, others, only_mapped, mapped_by}
 use Rattle.swap_remote.specs.Kept.{AreAsked}
-use Rattle.swap_remote.proofs.Left.{in_slab, off_slab, range_ends}
 
 -- what is true of each lender that meets a test is true of each that is listed
 up_each :
@@ -148,28 +144,3 @@ pub mapped_by_mapped :
     (states : List SlabState) (lender : Lender) (lease : Lease) (slab : Slab) → mapped_by states lender lease ≡ Some slab
     → slabs.is_mapped (slabs.state_of states slab) ≡ true
 mapped_by_mapped states lender lease slab is = (only_mapped_is states (slabs.by_lease states lender lease) slab is).1
-
--- an evicted slab's bits are cleared, and no other
-pub evicted_bit :
-    (s : Sizes) (r : Remote) (slab : Slab) (q : ℕ) → slab.0 < s.slabs → length r.bits ≡ pages_of s → 0 < s.pages_per_slab
-    → has (evicted s r slab).bits q ≡ (if slab_of s q == slab.0 then false else has r.bits q)
-evicted_bit s r slab q within len some =
-    let ends : slab.0 * s.pages_per_slab + s.pages_per_slab ≤ length r.bits =
-    subst (λ n. slab.0 * s.pages_per_slab + s.pages_per_slab ≤ n) (sym len) (range_ends s.pages_per_slab s.slabs slab.0 within) in
-    takes_range r.bits (slab.0 * s.pages_per_slab) (slab.0 * s.pages_per_slab + s.pages_per_slab) q (omega arith) ends
-    ∙ ⊎_elim
-    (λ (is : slab_of s q ≡ slab.0).
-    cond-true (is_in_range (slab.0 * s.pages_per_slab) (slab.0 * s.pages_per_slab + s.pages_per_slab) q) false (has r.bits q)
-    (in_slab s.pages_per_slab slab.0 q some is)
-    ∙ sym (cond-true (slab_of s q == slab.0) false (has r.bits q) (eq-eqb (slab_of s q) slab.0 is)))
-    (λ (other : slab_of s q ≢ slab.0).
-    cond-false (is_in_range (slab.0 * s.pages_per_slab) (slab.0 * s.pages_per_slab + s.pages_per_slab) q) false (has r.bits q)
-    (off_slab s.pages_per_slab slab.0 q some other)
-    ∙ sym (cond-false (slab_of s q == slab.0) false (has r.bits q) (ne_eqb (slab_of s q) slab.0 other)))
-    (cases_eq (slab_of s q) slab.0)
-
-pub length-evicted : (s : Sizes) (r : Remote) (slab : Slab) → slab.0 < s.slabs → length r.bits ≡ pages_of s → length (evicted s r slab).bits ≡ length r.bits
-length-evicted s r slab within len =
-    let ends : slab.0 * s.pages_per_slab + s.pages_per_slab ≤ length r.bits =
-    subst (λ n. slab.0 * s.pages_per_slab + s.pages_per_slab ≤ n) (sym len) (range_ends s.pages_per_slab s.slabs slab.0 within) in
-    (keeps_bound r.bits (slab.0 * s.pages_per_slab) (slab.0 * s.pages_per_slab + s.pages_per_slab) 0 (omega arith) ends).2

@@ -1,14 +1,12 @@
 -- While a lender's slabs are sent home one after another: what is left of slabs and bits stays the same.
-use Rattle.std.proofs.Common.{◌≡◌, ◌≢◌, ℕ, ◌+◌, ◌*◌, ◌/◌, ◌<◌, ◌≤◌, Bool, true, false, ◌&&◌, not, nat_lt, nat_le, zero, suc, List, [], ◌∷◌, length, get_or, count_by, refl, sym, ap, ap₂, ◌∙◌, subst, arith, ⊎_elim, lt-ltb, le-ltb, le-leb, add-zero, zero-add, length-set, get_or-set_other}
-use Rattle.std.proofs.lemmas.Bool.{cases_eq, cases_lt, cases_Bool, lt-leb, cond-true, cond-false, and_left, and_right, and_from, false≢true}
+use Rattle.std.proofs.Common.{◌≡◌, ◌≢◌, ℕ, ◌+◌, ◌*◌, ◌/◌, ◌<◌, ◌≤◌, Bool, true, false, ◌&&◌, not, List, [], ◌∷◌, length, get_or, count_by, refl, sym, ap, ap₂, ◌∙◌, arith, ⊎_elim, zero-add, length-set, get_or-set_other}
+use Rattle.std.proofs.lemmas.Bool.{cases_eq, cases_lt, cases_Bool, cond-true, cond-false, false≢true}
 use Rattle.std.proofs.lemmas.List.{ext_get_or, get_or_past, length-map}
 use Rattle.std.proofs.lemmas.List.Folds.{list_any_at}
 use Rattle.std.proofs.lemmas.List.Sums.{sum_by-set}
 use Rattle.std.proofs.Math.Bool.{and-false, and-true}
 use Rattle.std.proofs.Math.ListN.{get_or-map}
-use Rattle.std.proofs.Math.Numerals.{add-one}
 use Rattle.std.proofs.Math.Seq.{map-set_same}
-use Rattle.std.proofs.Math.Nat.{div-lt_iff_lt-mul, le-div_iff_mul-le, suc-mul, mul_comm, mul-le-mul_right}
 use Rattle.swap_base.specs.declared.Lender.{Lender}
 use Rattle.swap_base.specs.declared.Slab.{Slab}
 use Rattle.swap_base.specs.Sizes.{Sizes, pages_of, slab_of}
@@ -18,10 +16,7 @@ use Rattle.swap_slabs.specs.declared.SlabState.TheVariants.{Local}
 use Rattle.swap_slabs.specs.Slabs.{state_of, with_state, is_at, after_lost, lost, holds}
 use Rattle.swap_slabs.specs.Rows.{one}
 use Rattle.swap_remote.specs.Remote.{left_from}
-
--- the slab of a number is at the lender
-abbrev pub at : List SlabState → Lender → ℕ → Bool
-at states lender slab = is_at lender (state_of states (record { 0 = slab }))
+use Rattle.swap_remote.specs.lemmas.Cleared.{at, in_slab, off_slab, length-left, get_or-left}
 
 -- a loss from here comes to what the loss at first comes to
 pub record IsLeaving (s : Sizes) (lender : Lender) (states : List SlabState) (bits : List Bool) (states' : List SlabState) (bits' : List Bool) : Type 0 where
@@ -29,38 +24,6 @@ pub record IsLeaving (s : Sizes) (lender : Lender) (states : List SlabState) (bi
   pub bits_len : length bits' ≡ pages_of s
   pub slabs_left : lost states' lender ≡ lost states lender
   pub bits_left : left_from s states' lender bits' 0 ≡ left_from s states lender bits 0
-
--- a slab's pages are those in its range
-pub in_slab : (e n q : ℕ) → 0 < e → q / e ≡ n → is_in_range (n * e) (n * e + e) q ≡ true
-in_slab e n q some is =
-    let low : n * e ≤ q = (le-div_iff_mul-le {k = e} {x = n} {y = q} some).0 (subst (λ m. n ≤ m) (sym is) (omega arith)) in
-    let high : q < (n + 1) * e = (div-lt_iff_lt-mul {k = e} {x = q} {y = n + 1} some).0 (subst (λ m. m < n + 1) (sym is) (omega arith)) in
-    let more : (n + 1) * e ≡ n * e + e = ap (λ m. m * e) (add-one n) ∙ suc-mul n e in
-    and_from (nat_le (n * e) q) (nat_lt q (n * e + e)) (le-leb (n * e) q low) (lt-ltb q (n * e + e) (subst (λ m. q < m) more high))
-
-pub off_slab : (e n q : ℕ) → 0 < e → (q / e ≡ n → ⊥) → is_in_range (n * e) (n * e + e) q ≡ false
-off_slab e n q some other =
-    let more : (n + 1) * e ≡ n * e + e = ap (λ m. m * e) (add-one n) ∙ suc-mul n e in
-    ⊎_elim
-    (λ (below : q / e < n). and_left (nat_le (n * e) q) (nat_lt q (n * e + e)) (lt-leb (n * e) q ((div-lt_iff_lt-mul {k = e} {x = q} {y = n} some).0 below)))
-    (λ (above : n ≤ q / e).
-    let past : n + 1 ≤ q / e = omega (arith, above, other) in
-    let high : (n + 1) * e ≤ q = (le-div_iff_mul-le {k = e} {x = n + 1} {y = q} some).0 past in
-    and_right (nat_le (n * e) q) (nat_lt q (n * e + e)) (le-ltb q (n * e + e) (subst (λ m. m ≤ q) more high)))
-    (cases_lt (q / e) n)
-
--- which pages are left, page by page
-pub length-left : (s : Sizes) (states : List SlabState) (lender : Lender) (bits : List Bool) (n : ℕ) → length (left_from s states lender bits n) ≡ length bits
-length-left s states lender [] n = refl
-length-left s states lender (bit ∷ bits) n = ap suc (length-left s states lender bits (n + 1))
-
-pub get_or-left :
-    (s : Sizes) (states : List SlabState) (lender : Lender) (bits : List Bool) (n i : ℕ)
-    → get_or (left_from s states lender bits n) i false ≡ (get_or bits i false && not (at states lender (slab_of s (n + i))))
-get_or-left s states lender [] n i = refl
-get_or-left s states lender (bit ∷ bits) n zero = ap (λ m. bit && not (at states lender (slab_of s m))) (sym (add-zero n))
-get_or-left s states lender (bit ∷ bits) n (suc i) =
-    get_or-left s states lender bits (n + 1) i ∙ ap (λ m. get_or bits i false && not (at states lender (slab_of s m))) (omega arith)
 
 -- a slab at the lender is sent home, with its bits cleared
 module _ (s : Sizes) (states : List SlabState) (lender : Lender) (bits : List Bool) (slab : Slab) (within : slab.0 < length states)
@@ -133,9 +96,3 @@ module _ (s : Sizes) (states : List SlabState) (lender : Lender) (none : holds s
   pub none_left : (bits : List Bool) (n : ℕ) → left_from s states lender bits n ≡ bits
   none_left [] n = refl
   none_left (bit ∷ bits) n = ap₂ (λ b bs. b ∷ bs) (ap (λ b. bit && not b) (none_at (slab_of s n)) ∙ and-true bit) (none_left bits (n + 1))
-
--- a slab's range ends among the pages
-pub range_ends : (e slabs n : ℕ) → n < slabs → n * e + e ≤ e * slabs
-range_ends e slabs n within =
-    let more : (n + 1) * e ≡ n * e + e = ap (λ m. m * e) (add-one n) ∙ suc-mul n e in
-    subst (λ m. m ≤ e * slabs) more (subst (λ m. (n + 1) * e ≤ m) (mul_comm slabs e) (mul-le-mul_right e (omega (arith, within))))

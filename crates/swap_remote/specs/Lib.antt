@@ -1,2 +1,3 @@
 pub mod Remote
 pub mod Kept
+pub mod lemmas

@@ -12,7 +12,6 @@ use Rattle.swap_base.specs.Sizes.{Sizes, pages_of, slab_of, place_of}
 use Rattle.swap_record.specs.History.{History}
 use Rattle.swap_calls.specs.Calls.{Calls}
 use Rattle.swap_slabs.specs.Slabs as slabs
-use Rattle.swap_slabs.proofs.Change.{lease_in_range}
 use Rattle.swap_slabs.specs.declared.SlabState.{SlabState}
 use Rattle.swap_slabs.specs.declared.SlabState.TheVariants.{Local, Asking, Borrowing, Mapped, Draining}
 use Rattle.swap_rings.specs.Rings.{LinkState, link_of, ring_of, is_up}
@@ -21,7 +20,7 @@ use Rattle.swap_remote.specs.Remote as remote
 use Rattle.swap_remote.specs.Remote.{Remote, slab_for, state_for, has_page}
 use Rattle.swap_table.specs.Serves.{Keeping, Owing, flying_for, IsLeasedFrom, IsAwaited, LinkFits, SlabFits, PageFits, AreSingle, Serves}
 use Rattle.swap_table.proofs.Lists.{All-implies}
-use Rattle.swap_table.proofs.Leases.{single_fewer, only_slab, unleased}
+use Rattle.swap_table.proofs.Leases.{lease_in_range, single_fewer, only_slab, unleased}
 use Rattle.swap_table.proofs.Links.{by_lender, by_slab, state-same, state-other}
 use Rattle.swap_table.proofs.Sends.{link_stays}
 use Rattle.swap_table.proofs.Requests.{KeepsAll, OwesAll, page_stays, same_lease}

@@ -25,7 +25,7 @@ use Rattle.swap_disk.specs.Port.{Port, StartWrite, StartRead, TakeDone, LetFinis
 use Rattle.swap_wire.specs.declared.Msg.{Msg}
 use Rattle.swap_wire.specs.declared.Msg.TheVariants as msg
 use Rattle.swap_activity.specs.Rates.{Activity}
-use Rattle.swap_remote.proofs.Asked.{evicted_bit, length-evicted}
+use Rattle.swap_remote.specs.lemmas.Cleared.{evicted_bit, length-evicted}
 use Rattle.swap_wire.specs.declared.fabric.Sent.TheVariants as sent
 use Rattle.swap_wire.specs.Fabric.{Parcel, parcel_of, Brought, FabricCall, Send, Take, FabricAnswer, FabricOf, ends_keeping, changes_owing, lends, is_page, is_read, replaces}
 use Rattle.swap_calls.specs.Calls as calls

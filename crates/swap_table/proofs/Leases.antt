@@ -1,13 +1,13 @@
 -- A lease of a lender is held by at most one slab.
-use Rattle.std.proofs.Common.{◌≡◌, ◌≢◌, ℕ, ◌+◌, ◌<◌, ◌≤◌, lit≤, Bool, true, false, cond, ◌==◌, ◌&&◌, List, [], ◌∷◌, length, get_or, set, count_by, zero, suc, refl, sym, ap, ◌∙◌, subst, arith, length-set, get_or-set_other, option_map, Option, None, Some, ⊎_elim}
-use Rattle.std.proofs.lemmas.Bool.{eqb-true, cases_eq}
+use Rattle.std.proofs.Common.{◌≡◌, ◌≢◌, ℕ, ◌+◌, ◌<◌, ◌≤◌, lit≤, Bool, true, false, cond, not, nat_lt, ◌==◌, ◌&&◌, List, [], ◌∷◌, length, get_or, set, count_by, zero, suc, refl, sym, ap, ◌∙◌, subst, arith, length-set, get_or-set_other, option_map, Option, None, Some, ⊎_elim}
+use Rattle.std.proofs.lemmas.Bool.{eqb-true, cases_eq, cases_lt, false≢true, ltb-false}
+use Rattle.std.proofs.lemmas.List.{get_or_past}
 use Rattle.std.proofs.lemmas.List.Sums.{get_or-le-sum_by}
-use Rattle.std.specs.List.{position}
+use Rattle.std.specs.List.{position, position_or_len}
 use Rattle.swap_base.specs.declared.Slab.{Slab}
 use Rattle.swap_base.specs.declared.Lender.{Lender}
 use Rattle.swap_base.specs.declared.Lease.{Lease}
 use Rattle.swap_slabs.specs.Slabs as slabs
-use Rattle.swap_slabs.proofs.Change.{lease_in_range, count_none}
 use Rattle.swap_slabs.specs.declared.SlabState.{SlabState}
 use Rattle.swap_slabs.specs.declared.SlabState.TheVariants.{Local, Borrowing, Mapped}
 use Rattle.swap_table.specs.Serves.{AreSingle}
@@ -38,13 +38,37 @@ single_fewer states t x within fewer h l k = go (slabs.has_lease l k x) refl (sl
     go true now false was = let e : true ≡ false = sym (fewer l k now) ∙ was in cc
     go false now true was = let e = count_by-set_less (leased l k) states t.0 x Local within now was in omega (arith, e, h l k)
 
+-- what has a lease is one of the slabs
+pub lease_in_range : (states : List SlabState) (l : Lender) (k : Lease) (s : Slab) → leased l k (slabs.state_of states s) ≡ true → s.0 < length states
+lease_in_range states l k s e =
+    ⊎_elim (λ lt. lt) (λ ge. absurd (false≢true (sym (ap (leased l k) (get_or_past states s.0 Local ge)) ∙ e))) (cases_lt s.0 (length states))
+
 -- no slab has a lease that isn't found
 no_place : {X : Type 0} (f : ℕ → X) (o : Option ℕ) → option_map f o ≡ None → o ≡ None
 no_place f None e = refl
 no_place f (Some n) e = cc
 
+none_passes : (p : SlabState → Bool) (xs : List SlabState) → length xs ≤ position_or_len p xs → count_by p xs ≡ 0
+none_passes p [] le = refl
+none_passes p (x ∷ xs) le = go (p x) refl (λ short. none_passes p xs short)
+  where
+    go : (b : Bool) → p x ≡ b → (length xs ≤ position_or_len p xs → count_by p xs ≡ 0) → count_by p (x ∷ xs) ≡ 0
+    go true is rest =
+        let e : position_or_len p (x ∷ xs) ≡ 0 = ap (λ b. cond (not b) (1 + position_or_len p xs) 0) is in absurd (omega (arith, e, le))
+    go false is rest =
+        let e : position_or_len p (x ∷ xs) ≡ 1 + position_or_len p xs = ap (λ b. cond (not b) (1 + position_or_len p xs) 0) is in
+        count_by-cons p x xs ∙ ap (λ b. one_if b + count_by p xs) is ∙ omega (arith, rest (omega (arith, e, le)))
+
+unplaced : (b : Bool) (n : ℕ) → cond b (Some n) None ≡ None → b ≡ false
+unplaced true n e = cc
+unplaced false n e = refl
+
 unleased_count : (states : List SlabState) (l : Lender) (k : Lease) → slabs.by_lease states l k ≡ None → count_by (leased l k) states ≡ 0
-unleased_count states l k none = count_none (leased l k) states (no_place (λ n. record { 0 = n }) (position (leased l k) states) none)
+unleased_count states l k none =
+    none_passes (leased l k) states
+    (ltb-false (position_or_len (leased l k) states) (length states)
+    (unplaced (nat_lt (position_or_len (leased l k) states) (length states)) (position_or_len (leased l k) states)
+    (no_place (λ n. record { 0 = n }) (position (leased l k) states) none)))
 
 pub unleased :
     (states : List SlabState) (l : Lender) (lease : Lease) (u : Slab) → slabs.by_lease states l lease ≡ None

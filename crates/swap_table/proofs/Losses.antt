@@ -25,7 +25,7 @@ use Rattle.swap_rings.specs.declared.Request.{Request}
 use Rattle.swap_rings.specs.declared.Request.TheVariants.{Query, Borrow, Write, Read}
 use Rattle.swap_remote.specs.Remote as remote
 use Rattle.swap_remote.specs.Remote.{Remote, slab_for, state_for, has_page, left_from}
-use Rattle.swap_remote.proofs.Left.{length-left, get_or-left}
+use Rattle.swap_remote.specs.lemmas.Cleared.{length-left, get_or-left}
 use Rattle.swap_table.specs.Serves.{Keeping, Owing, flying_for, latest, IsLeasedFrom, WaitsFrom, IsAwaited, IsContent, AreOwed, LinkFits, SlabFits, PageFits, Serves}
 use Rattle.swap_table.proofs.Lists.{All-implies}
 use Rattle.swap_table.proofs.Leases.{single_lost, single_local}

@@ -7,7 +7,7 @@ use Rattle.swap_slabs.specs.Slabs as slabs
 use Rattle.swap_slabs.specs.declared.SlabState.TheVariants.{Asking}
 use Rattle.swap_rings.specs.Rings.{link_of, may_send}
 use Rattle.swap_rates.specs.Table as rates
-use Rattle.swap_rates.proofs.Hottest.{hottest_within}
+use Rattle.swap_rates.specs.lemmas.Hottest.{hottest_within}
 use Rattle.swap_choice.specs.declared.lenders.Asked.{Asked}
 use Rattle.swap_choice.specs.declared.lenders.Asked.TheVariants as picked
 use Rattle.swap_choice.specs.Asked as choice

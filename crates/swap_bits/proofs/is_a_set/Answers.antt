@@ -1,4 +1,4 @@
-use Rattle.swap_bits.specs.lemmas.Ranges.{takes_range}
+use Rattle.swap_bits.specs.lemmas.Taken.{takes_range}
 use Rattle.swap_bits.proofs.Numbers.{adds_one, takes_one, counts_parts, counts_one, keeps_bound}
 use Rattle.swap_bits.proofs.is_a_set.Goals as goal
 

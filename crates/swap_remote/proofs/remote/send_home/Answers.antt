@@ -1,6 +1,7 @@
 use Rattle.std.proofs.Common.{◌≡◌, ◌+◌, ◌*◌, ◌<◌, ◌≤◌, false, length, is_some, sym, ap, ◌∙◌, subst}
 use Rattle.swap_slabs.specs.Slabs.{holds}
-use Rattle.swap_remote.proofs.Left.{sent_home, none_lost, none_left, range_ends}
+use Rattle.swap_remote.specs.lemmas.Cleared.{range_ends}
+use Rattle.swap_remote.proofs.Left.{sent_home, none_lost, none_left}
 use Rattle.swap_remote.proofs.remote.send_home.Goals as goal
 
 pub loop-slab-preserved : goal.loop-slab-preserved

@@ -1,6 +1,6 @@
 use Rattle.std.proofs.Common.{◌∙◌, length-set}
 use Rattle.std.proofs.lemmas.List.{length-map}
-use Rattle.swap_remote.proofs.Left.{length-left}
+use Rattle.swap_remote.specs.lemmas.Cleared.{length-left}
 use Rattle.swap_remote.proofs.remote.Remote.lost.Goals as goal
 
 pub invariant_of-self : goal.invariant_of-self

@@ -54,7 +54,8 @@ takes_range s first end i order within =
     (λ (lt : i < first).
     before s first end i order within lt
     ∙ sym
-    (cond-false (is_in_range first end i) false (has s i) (and_left (nat_le first i) (nat_lt i end) (lt-leb first i lt))))
+    (cond-false (is_in_range first end i) false (has s i)
+    (and_left (nat_le first i) (nat_lt i end) (lt-leb first i lt))))
     (λ (le : first ≤ i).
     ⊎_elim
     (λ (lt : i < end).
@@ -65,7 +66,8 @@ takes_range s first end i order within =
     (λ (ge : end ≤ i).
     past s first end i order within ge
     ∙ sym
-    (cond-false (is_in_range first end i) false (has s i) (and_right (nat_le first i) (nat_lt i end) (le-ltb i end ge))))
+    (cond-false (is_in_range first end i) false (has s i)
+    (and_right (nat_le first i) (nat_lt i end) (le-ltb i end ge))))
     (cases_lt i end))
     (cases_lt i first)
 
@@ -73,7 +75,8 @@ pub length-without_range :
     (s : List Bool) (first end : ℕ) → first ≤ end → end ≤ length s → length (without_range s first end) ≡ length s
 length-without_range s first end order within =
     length-append (take first s) (replicate (end - first) false ++ drop end s)
-    ∙ ap (λ n. n + length (replicate (end - first) false ++ drop end s)) (length-take-le first s (le_trans order within))
+    ∙ ap (λ n. n + length (replicate (end - first) false ++ drop end s))
+    (length-take-le first s (le_trans order within))
     ∙ ap (λ n. first + n)
     (length-append (replicate (end - first) false) (drop end s)
     ∙ ap (λ n. n + length (drop end s)) (length-replicate (end - first) false)
