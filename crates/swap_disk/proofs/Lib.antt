@@ -1,4 +1,3 @@
-pub mod BlocksLaws
 pub mod Numbers
 pub mod FlightMoves
 pub mod DriveMoves

@@ -8,7 +8,7 @@ use Rattle.swap_base.specs.Sizes.{Sizes, pages_of}
 use Rattle.swap_places.specs.Line.{Line, stands}
 use Rattle.swap_disk.specs.declared.mem_disk.Ended.{Ended}
 use Rattle.swap_disk.specs.Disk.{Flight, Write, Read, is_flight_of, Finished, settled}
-use Rattle.swap_disk.specs.Blocks.{Table}
+use Rattle.swap_store.specs.Blocks.{Blocks}
 use Rattle.swap_disk.specs.Drive.{Drive}
 
 -- the operations in flight in the order of their start, with the sizes of their disk
@@ -83,13 +83,13 @@ abbrev pub ended_in : List Flight → Option Ended → Option Finished
 ended_in flights None = None
 ended_in flights (Some e) = ended_as e.ok (find (is_flight_of e.which) flights)
 
-abbrev pub drive_in : Table → Flying → Option Ended → ℕ → Drive
-drive_in table flying ended faults =
+abbrev pub drive_in : Blocks → Flying → Option Ended → ℕ → Drive
+drive_in store flying ended faults =
     record {
       sizes = flying.sizes;
       disk =
           record {
-            blocks = table.blocks;
+            blocks = store.blocks;
             flights = flying.flights;
             finished = ended_in flying.flights ended;
             faults = faults;
@@ -106,13 +106,13 @@ settled_by blocks None ok = blocks
 settled_by blocks (Some flight) ok = settled blocks flight ok
 
 -- what a buffer holds after an operation: the block of a read that is ok
-abbrev pub handed : Table → DiskWhich → Page → Bool → List ℕ → List ℕ
-handed table (which.Write other) page ok buf = buf
-handed table (which.Read caller) page ok buf = if ok then slice_index_or table.blocks page.0 [] else buf
+abbrev pub handed : Blocks → DiskWhich → Page → Bool → List ℕ → List ℕ
+handed store (which.Write other) page ok buf = buf
+handed store (which.Read caller) page ok buf = if ok then slice_index_or store.blocks page.0 [] else buf
 
 -- what has finished is in flight
-pub record Holds (table : Table) (flying : Flying) (ended : Option Ended) (faults : ℕ) : Type 0 where
-  pub page_bytes : table.page_bytes ≡ flying.sizes.page_bytes
-  pub pages : length table.blocks ≡ pages_of flying.sizes
+pub record Holds (store : Blocks) (flying : Flying) (ended : Option Ended) (faults : ℕ) : Type 0 where
+  pub page_bytes : store.page_bytes ≡ flying.sizes.page_bytes
+  pub pages : length store.blocks ≡ pages_of flying.sizes
   pub stands : Stands flying.flights ended
   pub faults_fit : faults < 2 ^ 64

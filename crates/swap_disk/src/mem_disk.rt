@@ -5,12 +5,12 @@ ghost use Rattle.swap_disk.specs.Flights.{settled_by, handed};
 ghost use Rattle.swap_disk.specs.Drive.{new_drive};
 ghost use Rattle.swap_disk.specs.Port.{writes_in, oldest_write_in};
 
-use crate::blocks::Blocks;
 use crate::flight::Flights;
 use crate::{DiskDone, DiskPort};
 use std::alloc::Global;
 use std::marker::Model;
 use swap_base::{Caller, DiskWhich, Geometry, NoMemory, Page};
+use swap_store::Blocks;
 
 /// The operation that has finished, and how.
 #[derive(Clone, Copy)]
@@ -55,7 +55,7 @@ fn settle(blocks: &mut Blocks, flights: &Flights, which: DiskWhich, ok: bool)
         if ok {
             blocks.write(page.0 as usize, bytes);
         } else {
-            blocks.spoil(page.0 as usize);
+            blocks.fill(page.0 as usize, 255);
         }
     }
 }

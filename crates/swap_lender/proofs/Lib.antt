@@ -1,5 +1,3 @@
-pub mod BlocksLaws
-pub mod SlabsLaws
 pub mod FreeSlots
 pub mod Steps
 pub mod Owned

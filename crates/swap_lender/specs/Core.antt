@@ -5,7 +5,7 @@ use Rattle.swap_lender.specs.declared.SlotState.{SlotState}
 use Rattle.swap_lender.specs.declared.Peer.{Peer}
 use Rattle.swap_activity.specs.Rates.{greatest}
 use Rattle.swap_evict.specs.Rounds.{Round, IsOpen, IsEvicted}
-use Rattle.swap_lender.specs.Contents.{Store}
+use Rattle.swap_store.specs.Slabs.{Slabs}
 use Rattle.swap_lender.specs.Lender.{Lender}
 
 -- the limits of what a lender is made for
@@ -19,7 +19,7 @@ pub record SlotsFit (s : Lending) (slots : List SlotState) : Type 0 where
   pub limits : IsLending s
   pub number : length slots ≡ s.spec.slots
 
-pub record ContentsFit (s : Lending) (contents : Store) : Type 0 where
+pub record ContentsFit (s : Lending) (contents : Slabs) : Type 0 where
   pub number : length contents.slabs ≡ s.spec.slots
   pub page_bytes : contents.page_bytes ≡ s.page_bytes
   pub pages_per_slab : contents.pages_per_slab ≡ s.pages_per_slab

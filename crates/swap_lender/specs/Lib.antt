@@ -2,7 +2,6 @@ pub mod Lender
 pub mod Outbox
 pub mod Table
 pub mod Calls
-pub mod Contents
 pub mod Letters
 pub mod Core
 pub mod Rows

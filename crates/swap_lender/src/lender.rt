@@ -9,7 +9,6 @@ ghost use Rattle.swap_lender.specs.Outbox.{leaving, IsReady};
 ghost use Rattle.swap_lender.specs.Table.{marked, quiet, hello, may_hello, query, may_borrow, borrow, lend, may_reach, write, read, awaits, may_rates, rates, may_done, done, may_send, serve, took, answered, measured, staying, missing, to_evict, to_ask, asked, opens, open_round, host_after, hosted_after, host, hosted, has_room, arrive, freed, left, without_peer, gone, restart, due, settle};
 ghost use Rattle.swap_lender.specs.Core.{IsLending, IsLender, IsBatch, IsWaiting};
 
-use crate::contents::Contents;
 use crate::peers::{forget, greet, has_greeted, stands};
 use crate::slots::{
     count_held, free_all, has_slab, is_evicting, leave, lowest_free, mark, slot_by_lease, staying,
@@ -21,6 +20,7 @@ use swap_activity::{ONE, average};
 use swap_base::{Lease, LenderSpec, Link, NoMemory, Slab};
 use swap_choice::{picked, slot_count};
 use swap_evict::EvictRound;
+use swap_store::Slabs;
 use swap_wire::{Hosted, Msg};
 
 /// A lender of slots. All memory is taken at `make`.
@@ -28,7 +28,7 @@ use swap_wire::{Hosted, Msg};
 pub struct LenderCore {
     lending: Lending,
     slots: Vec<SlotState>,
-    contents: Contents,
+    contents: Slabs,
     peers: Vec<Peer>,
     usage: u64,
     next_lease: u32,
@@ -96,7 +96,7 @@ impl LenderCore {
         let Ok(slots) = vec![in alloc; SlotState::Free; spec.slots as usize] else {
             return Err(NoMemory);
         };
-        let Ok(contents) = Contents::make(
+        let Ok(contents) = Slabs::make(
             alloc,
             spec.slots as usize,
             pages_per_slab as usize,
@@ -341,7 +341,7 @@ impl LenderCore {
         if place >= self.lending.pages_per_slab {
             return Served::End;
         }
-        self.contents.store(slot, place as usize, page);
+        self.contents.write(slot, place as usize, page);
         out.put(link, Msg::Wrote { lease, place });
         Served::Fine
     }

@@ -5,7 +5,6 @@
 ghost use Rattle.swap_lender.specs.Calls.{AlwaysOwned, LeasesInOrder, SizesStay, LendsFreeSlots, ServedUntilDone, CheckedSpecsFit, LiveRounds};
 ghost use Rattle.swap_lender.specs.Rows.{PageIn, LendsWithRoom, Revoked};
 
-mod contents;
 mod lender;
 mod outbox;
 mod peers;

@@ -23,6 +23,7 @@ mod rings;
 mod script;
 mod slabs;
 mod sock;
+mod store;
 mod trace;
 mod transcript;
 mod turn;

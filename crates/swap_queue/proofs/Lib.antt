@@ -7,3 +7,4 @@ pub mod EndMoves
 pub mod Steps
 pub mod StoredMoves
 pub mod StoredSteps
+pub mod Landings

@@ -7,7 +7,7 @@ pub returns-else-ok : goal.returns-else-ok
 returns-else-ok c =
     let found : find (is_flight_of c.args.which) c.args.flights.now.flights ≡ Some (Write c.in-Write.page c.bytes-bytes.result.now) =
     ap (λ w. find (is_flight_of w) c.args.flights.now.flights) c.in-Write.is ∙ c.bytes-bytes.ensures.bytes in
-    c.spoil.ensures
+    c.fill.ensures
     ∙ spoils c.args.blocks.now (find (is_flight_of c.args.which) c.args.flights.now.flights) c.in-Write.page c.bytes-bytes.result.now c.args.ok found
     (c.bytes-bytes.ensures.len ∙ sym c.requires.page_bytes) c.if-ok.false
 

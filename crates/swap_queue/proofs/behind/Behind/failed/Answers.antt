@@ -1,33 +1,27 @@
-use Rattle.std.proofs.Common.{◌≡◌, ℕ, ◌<◌, Bool, true, false, not, length, refl, sym, ap, ◌∙◌, subst, arith, is_some, Option, None, Some, IsSome, option_map, position}
+use Rattle.std.proofs.Common.{◌≡◌, ℕ, ◌<◌, Bool, true, false, not, length, refl, sym, ap, ◌∙◌, arith, is_some, Option, None, Some, option_map, position}
 use Rattle.std.proofs.lemmas.Bool.{false≢true}
-use Rattle.swap_base.specs.Sizes.{pages_of}
 use Rattle.swap_queue.specs.Queue.{Copy, flying, next, failed}
 use Rattle.swap_queue.specs.Backlog.{Backlog}
 use Rattle.swap_queue.specs.Cells.{is_for, queue_in, longer}
-use Rattle.swap_queue.proofs.Steps.{next_found, flying_range, flying_found, flying_entry, failed_told, line_room, failed_step}
+use Rattle.swap_queue.proofs.Steps.{flying_found, flying_entry, failed_told, line_room, failed_step}
+use Rattle.swap_queue.proofs.Landings.{flies_in, flying_low, in_table, landing}
 use Rattle.swap_queue.proofs.behind.Behind.failed.Goals.{then-newer, else-newer}
 use Rattle.swap_queue.proofs.behind.Behind.failed.Goals as goal
 
 pub find-requires : goal.find-requires
 find-requires c =
-    let some : IsSome (flying (queue_in c.self.inside.geometry c.self.inside.store.cells c.self.inside.line.items) c.args.page) =
-    subst (λ (b : Backlog). IsSome (flying b.queue c.args.page)) (sym c.self.view_is) c.requires in
-    let lt : c.args.page.0 < pages_of c.self.inside.geometry =
-    flying_range c.self.inside.geometry c.self.inside.store.cells c.self.inside.line.items c.self.invariant.0 c.args.page some in
-    let in_table : c.args.page.0 < c.self.inside.store.pages = subst (λ n. c.args.page.0 < n) (sym c.self.invariant.2) lt in
-    in_table
+    let inside = in_table c.self.inside.geometry c.self.inside.store c.self.inside.line.items _ c.args.self.now c.args.page c.self.invariant c.self.view_is in
+    inside
+    (flying_low c.self.inside.geometry c.self.inside.store c.self.inside.line.items _ c.args.self.now c.args.page c.self.invariant c.self.view_is c.requires)
 
 pub unwrap-place-requires : goal.unwrap-place-requires
 unwrap-place-requires c =
-    let some : IsSome (flying (queue_in c.self.inside.geometry c.self.inside.store.cells c.self.inside.line.items) c.args.page) =
-    subst (λ (b : Backlog). IsSome (flying b.queue c.args.page)) (sym c.self.view_is) c.requires in
     ap (λ (o : Option ℕ). is_some o) c.find-2.ensures
-    ∙ flying_found c.self.inside.geometry c.self.inside.store.cells c.self.inside.line.items c.self.invariant.0 c.args.page some
+    ∙ flying_found c.self.inside.geometry c.self.inside.store.cells c.self.inside.line.items c.self.invariant.0 c.args.page
+    (flies_in c.self.inside.geometry c.self.inside.store c.self.inside.line.items _ c.args.self.now c.args.page c.self.invariant c.self.view_is c.requires)
 
 pub land-entry-requires-clause-flies : goal.land-entry-requires-clause-flies
-land-entry-requires-clause-flies c =
-    let found : position (is_for true c.args.page.0) c.self.inside.store.cells ≡ Some c.unwrap-place.result = sym c.find-2.ensures ∙ c.unwrap-place.ensures in
-    found
+land-entry-requires-clause-flies c = sym c.find-2.ensures ∙ c.unwrap-place.ensures
 
 not_found : (o : Option ℕ) (b : Bool) → b ≡ is_some o → not b ≡ true → o ≡ None
 not_found None b e lone = refl
@@ -42,18 +36,13 @@ land-entry-requires-clause-alone c =
 pub join-requires : goal.join-requires
 join-requires c =
     λ joins.
-    let some : IsSome (flying (queue_in c.self.inside.geometry c.self.inside.store.cells c.self.inside.line.items) c.args.page) =
-    subst (λ (b : Backlog). IsSome (flying b.queue c.args.page)) (sym c.self.view_is) c.requires in
-    let lt : c.args.page.0 < pages_of c.self.inside.geometry =
-    flying_range c.self.inside.geometry c.self.inside.store.cells c.self.inside.line.items c.self.invariant.0 c.args.page some in
-    let found : position (is_for true c.args.page.0) c.self.inside.store.cells ≡ Some c.unwrap-place.result = sym c.find-2.ensures ∙ c.unwrap-place.ensures in
-    let newer : c.is_some-newer.result ≡ is_some (next (queue_in c.self.inside.geometry c.self.inside.store.cells c.self.inside.line.items) c.args.page) =
-    c.is_some-newer.ensures ∙ ap (λ (o : Option ℕ). is_some o) c.find.ensures
-    ∙ next_found c.self.inside.geometry c.self.inside.store.cells c.self.inside.line.items c.self.invariant.0 c.args.page lt in
+    let at =
+    landing c.self.inside.geometry c.self.inside.store c.self.inside.line.items _ c.args.self.now c.args.page c.self.invariant c.self.view_is
+    c.unwrap-place.result c.is_some-newer.result _ _ c.requires c.find-2.ensures c.unwrap-place.ensures c.find.ensures c.is_some-newer.ensures in
     let moved =
     failed_step c.self.inside.geometry c.self.inside.store.cells c.land-entry.new.self.cells c.self.inside.line.items
-    (longer c.self.inside.line.items c.args.page true) c.args.page c.unwrap-place.result c.is_some-newer.result c.self.invariant.0 some found
-    c.land-entry.ensures.cells newer refl in
+    (longer c.self.inside.line.items c.args.page true) c.args.page c.unwrap-place.result c.is_some-newer.result c.self.invariant.0 at.flies at.found
+    c.land-entry.ensures.cells at.next refl in
     let room_left : length c.self.inside.line.items < c.self.inside.geometry.queue =
     line_room c.self.inside.geometry c.land-entry.new.self.cells c.self.inside.line.items c.args.page true
     (failed (queue_in c.self.inside.geometry c.self.inside.store.cells c.self.inside.line.items) c.args.page) moved joins in
@@ -61,50 +50,35 @@ join-requires c =
 
 pub invariant_of-self : goal.invariant_of-self
 invariant_of-self c =
-    let some : IsSome (flying (queue_in c.self.inside.geometry c.self.inside.store.cells c.self.inside.line.items) c.args.page) =
-    subst (λ (b : Backlog). IsSome (flying b.queue c.args.page)) (sym c.self.view_is) c.requires in
-    let lt : c.args.page.0 < pages_of c.self.inside.geometry =
-    flying_range c.self.inside.geometry c.self.inside.store.cells c.self.inside.line.items c.self.invariant.0 c.args.page some in
-    let found : position (is_for true c.args.page.0) c.self.inside.store.cells ≡ Some c.unwrap-place.result = sym c.find-2.ensures ∙ c.unwrap-place.ensures in
-    let newer : c.is_some-newer.result ≡ is_some (next (queue_in c.self.inside.geometry c.self.inside.store.cells c.self.inside.line.items) c.args.page) =
-    c.is_some-newer.ensures ∙ ap (λ (o : Option ℕ). is_some o) c.find.ensures
-    ∙ next_found c.self.inside.geometry c.self.inside.store.cells c.self.inside.line.items c.self.invariant.0 c.args.page lt in
+    let at =
+    landing c.self.inside.geometry c.self.inside.store c.self.inside.line.items _ c.args.self.now c.args.page c.self.invariant c.self.view_is
+    c.unwrap-place.result c.is_some-newer.result _ _ c.requires c.find-2.ensures c.unwrap-place.ensures c.find.ensures c.is_some-newer.ensures in
     let moved =
     failed_step c.self.inside.geometry c.self.inside.store.cells c.land-entry.new.self.cells c.self.inside.line.items c.join.new.line.items c.args.page
-    c.unwrap-place.result c.is_some-newer.result c.self.invariant.0 some found c.land-entry.ensures.cells newer c.join.ensures.items in
+    c.unwrap-place.result c.is_some-newer.result c.self.invariant.0 at.flies at.found c.land-entry.ensures.cells at.next c.join.ensures.items in
     (moved.fits, omega (arith, c.self.invariant.1, c.join.ensures.capacity), c.land-entry.ensures.pages ∙ c.self.invariant.2)
 
 pub returns-clause-queue : goal.returns-clause-queue
 returns-clause-queue c =
-    let some : IsSome (flying (queue_in c.self.inside.geometry c.self.inside.store.cells c.self.inside.line.items) c.args.page) =
-    subst (λ (b : Backlog). IsSome (flying b.queue c.args.page)) (sym c.self.view_is) c.requires in
-    let lt : c.args.page.0 < pages_of c.self.inside.geometry =
-    flying_range c.self.inside.geometry c.self.inside.store.cells c.self.inside.line.items c.self.invariant.0 c.args.page some in
-    let found : position (is_for true c.args.page.0) c.self.inside.store.cells ≡ Some c.unwrap-place.result = sym c.find-2.ensures ∙ c.unwrap-place.ensures in
-    let newer : c.is_some-newer.result ≡ is_some (next (queue_in c.self.inside.geometry c.self.inside.store.cells c.self.inside.line.items) c.args.page) =
-    c.is_some-newer.ensures ∙ ap (λ (o : Option ℕ). is_some o) c.find.ensures
-    ∙ next_found c.self.inside.geometry c.self.inside.store.cells c.self.inside.line.items c.self.invariant.0 c.args.page lt in
+    let at =
+    landing c.self.inside.geometry c.self.inside.store c.self.inside.line.items _ c.args.self.now c.args.page c.self.invariant c.self.view_is
+    c.unwrap-place.result c.is_some-newer.result _ _ c.requires c.find-2.ensures c.unwrap-place.ensures c.find.ensures c.is_some-newer.ensures in
     let moved =
     failed_step c.self.inside.geometry c.self.inside.store.cells c.land-entry.new.self.cells c.self.inside.line.items c.join.new.line.items c.args.page
-    c.unwrap-place.result c.is_some-newer.result c.self.invariant.0 some found c.land-entry.ensures.cells newer c.join.ensures.items in
+    c.unwrap-place.result c.is_some-newer.result c.self.invariant.0 at.flies at.found c.land-entry.ensures.cells at.next c.join.ensures.items in
     moved.is ∙ ap (λ (b : Backlog). failed b.queue c.args.page) c.self.view_is
 
 pub returns-clause-answer : goal.returns-clause-answer
 returns-clause-answer c =
-    let some : IsSome (flying (queue_in c.self.inside.geometry c.self.inside.store.cells c.self.inside.line.items) c.args.page) =
-    subst (λ (b : Backlog). IsSome (flying b.queue c.args.page)) (sym c.self.view_is) c.requires in
-    let lt : c.args.page.0 < pages_of c.self.inside.geometry =
-    flying_range c.self.inside.geometry c.self.inside.store.cells c.self.inside.line.items c.self.invariant.0 c.args.page some in
-    let found : position (is_for true c.args.page.0) c.self.inside.store.cells ≡ Some c.unwrap-place.result = sym c.find-2.ensures ∙ c.unwrap-place.ensures in
-    let newer : c.is_some-newer.result ≡ is_some (next (queue_in c.self.inside.geometry c.self.inside.store.cells c.self.inside.line.items) c.args.page) =
-    c.is_some-newer.ensures ∙ ap (λ (o : Option ℕ). is_some o) c.find.ensures
-    ∙ next_found c.self.inside.geometry c.self.inside.store.cells c.self.inside.line.items c.self.invariant.0 c.args.page lt in
+    let at =
+    landing c.self.inside.geometry c.self.inside.store c.self.inside.line.items _ c.args.self.now c.args.page c.self.invariant c.self.view_is
+    c.unwrap-place.result c.is_some-newer.result _ _ c.requires c.find-2.ensures c.unwrap-place.ensures c.find.ensures c.is_some-newer.ensures in
     let entry : option_map (λ (copy : Copy). copy.entry) (flying c.args.self.now.queue c.args.page) ≡ Some c.land-entry.result =
     ap (λ (b : Backlog). option_map (λ (copy : Copy). copy.entry) (flying b.queue c.args.page)) (sym c.self.view_is)
     ∙ flying_entry c.self.inside.geometry c.self.inside.store.cells c.self.inside.line.items c.self.invariant.0 c.args.page c.unwrap-place.result
-    c.land-entry.result some found c.land-entry.ensures.entry in
+    c.land-entry.result at.flies at.found c.land-entry.ensures.entry in
     failed_told (flying c.args.self.now.queue c.args.page)
     (next c.args.self.now.queue c.args.page) c.land-entry.result c.is_some-newer.result c.if-newer.result entry
-    (newer ∙ ap (λ (b : Backlog). is_some (next b.queue c.args.page)) c.self.view_is)
+    (at.next ∙ ap (λ (b : Backlog). is_some (next b.queue c.args.page)) c.self.view_is)
     (λ yes_. elim c.if-newer.branch [ then-newer w ↦ w.result-is | else-newer w ↦ absurd (false≢true (sym w.if-newer.false ∙ yes_)) ])
     (λ no_. elim c.if-newer.branch [ then-newer w ↦ absurd (false≢true (sym no_ ∙ w.if-newer.true)) | else-newer w ↦ w.result-is ])

@@ -1,9 +1,10 @@
-use Rattle.std.proofs.Common.{◌≡◌, ◌<◌, true, not, length, refl, sym, ap, ◌∙◌, subst, arith, is_some, is_none}
+use Rattle.std.proofs.Common.{◌≡◌, ◌<◌, true, not, length, refl, sym, ap, ◌∙◌, subst, arith}
 use Rattle.swap_base.specs.Sizes.{pages_of}
-use Rattle.swap_queue.specs.Queue.{has_room, newest, put}
+use Rattle.swap_queue.specs.Queue.{has_room, put}
 use Rattle.swap_queue.specs.Backlog.{Backlog}
 use Rattle.swap_queue.specs.Cells.{queue_in, longer}
-use Rattle.swap_queue.proofs.Steps.{room_place, line_room, not_some, put_step}
+use Rattle.swap_queue.proofs.Steps.{room_place, line_room, put_step}
+use Rattle.swap_queue.proofs.Landings.{putting}
 use Rattle.swap_queue.proofs.behind.Behind.put.Goals as goal
 
 pub put-place-requires-clause-page : goal.put-place-requires-clause-page
@@ -28,18 +29,13 @@ put-place-requires-clause-sized c =
 pub join-requires : goal.join-requires
 join-requires c =
     λ joins.
-    let lt : c.args.page.0 < pages_of c.self.inside.geometry = subst (λ (b : Backlog). c.args.page.0 < pages_of b.sizes) (sym c.self.view_is) c.requires.page in
-    let room : has_room (queue_in c.self.inside.geometry c.self.inside.store.cells c.self.inside.line.items) c.args.page ≡ true =
-    subst (λ (b : Backlog). has_room b.queue c.args.page ≡ true) (sym c.self.view_is) c.requires.room in
-    let fills : length c.args.bytes.now ≡ c.self.inside.geometry.page_bytes =
-    c.requires.bytes ∙ ap (λ (b : Backlog). b.sizes.page_bytes) (sym c.self.view_is) in
-    let waits : not c.holds-waits.result ≡ is_none (newest (queue_in c.self.inside.geometry c.self.inside.store.cells c.self.inside.line.items) c.args.page) =
-    ap not (c.holds-waits.ensures ∙ ap (λ (b : Backlog). is_some (newest b.queue c.args.page)) (sym c.self.view_is))
-    ∙ not_some (newest (queue_in c.self.inside.geometry c.self.inside.store.cells c.self.inside.line.items) c.args.page) in
+    let at =
+    putting c.self.inside.geometry c.self.inside.store c.self.inside.line.items _ c.args.self.now c.args.page c.self.invariant c.self.view_is
+    c.args.bytes.now c.holds-waits.result c.requires.page c.requires.bytes c.requires.room c.holds-waits.ensures in
     let moved =
     put_step c.self.inside.geometry c.self.inside.store.cells c.put-place.new.self.cells c.self.inside.line.items
     (longer c.self.inside.line.items c.args.page (not c.holds-waits.result)) c.args.page c.args.entry c.args.bytes.now c.put-place.result
-    (not c.holds-waits.result) c.self.invariant.0 lt fills room c.put-place.ensures.place c.put-place.ensures.cells waits refl in
+    (not c.holds-waits.result) c.self.invariant.0 at.low at.fills at.room c.put-place.ensures.place c.put-place.ensures.cells at.waits refl in
     let room_left : length c.self.inside.line.items < c.self.inside.geometry.queue =
     line_room c.self.inside.geometry c.put-place.new.self.cells c.self.inside.line.items c.args.page (not c.holds-waits.result)
     (put (queue_in c.self.inside.geometry c.self.inside.store.cells c.self.inside.line.items) c.args.page
@@ -49,32 +45,22 @@ join-requires c =
 
 pub invariant_of-self : goal.invariant_of-self
 invariant_of-self c =
-    let lt : c.args.page.0 < pages_of c.self.inside.geometry = subst (λ (b : Backlog). c.args.page.0 < pages_of b.sizes) (sym c.self.view_is) c.requires.page in
-    let room : has_room (queue_in c.self.inside.geometry c.self.inside.store.cells c.self.inside.line.items) c.args.page ≡ true =
-    subst (λ (b : Backlog). has_room b.queue c.args.page ≡ true) (sym c.self.view_is) c.requires.room in
-    let fills : length c.args.bytes.now ≡ c.self.inside.geometry.page_bytes =
-    c.requires.bytes ∙ ap (λ (b : Backlog). b.sizes.page_bytes) (sym c.self.view_is) in
-    let waits : not c.holds-waits.result ≡ is_none (newest (queue_in c.self.inside.geometry c.self.inside.store.cells c.self.inside.line.items) c.args.page) =
-    ap not (c.holds-waits.ensures ∙ ap (λ (b : Backlog). is_some (newest b.queue c.args.page)) (sym c.self.view_is))
-    ∙ not_some (newest (queue_in c.self.inside.geometry c.self.inside.store.cells c.self.inside.line.items) c.args.page) in
+    let at =
+    putting c.self.inside.geometry c.self.inside.store c.self.inside.line.items _ c.args.self.now c.args.page c.self.invariant c.self.view_is
+    c.args.bytes.now c.holds-waits.result c.requires.page c.requires.bytes c.requires.room c.holds-waits.ensures in
     let moved =
     put_step c.self.inside.geometry c.self.inside.store.cells c.put-place.new.self.cells c.self.inside.line.items c.join.new.line.items c.args.page
     c.args.entry c.args.bytes.now c.put-place.result
-    (not c.holds-waits.result) c.self.invariant.0 lt fills room c.put-place.ensures.place c.put-place.ensures.cells waits c.join.ensures.items in
+    (not c.holds-waits.result) c.self.invariant.0 at.low at.fills at.room c.put-place.ensures.place c.put-place.ensures.cells at.waits c.join.ensures.items in
     (moved.fits, omega (arith, c.self.invariant.1, c.join.ensures.capacity), c.put-place.ensures.pages ∙ c.self.invariant.2)
 
 pub returns-clause-queue : goal.returns-clause-queue
 returns-clause-queue c =
-    let lt : c.args.page.0 < pages_of c.self.inside.geometry = subst (λ (b : Backlog). c.args.page.0 < pages_of b.sizes) (sym c.self.view_is) c.requires.page in
-    let room : has_room (queue_in c.self.inside.geometry c.self.inside.store.cells c.self.inside.line.items) c.args.page ≡ true =
-    subst (λ (b : Backlog). has_room b.queue c.args.page ≡ true) (sym c.self.view_is) c.requires.room in
-    let fills : length c.args.bytes.now ≡ c.self.inside.geometry.page_bytes =
-    c.requires.bytes ∙ ap (λ (b : Backlog). b.sizes.page_bytes) (sym c.self.view_is) in
-    let waits : not c.holds-waits.result ≡ is_none (newest (queue_in c.self.inside.geometry c.self.inside.store.cells c.self.inside.line.items) c.args.page) =
-    ap not (c.holds-waits.ensures ∙ ap (λ (b : Backlog). is_some (newest b.queue c.args.page)) (sym c.self.view_is))
-    ∙ not_some (newest (queue_in c.self.inside.geometry c.self.inside.store.cells c.self.inside.line.items) c.args.page) in
+    let at =
+    putting c.self.inside.geometry c.self.inside.store c.self.inside.line.items _ c.args.self.now c.args.page c.self.invariant c.self.view_is
+    c.args.bytes.now c.holds-waits.result c.requires.page c.requires.bytes c.requires.room c.holds-waits.ensures in
     let moved =
     put_step c.self.inside.geometry c.self.inside.store.cells c.put-place.new.self.cells c.self.inside.line.items c.join.new.line.items c.args.page
     c.args.entry c.args.bytes.now c.put-place.result
-    (not c.holds-waits.result) c.self.invariant.0 lt fills room c.put-place.ensures.place c.put-place.ensures.cells waits c.join.ensures.items in
+    (not c.holds-waits.result) c.self.invariant.0 at.low at.fills at.room c.put-place.ensures.place c.put-place.ensures.cells at.waits c.join.ensures.items in
     moved.is ∙ ap (λ (b : Backlog). put b.queue c.args.page (record { entry = c.args.entry; bytes = c.args.bytes.now })) c.self.view_is
