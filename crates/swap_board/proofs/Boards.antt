@@ -319,12 +319,6 @@ operators_calls (event.PageOut c p) n is = absurd is
 operators_calls (event.PageIn c p) n is = absurd is
 operators_calls e n is = refl
 
-pub operators_callless : (e : Event) → IsOperators e → IsCallless e
-operators_callless (event.PageOut c p) is = absurd is
-operators_callless (event.PageIn c p) is = absurd is
-operators_callless (event.Finish c) is = absurd is
-operators_callless e is = tt
-
 pub all_at : {X : Type 0} (P : X → Type 0) (xs : List X) (i : ℕ) (d : X) → AllByRecursion P xs → i < length xs → P (get_or xs i d)
 all_at P [] i d all within = absurd (omega (arith, within))
 all_at P (x ∷ xs) zero d all within = all.0

@@ -41,12 +41,6 @@ answers_none d page (event.PageIn c p) row is a = is
 answers_none d page (event.Finish c) row is a = is
 answers_none d page e row is a = a
 
-pub callless_spare : (d : Device) (e : Event) (spare : ℕ) → IsCallless e → HasSpare d e spare
-callless_spare d (event.PageOut c p) spare is = absurd is
-callless_spare d (event.PageIn c p) spare is = absurd is
-callless_spare d (event.Finish c) spare is = absurd is
-callless_spare d e spare is = tt
-
 callless_old : (e : Event) → IsCallless e → is_new_call e ≡ 0
 callless_old (event.PageOut c p) is = absurd is
 callless_old (event.PageIn c p) is = absurd is
@@ -93,10 +87,6 @@ busy_some (x ∷ cs) (suc n) busy = let a = count_by-cons is_busy_call x cs in l
 pub room_left : (b : Bool) (n m k : ℕ) → n ≡ one_less_if b m → suc k ≤ m → k ≤ n
 room_left true n m k is more = omega (arith, is, more)
 room_left false n m k is more = omega (arith, is, more)
-
-pub room_less : (b : Bool) (n m : ℕ) → n ≡ one_less_if b m → m ≤ n + 1
-room_less true n m is = omega (arith, is)
-room_less false n m is = omega (arith, is)
 
 -- what a port's poll is along the device's program
 pub poll_along : {D F : Type 0} (disk_moves : D → (c : DiskCall) → DiskAnswer c → D → Type 0) (moves : F → (c : FabricCall) → FabricAnswer c → F → Type 0)

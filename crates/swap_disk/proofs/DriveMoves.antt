@@ -115,15 +115,6 @@ module _ (store : Blocks) (flying flying' : Flying) (e : Ended) (faults faults' 
 
 -- ---- an operation finishes
 
--- what a write and a read leave of the blocks
-pub settles_write : (store : Blocks) (o : Option Flight) (page : Page) (bytes : List ℕ) (ok : Bool) → o ≡ Some (Write page bytes) → ok ≡ true
-    → ◌≡◌ {A = Blocks} (record { blocks = set store.blocks page.0 bytes; page_bytes = store.page_bytes })
-    (record { blocks = settled_by store.blocks o ok; page_bytes = store.page_bytes })
-settles_write store o page bytes ok is true' =
-    let F : List (List ℕ) → Blocks = λ bs. record { blocks = bs; page_bytes = store.page_bytes } in
-    ap F
-    (ap (λ l. set store.blocks page.0 l) (sym (cond-true ok bytes (spoilt bytes) true')) ∙ ap (λ (x : Option Flight). settled_by store.blocks x ok) (sym is))
-
 pub spoils :
     (store : Blocks) (o : Option Flight) (page : Page) (bytes : List ℕ) (ok : Bool) → o ≡ Some (Write page bytes) → length bytes ≡ store.page_bytes → ok ≡ false
     → ◌≡◌ {A = Blocks} (record { blocks = set store.blocks page.0 (replicate store.page_bytes 255); page_bytes = store.page_bytes })

@@ -34,9 +34,6 @@ told-cons : (w : World) (x : Input) (xs : List Input) → told w (x ∷ xs) ≡ 
 unfolding told
 told-cons w x xs = refl
 
-busy_pair : Event × Seen → Bool
-busy_pair pair = is_call pair.0 && is_busy pair.1
-
 pub busy-append : (w : World) (xs ys : List Input) → busy_in (told w (xs ++ ys)) ≡ busy_in (told w xs) + busy_in (told (after w xs) ys)
 busy-append w xs ys =
     ap busy_in (told-append w xs ys) ∙ sum_by-append (λ (pair : Event × Seen). one_if (is_call pair.0 && is_busy pair.1)) (told w xs) (told (after w xs) ys)

@@ -35,10 +35,6 @@ pub piece_none :
 piece_none page r e is =
     take_all (length page) page (omega arith) ∙ ap (λ o. unwrap_or (option_map (λ k. take k page) o) page) (sym is ∙ e) ∙ sym (found page)
 
-piece_bound : (page : List ℕ) (r : Option ℕ) → length (unwrap_or (option_map (λ n. take n page) r) page) ≤ length page
-piece_bound page None = omega arith
-piece_bound page (Some n) = omega (arith, length-take n page)
-
 pub length-hex : (bytes : List ℕ) → length (hex bytes) ≡ 2 * length bytes
 length-hex [] = refl
 length-hex (b ∷ rest) = omega (arith, length-hex rest)
@@ -57,8 +53,3 @@ pub hex_room : (line bytes : List ℕ) (i room : ℕ) → i < length bytes → l
 hex_room line bytes i room within fits =
     omega (arith, length-append line (hex (take i bytes)), length-hex (take i bytes), length-hex bytes, length-take-le i bytes (omega arith))
 
--- the word of a page has at most two digits for each of its bytes
-pub length-shortest : (page : List ℕ) → length (shortest page) ≤ 2 * length page
-length-shortest page =
-    let bound = piece_bound page (find (λ n. bytes_eq (repeated (length page) (take n page)) page) lengths) in
-    omega (arith, length-hex (shortest_piece page), ap length (found page))

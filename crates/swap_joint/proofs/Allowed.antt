@@ -101,12 +101,6 @@ greets_take s false ended zero ps h = refl
 greets_take s false ended (suc n) [] h = refl
 greets_take s false ended (suc n) (q ∷ qs) h = (h.0, no_hello_take n qs h.1)
 
-pub greets_last :
-    (s : Sizes) (greeted : Bool) (ps : List Parcel) (q : Parcel) → is_hello q.msg ≡ false → Greets s greeted false ps → Greets s greeted false (ps ++ q ∷ [])
-greets_last s true ps q plain h = any-append (λ (q : Parcel). is_hello q.msg) ps q plain ∙ h
-greets_last s false [] q plain h = absurd (both_ways false refl h)
-greets_last s false (p ∷ ps) q plain h = (h.0, any-append (λ (q : Parcel). is_hello q.msg) ps q plain ∙ h.1)
-
 all_take : (P : Parcel → Type 0) (n : ℕ) (ps : List Parcel) → AllByRecursion P ps → AllByRecursion P (take n ps)
 all_take P zero ps h = tt
 all_take P (suc n) [] h = tt

@@ -65,9 +65,6 @@ through s f g c r moved l here there = elim (cases_eq l.0 (lender_of c).0) [
       )
 ]
 
-up_same : (links links' : List LinkState) (l : Lender) → is_up links l ≡ true → is_up links' l ≡ is_up links l → is_up links' l ≡ false → ⊥
-up_same links links' l up same off = both_ways (is_up links' l) off (same ∙ up)
-
 -- a link that sends, and one that hears, stays up
 sent_itself :
     (W : Within) (d : Device) (l : Lender) (q : Parcel) (e base : Device) → l.0 < length d.remote.links → Sends W d l q e base

@@ -28,10 +28,6 @@ pub or_parts : (a b : Bool) → (a || b) ≡ false → (a ≡ false) × (b ≡ f
 or_parts true b e = cc
 or_parts false b e = (refl, e)
 
-or_from : (a b : Bool) → a ≡ true → (a || b) ≡ true
-or_from true b e = refl
-or_from false b e = cc
-
 no_truth : false ≡ true → ⊥
 no_truth e = cc
 

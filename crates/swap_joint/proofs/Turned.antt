@@ -73,9 +73,6 @@ use Rattle.swap_joint.proofs.Moves as joint
 abbrev pub KeepsMapped : Lender → List SlabState → List SlabState → Type 0
 KeepsMapped l states states' = (k : Lease) → IsMappedAt states l k → IsMappedAt states' l k
 
-mapped_stay : (l : Lender) (states : List SlabState) → KeepsMapped l states states
-mapped_stay l states k h = h
-
 local_mapped : (l : Lender) (k : Lease) (f : ℕ) → Local ≡ Mapped l k f → ⊥
 local_mapped l k f e = cc
 

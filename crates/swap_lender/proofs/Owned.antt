@@ -70,14 +70,7 @@ kept_marked told from (state ∷ slots) (suc i) a e = kept_marked told (from + 1
 pub part_marked : (told : ℕ) (slots : List SlotState) → IsPart (marked told 0 slots) slots
 part_marked told slots = record { kept = λ i a e. kept_marked told 0 slots i a e }
 
-pub part_same : (slots : List SlotState) → IsPart slots slots
-part_same slots = record { kept = λ i a e. e }
-
 -- a slot is lent
-
--- who has a slot then is the new tenant there, or had it before
-pub record HasLent (slots : List SlotState) (k : ℕ) (new : Tenant) (i : ℕ) (a : Tenant) : Type 0 where
-  pub case : ((i ≡ k) × (a ≡ new)) ⊎ (tenant (slot_in slots i) ≡ Some a)
 
 some_same : (a b : Tenant) → Some a ≡ Some b → a ≡ b
 some_same a b e = cc

@@ -13,30 +13,8 @@ use Rattle.std.proofs.lemmas.List.Elements.{All-nil, All-cons, All-map}
 use Rattle.swap_link.specs.Channel.{Channel}
 use Rattle.swap_link.specs.Harbor.{lending_for, new_channel, IsFresh}
 
-first-within : {X : Type 0} (b : Bool) (o : Option X) (x : X) → cond b o (Some x) ≡ None → (b ≡ true) × (o ≡ None)
-first-within true o x e = (refl, e)
-first-within false o x e = cc
-
 within : (low high n : ℕ) → is_within low high n ≡ true → (low ≤ n) × (n ≤ high)
 within low high n e = let parts = and_parts (nat_le low n) (nat_le n high) e in (leb-true low n parts.0, leb-true n high parts.1)
-
-pub limits-lending : (s : Sizes) (spec : LenderSpec) → first_beyond (lender_limits spec) ≡ None → IsLending (lending_for s spec)
-limits-lending s spec e =
-    let a = first-within (is_within 1 64 spec.slots) _ _ e in
-    let b = first-within (is_within 0 64 spec.headroom) _ _ a.1 in
-    let d = first-within (is_within 0 64 spec.extra) _ _ b.1 in
-    record {
-      some = (within 1 64 spec.slots a.0).0;
-      few = (within 1 64 spec.slots a.0).1;
-      headroom = (within 0 64 spec.headroom b.0).1;
-      extra = (within 0 64 spec.extra d.0).1;
-    }
-
-pub bytes-fit : (s : Sizes) (slots : ℕ) → IsWithin s → slots ≤ 64 → slots * (s.pages_per_slab * s.page_bytes) < 2 ^ 64
-bytes-fit s slots w few =
-    let slab : s.pages_per_slab * s.page_bytes ≤ 65_536 * 4_096 = mul-le-mul w.pages_per_slab.1 w.page_bytes.1 in
-    let all : slots * (s.pages_per_slab * s.page_bytes) ≤ 64 * (65_536 * 4_096) = mul-le-mul few slab in
-    omega arith
 
 -- every channel is new
 

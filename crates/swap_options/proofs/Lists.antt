@@ -8,10 +8,6 @@ abbrev pub put_all : List Address → Option (List Address) → Option (List Add
 put_all list None = None
 put_all list (Some rest) = Some (list ++ rest)
 
-pub put_none : (rest : Option (List Address)) → put_all [] rest ≡ rest
-put_none None = refl
-put_none (Some rest) = refl
-
 -- a part that is none, and one that is an address
 pub unread :
     (list : List Address) (read : Option Address) (rest all : Option (List Address)) → all ≡ put_all list (put_before read rest) → read ≡ None → all ≡ None

@@ -42,13 +42,6 @@ paged_out calls callers c of page answer p q own pages is =
     let P : Caller → Type 0 = λ x. PlaysOne (event.PageOut x of) page p.mine q.mine in
     subst P (same_caller p.number c own) (paged calls callers (event.PageOut (caller p.number) of) page answer p q pages is)
 
-pub paged_in :
-    (calls callers : ℕ) (c : Caller) (of : Page) (page : List ℕ) (answer : Result EntryNo SwapFault) (p q : Standing) → (c.0 == p.number) ≡ true
-    → PagesAs calls callers (event.PageIn (caller p.number) of) page answer p q → is_answer answer ≡ true → PlaysOne (event.PageIn c of) page p.mine q.mine
-paged_in calls callers c of page answer p q own pages is =
-    let P : Caller → Type 0 = λ x. PlaysOne (event.PageIn x of) page p.mine q.mine in
-    subst P (same_caller p.number c own) (paged calls callers (event.PageIn (caller p.number) of) page answer p q pages is)
-
 own_more :
     (c : Caller) (i : Input) (rest : List Input) (b : Bool) → reading.is_call_of c i.event ≡ b
     → AllByRecursion (λ (x : Input). reading.is_call_of c x.event ≡ true) rest

@@ -21,29 +21,12 @@ answered_page e page before row a = absurd a
 abbrev Own : Caller → List Input → Type 0
 Own c is = AllByRecursion (λ (i : Input). reading.is_call_of c i.event ≡ true) is
 
--- the next call is the caller's
-pub next_own :
-    (s : Sizes) (lenders : ℕ) (c : Caller) (left : Script) (e : Event) → AreCallsOf s lenders c left → first_event left.inputs ≡ Some e
-    → reading.is_call_of c e ≡ true
-next_own s lenders c left e are is = go left.inputs are.own is
-  where
-    go : (is : List Input) → Own c is → first_event is ≡ Some e → reading.is_call_of c e ≡ true
-    go [] own none = cc
-    go (i ∷ is) own same = let at : i.event ≡ e = cc in subst (λ x. reading.is_call_of c x ≡ true) at own.0
-
 pub next_left : (s : Sizes) (lenders : ℕ) (c : Caller) (left : Script) → AreCallsOf s lenders c left → AreCallsOf s lenders c (later left)
 next_left s lenders c left are = record { sizes = are.sizes; has = are.has; own = go left.inputs are.own }
   where
     go : (is : List Input) → Own c is → Own c (drop 1 is)
     go [] own = own
     go (i ∷ is) own = own.1
-
-pub next_fewer : (left : Script) (e : Event) → first_event left.inputs ≡ Some e → length (later left).inputs < length left.inputs
-next_fewer left e is = go left.inputs is
-  where
-    go : (is : List Input) → first_event is ≡ Some e → length (drop 1 is) < length is
-    go [] none = cc
-    go (i ∷ is) same = omega arith
 
 -- a call that was answered stands in front of those that are left
 pub next_plays :

@@ -52,9 +52,6 @@ pub oldest_more : (H : History) (k : ℕ) (row : Row) → named H k ≡ Some row
 oldest_more [] k row found lt = absurd (omega arith)
 oldest_more (first ∷ H) k row found lt = more_case first H k row (length H == k) refl found lt (λ lt' found'. oldest_more H k row found' lt')
 
-pub oldest_all : (H : History) → oldest (length H) H ≡ H
-oldest_all H = let none : length H - length H ≡ 0 = omega arith in rw none refl
-
 -- the array has zeros where a page was never paged out
 none_case :
     (zeros : List ℕ) (row : Row) (H : History) (page : Page) (b : Bool) → (if b then Some (next_name H) else last H page) ≡ None

@@ -108,39 +108,3 @@ some_is a b h = cc
 none_some : (a : Slab) → None ≡ Some a → ⊥
 none_some a h = cc
 
--- the slab that is mapped with a lease is one of the slabs, and mapped
-leased_within :
-    (states : List SlabState) (lender : Lender) (lease : Lease) (slab : Slab) (place : Option ℕ)
-    → position (λ state. slabs.has_lease lender lease state) states ≡ place → option_map (λ (n : ℕ). record { 0 = n }) place ≡ Some slab
-    → slab.0 < length states
-leased_within states lender lease slab None at is = cc
-leased_within states lender lease slab (Some n) at is =
-    let number : n ≡ slab.0 = ap (λ (x : Slab). x.0) (some_is (record { 0 = n }) slab is) in
-    subst (λ k. k < length states) number (position-Some (λ state. slabs.has_lease lender lease state) states n Local at).0
-
-pub by_lease_within :
-    (states : List SlabState) (lender : Lender) (lease : Lease) (slab : Slab) → slabs.by_lease states lender lease ≡ Some slab → slab.0 < length states
-by_lease_within states lender lease slab is = leased_within states lender lease slab (position (λ state. slabs.has_lease lender lease state) states) refl is
-
-only_mapped_is :
-    (states : List SlabState) (found : Option Slab) (slab : Slab) → only_mapped states found ≡ Some slab
-    → (found ≡ Some slab) × (slabs.is_mapped (slabs.state_of states slab) ≡ true)
-only_mapped_is states None slab is = cc
-only_mapped_is states (Some other) slab is =
-    ⊎_elim
-    (λ (t : slabs.is_mapped (slabs.state_of states other) ≡ true).
-    let same : Some other ≡ Some slab = sym (cond-true (slabs.is_mapped (slabs.state_of states other)) (Some other) None t) ∙ is in
-    (same, subst (λ (s : Slab). slabs.is_mapped (slabs.state_of states s) ≡ true) (some_is other slab same) t))
-    (λ (t : slabs.is_mapped (slabs.state_of states other) ≡ false).
-    let none : None ≡ Some slab = sym (cond-false (slabs.is_mapped (slabs.state_of states other)) (Some other) None t) ∙ is in
-    absurd (none_some slab none))
-    (cases_Bool (slabs.is_mapped (slabs.state_of states other)))
-
-pub mapped_by_within :
-    (states : List SlabState) (lender : Lender) (lease : Lease) (slab : Slab) → mapped_by states lender lease ≡ Some slab → slab.0 < length states
-mapped_by_within states lender lease slab is = by_lease_within states lender lease slab (only_mapped_is states (slabs.by_lease states lender lease) slab is).0
-
-pub mapped_by_mapped :
-    (states : List SlabState) (lender : Lender) (lease : Lease) (slab : Slab) → mapped_by states lender lease ≡ Some slab
-    → slabs.is_mapped (slabs.state_of states slab) ≡ true
-mapped_by_mapped states lender lease slab is = (only_mapped_is states (slabs.by_lease states lender lease) slab is).1

@@ -20,32 +20,6 @@ use Rattle.swap_run.specs.Checks.{ending_of, TextJudged, SourceJudged, VerdictEn
 use Rattle.swap_run.specs.Blocks.{IsFresh, HandsOn}
 use Rattle.swap_run.proofs.BlockEnds.{out_front, out_all, out_nothing, all_is_front}
 
--- a verdict that was told
-pub check_ends : (source out : Stream) (j : Judgement) (end : Ending) → Judged source j → VerdictEnds j out end → CheckEnds source out end
-check_ends source out j ending.Done h v = record { judgement = j; judged = h; is = v.0; wrote = v.1 }
-check_ends source out j ending.NotLegal h v = (v.0, record { judgement = j; judged = h; is = v.1; wrote = v.2 })
-check_ends source out j ending.WriteFailed h v = record { judgement = j; judged = h; wrote = v.0; failed = v.1 }
-check_ends source out j ending.NoMemory h v = v
-check_ends source out j ending.Faulted h v = absurd v
-check_ends source out j ending.Usage h v = absurd v
-check_ends source out j ending.ReadFailed h v = absurd v
-check_ends source out j (ending.Refused r) h v = absurd v
-check_ends source out j ending.HostFailed h v = absurd v
-check_ends source out j ending.TooLong h v = absurd v
-
--- no verdict
-pub without_verdict : (source out : Stream) (end : Ending) → SourceJudged source (Err end) → TookNothing out → CheckEnds source out end
-without_verdict source out ending.ReadFailed p none = (p, none)
-without_verdict source out (ending.Refused r) p none = (p, none)
-without_verdict source out ending.NoMemory p none = none
-without_verdict source out ending.TooLong p none = (p, none)
-without_verdict source out ending.Done p none = absurd p
-without_verdict source out ending.NotLegal p none = absurd p
-without_verdict source out ending.WriteFailed p none = absurd p
-without_verdict source out ending.Faulted p none = absurd p
-without_verdict source out ending.Usage p none = absurd p
-without_verdict source out ending.HostFailed p none = absurd p
-
 judged_as :
     (source : Stream) (text : List ℕ) (read : Result Transcript ScriptRefused) (r : Result Judgement Ending) → WasReadWhole source.before source.now text
     → length text ≤ TEXT_LIMIT → transcript text ≡ read → TextJudged read r → SourceJudged source r
@@ -63,14 +37,6 @@ pub judged_text :
     (source : Stream) (text : List ℕ) (r : Result Judgement Ending) → WasReadWhole source.before source.now text → length text ≤ TEXT_LIMIT
     → TextJudged (transcript text) r → SourceJudged source r
 judged_text source text r whole within h = judged_as source text (transcript text) r whole within refl h
-
-told_as : (j : Judgement) (out : Stream) (v : Verdict) → j.verdict ≡ v → Appends out.before out.now (verdict_line j) → VerdictEnds j out (ending_of v)
-told_as j out verdict.Legal is wrote = (is, wrote)
-told_as j out (verdict.NotLegal at) is wrote = (at, is, wrote)
-
--- a verdict whose line was taken
-pub told_whole : (j : Judgement) (out : Stream) (end : Ending) → end ≡ ending_of j.verdict → Appends out.before out.now (verdict_line j) → VerdictEnds j out end
-told_whole j out end is wrote = subst (VerdictEnds j out) (sym is) (told_as j out j.verdict refl wrote)
 
 -- a verdict that is told before a sink that gathers
 handed_on :

@@ -131,30 +131,6 @@ drills_complete source out (ending.Refused r) number calls p fine = absurd p.1
 drills_complete source out ending.HostFailed number calls p fine = absurd p.1
 drills_complete source out ending.TooLong number calls p fine = absurd p.1
 
--- what the words ask for may be run
-drill_may : (number calls : Option ℕ) → MayRun (drill_of number calls)
-drill_may None calls = tt
-drill_may (Some number) None = tt
-drill_may (Some number) (Some calls) = go (leb calls 100_000) refl
-  where
-    go : (b : Bool) → leb calls 100_000 ≡ b → MayRun (cond b (Some (RunDrill number calls)) None)
-    go true is = leb-true calls 100_000 is
-    go false is = tt
-
-may_if : (b : Bool) (x y : Option Command) → MayRun x → MayRun y → MayRun (cond b x y)
-may_if true x y p q = p
-may_if false x y p q = q
-
-pub command_may : (words : List (List ℕ)) → MayRun (command_of words)
-command_may [] = tt
-command_may (word ∷ []) =
-    may_if (is_word (codes "script") word) (Some RunScript) (cond (is_word (codes "check") word) (Some CheckTranscript) None) tt
-    (may_if (is_word (codes "check") word) (Some CheckTranscript) None tt tt)
-command_may (a ∷ b ∷ []) = tt
-command_may (word ∷ number ∷ calls ∷ []) =
-    may_if (is_word (codes "drill") word) (drill_of (number_of number) (number_of calls)) None (drill_may (number_of number) (number_of calls)) tt
-command_may (a ∷ b ∷ c ∷ d ∷ more) = tt
-
 -- a drill reads nothing of its source
 same_kept : (bytes : Option (List ℕ)) → Keeps bytes bytes
 same_kept None = tt

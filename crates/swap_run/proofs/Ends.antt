@@ -134,5 +134,3 @@ pub told :
 told s bytes line (Ok x) e ok err cause = inl (let P : List ℕ → Type 0 = λ l. Appends s.before s.now l in subst P e ok)
 told s bytes line (Err x) e ok err cause = inr (cause.failed, let P : List ℕ → Type 0 = λ l. AppendsFront s.before s.now l in subst P e err)
 
-pub ends_at : (command is : Option Command) (source out : Stream) (end : Ending) → command ≡ is → Ends is source out end → Ends command source out end
-ends_at command is source out end e h = let P : Option Command → Type 0 = λ c. Ends c source out end in subst P (sym e) h

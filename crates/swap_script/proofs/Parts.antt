@@ -21,11 +21,6 @@ use Rattle.swap_script.specs.Laws.{IsOfTrace}
 use Rattle.swap_script.specs.Spelled.{line_in, first_caller, is_caller}
 use Rattle.swap_io.specs.Words.{number}
 
-pub part_of-nil : (p : Part) → part_of p [] ≡ []
-part_of-nil part.Whole = refl
-part_of-nil (part.CallsOf c) = refl
-part_of-nil part.Operator = refl
-
 if_in : (b : Bool) (s : Sizes) (line : Line) (rest : List Input)
     → cond b (input_of s line ∷ rest) rest ≡ cons_option (option_map (input_of s) (cond b (Some line) None)) rest
 if_in true s line rest = refl
@@ -153,24 +148,12 @@ no_call d (event.Round word) h = refl
 out_of_part : (p : Part) (line : Line) (b : Bool) → is_in p line.event ≡ b → b ≡ false → line_in p (Some line) ≡ None
 out_of_part p line b is e = ap (λ t. cond t (Some line) None) (is ∙ e)
 
--- where a trace's line begins with a caller, it is no operator's
-operator_elsewhere : (o : Option Caller) (word : List ℕ) (words : List (List ℕ)) (x : Option Line) → is_some o ≡ true → x ≡ call_or_operator o word words
-    → line_in part.Operator x ≡ None
-operator_elsewhere None word words x is e = cc
-operator_elsewhere (Some c) word words None is e = refl
-operator_elsewhere (Some c) word words (Some line) is e = out_of_part part.Operator line false (call_calls c words line (sym e)).0 refl
-
 calls_elsewhere : (d : Caller) (o : Option Caller) (word : List ℕ) (words : List (List ℕ)) (x : Option Line) → is_caller d o ≡ false
     → x ≡ call_or_operator o word words → line_in (part.CallsOf d) x ≡ None
 calls_elsewhere d o word words None is e = refl
 calls_elsewhere d None word words (Some line) is e = out_of_part (part.CallsOf d) line false
     (no_call d line.event (operator_operates word words line (sym e)).0) refl
 calls_elsewhere d (Some c) word words (Some line) is e = out_of_part (part.CallsOf d) line false ((call_calls c words line (sym e)).1 d ∙ is) refl
-
--- what the first word of a trace's line shows
-pub operator_elsewhere_of : (words : List (List ℕ)) → is_some (first_caller words) ≡ true → line_in part.Operator (trace_line words) ≡ None
-operator_elsewhere_of [] is = cc
-operator_elsewhere_of (word ∷ words) is = operator_elsewhere (caller_word word) word words _ is refl
 
 pub calls_elsewhere_of : (d : Caller) (words : List (List ℕ)) → is_caller d (first_caller words) ≡ false → line_in (part.CallsOf d) (trace_line words) ≡ None
 calls_elsewhere_of d [] is = refl

@@ -132,36 +132,6 @@ module _ (k : Lease) (xs : List Leased) (i : ℕ) (place : IsPlace k xs i) where
       IsNonDecreasingBy-insert number_of xs i (record { lease = k; slab = s }) ascend le
       (λ j d lt. omega (arith, ltb-true (get_or xs j d).lease.0 k.0 (place.0 j d (omega arith) lt))) (λ j d from lt. least j d from lt)
 
-pub removed_ascends : (xs : List Leased) (i : ℕ) → i < length xs → Ascend xs → Ascend (remove xs i)
-removed_ascends xs i lt ascend a b d le within =
-    let short = length-remove xs i lt in
-    ⊎_elim
-    (λ (low : a < i).
-    ⊎_elim
-    (λ (low' : b < i).
-    omega (
-      arith,
-      ap number_of (get_or-remove_below xs i d a low lt),
-      ap number_of (get_or-remove_below xs i d b low' lt),
-      ascend a b d le (omega (arith, low', lt)),
-    ))
-    (λ (high : i ≤ b).
-    omega (
-      arith,
-      ap number_of (get_or-remove_below xs i d a low lt),
-      ap number_of (get_or-remove_above xs i d b high lt),
-      ascend a (b + 1) d (omega (arith, le)) (omega (arith, short, within)),
-    ))
-    (cases_lt b i))
-    (λ (high : i ≤ a).
-    omega (
-      arith,
-      ap number_of (get_or-remove_above xs i d a high lt),
-      ap number_of (get_or-remove_above xs i d b (omega (arith, high, le)) lt),
-      ascend (a + 1) (b + 1) d (omega (arith, le)) (omega (arith, short, within)),
-    ))
-    (cases_lt a i)
-
 -- the slab of a lease that has its place
 pub slab_at : (k : Lease) (xs : List Leased) (i : ℕ) (d : Leased) → position (has_number k) xs ≡ Some i → slab_in k xs ≡ Some (get_or xs i d).slab
 slab_at k xs i d e =

@@ -37,25 +37,9 @@ array-none z (row ∷ H) p e = go (is_out_of p row) e (array-none z H p)
     go true e rest = cc
     go false e rest = rest e
 
--- a call that doesn't wait for the disk
-pub idle_waits_not : (state : CallState) → is_idle state ≡ true → (r : Page) → WaitsFor r state → ⊥
-idle_waits_not Idle e r w = w
-idle_waits_not (Room p since) e r w = w
-idle_waits_not (Reading p newest_ v how newer since) e r w = cc
-
 abbrev pub is_waiting : Arrived → Bool
 is_waiting arrived.Waiting = true
 is_waiting _ = false
-
-not_waiting :
-    (p : Page) (n : EntryNo) (v : Via) (how : Arrived) (newer : Bool) (since : ℕ) (r : Page) → is_waiting how ≡ false
-    → WaitsFor r (Reading p n v how newer since)
-    → ⊥
-not_waiting p n via.Disk arrived.Waiting newer since r e w = cc
-not_waiting p n via.Disk arrived.Came newer since r e w = w
-not_waiting p n via.Disk arrived.Failed newer since r e w = w
-not_waiting p n via.Disk arrived.Lost newer since r e w = w
-not_waiting p n (via.Lender l) how newer since r e w = w
 
 -- the moves
 pub enter_fits :

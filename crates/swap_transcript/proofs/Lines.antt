@@ -16,10 +16,6 @@ use Rattle.swap_transcript.specs.Readers.{Words}
 use Rattle.swap_transcript.specs.Told.{page_word}
 use Rattle.swap_transcript.specs.Transcripts.{Pair, Above, Judged, pair_of, checked, counted, end_rest, end_number, counts, ended_at, before, pairs_from, with_pair, judging, tests, entries_in, tells_page}
 
-judging-before : (j : Judged) (pair : Pair) (read : Result (List Pair) ScriptRefused) → judging j (before pair read) ≡ judging (with_pair j pair) read
-judging-before j pair (Ok pairs) = refl
-judging-before j pair (Err e) = refl
-
 -- a line that isn't the end's
 abbrev pair_line : Sizes → ℕ → Above → ℕ → List (ℕ × List ℕ) → Result Pair Why → Result (List Pair) ScriptRefused
 pair_line s end above n rest read = at n read >>= λ pair. before pair (pairs_from s end (counted above pair) rest)
@@ -28,27 +24,6 @@ abbrev either : Sizes → ℕ → Above → ℕ → List ℕ → List (ℕ × Li
 either s end above n text rest o =
     option_map_or (λ behind. ended_at n (counts above.entries (end_number behind)) rest) o
     (pair_line s end above n rest (checked s above (pair_of s (words_of text))))
-
-pub line-on :
-    (s : Sizes) (end : ℕ) (above : Above) (j : Judged) (n : ℕ) (text : List ℕ) (rest : List (ℕ × List ℕ)) (pair : Pair) → end_rest (words_of text) ≡ None
-    → checked s above (pair_of s (words_of text)) ≡ Ok pair
-    → judging j (pairs_from s end above ((n, text) ∷ rest)) ≡ judging (with_pair j pair) (pairs_from s end (counted above pair) rest)
-line-on s end above j n text rest pair none is =
-    ap (λ o. judging j (either s end above n text rest o)) none ∙ ap (λ r. judging j (pair_line s end above n rest r)) is
-    ∙ judging-before j pair (pairs_from s end (counted above pair) rest)
-
-pub line-off :
-    (s : Sizes) (end : ℕ) (above : Above) (j : Judged) (n : ℕ) (text : List ℕ) (rest : List (ℕ × List ℕ)) (w : Why) → end_rest (words_of text) ≡ None
-    → checked s above (pair_of s (words_of text)) ≡ Err w
-    → judging j (pairs_from s end above ((n, text) ∷ rest)) ≡ Err (record { line = n; why = w })
-line-off s end above j n text rest w none is =
-    ap (λ o. judging j (either s end above n text rest o)) none ∙ ap (λ r. judging j (pair_line s end above n rest r)) is
-
-pub line-end :
-    (s : Sizes) (end : ℕ) (above : Above) (j : Judged) (n : ℕ) (text : List ℕ) (rest : List (ℕ × List ℕ)) (behind : Words)
-    → end_rest (words_of text) ≡ Some behind
-    → judging j (pairs_from s end above ((n, text) ∷ rest)) ≡ judging j (ended_at n (counts above.entries (end_number behind)) rest)
-line-end s end above j n text rest behind is = ap (λ o. judging j (either s end above n text rest o)) is
 
 four : (v w x y : Why) (a b c d : Bool) → first_beyond ((v, a) ∷ (w, b) ∷ (x, c) ∷ (y, d) ∷ []) ≡ None → (a ≡ true) × (d ≡ true)
 four v w x y true true true true e = (refl, refl)

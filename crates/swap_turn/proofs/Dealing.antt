@@ -22,10 +22,6 @@ numbers_from-snoc a zero = let e : zero + 1 ≡ suc zero = omega arith in let f 
 numbers_from-snoc a (suc n) = let e : suc n + 1 ≡ suc (n + 1) = omega arith in let f : suc a + n ≡ a + suc n = omega arith in
     ap (numbers_from a) e ∙ ap (λ (l : List ℕ). a ∷ l) (numbers_from-snoc (suc a) n ∙ ap (λ (k : ℕ). numbers_from (suc a) n ++ k ∷ []) f)
 
-pub dealt-first : (seats : ℕ) (log : History) → dealt seats log 0 ≡ first_view seats log
-dealt-first seats log =
-    let e : (seats - 1) - 0 ≡ seats - 1 = omega arith in ap (λ (k : ℕ). let v : View = record (first_view seats log) { left = numbers_from 0 k } in v) e
-
 pub dealt-left : (seats : ℕ) (log : History) (i : ℕ) → i < seats - 1 → (dealt seats log i).left ≡ i ∷ numbers_from (i + 1) ((seats - 1) - (i + 1))
 dealt-left seats log i lt = numbers_from-next i (seats - 1) lt
 

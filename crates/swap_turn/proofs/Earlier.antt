@@ -30,6 +30,3 @@ earlier_whole xs ys p le = no_longer p.later xs ys p.whole le
 pub earlier_length : (xs ys : History) → IsEarlier xs ys → length xs ≤ length ys
 earlier_length xs ys p = omega (arith, sym (ap length p.whole) ∙ length-append p.later xs)
 
--- two of which each is earlier are one
-pub earlier_both : (xs ys : History) → IsEarlier xs ys → IsEarlier ys xs → xs ≡ ys
-earlier_both xs ys p q = earlier_whole xs ys p (earlier_length ys xs q)

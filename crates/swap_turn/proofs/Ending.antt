@@ -17,15 +17,6 @@ pub record Gathers (seats : ℕ) (v : View) (left all : List Standing) : Type 0 
   pub seats_is : v.seats ≡ seats
   pub pairs : map pair_of left ++ pairs_of v ≡ map pair_of all
 
-pub gathers_first :
-    (seats : ℕ) (v : View) (left all : List Standing) (p : Standing) → v ≡ resting p.number p.lock.seats p.seen p.mine → p.lock.seats ≡ seats
-    → all ≡ left ++ p ∷ [] → Gathers seats v left all
-gathers_first seats v left all p is k split = record {
-  standing = ap (λ (x : View). x.spent) is;
-  idle = ap (λ (x : View). x.stage) is;
-  given = ap (λ (x : View). x.left) is;
-  seats_is = ap (λ (x : View). x.seats) is ∙ k;
-  pairs = ap (λ (x : View). map pair_of left ++ pairs_of x) is ∙ (sym (map-append pair_of left (p ∷ [])) ∙ ap (map pair_of) (sym split));
 }
 
 pub gathers_next : (seats : ℕ) (v w : View) (before left all : List Standing) (p : Standing) → Gathers seats v before all → before ≡ left ++ p ∷ []

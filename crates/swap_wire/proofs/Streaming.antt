@@ -56,12 +56,6 @@ taken_bad : (d : Decoding) (bytes : List ℕ) → d.bad ≡ true → take (taken
 taken_bad d bytes e =
     ap (λ (n : ℕ). take n bytes) (cond-true d.bad (length bytes) (min (length bytes) (room d)) e) ∙ take_all (length bytes) bytes (omega arith)
 
-said_bad : (d : Decoding) (step : Step) → d.bad ≡ true → Happens d step → SaysBad d.before step
-said_bad d (Fed bytes) e h = tt
-said_bad d (Asked (next.Got m) page) e h = absurd (both_ways d.bad h.alive e)
-said_bad d (Asked next.More page) e h = absurd (both_ways d.bad h.alive e)
-said_bad d (Asked (next.Bad at) page) e h = ap (λ (n : ℕ). next.Bad n) h.place
-
 pub bad_stays : (d : Decoding) (steps : List Step) → d.bad ≡ true → Runs d steps → BadStays d.before d steps
 bad_stays d [] e r = record { says = tt; stays = refl; takes = refl; gives = refl }
 bad_stays d (Fed bytes ∷ steps) e r =

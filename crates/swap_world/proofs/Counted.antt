@@ -156,9 +156,6 @@ seen_nothing d (Some t) = go t.done.which t.done.page t.done.ok t.bytes
     go (which.Read c) p true bytes = (refl, refl)
     go (which.Read c) p false bytes = (refl, refl)
 
-pub took_history : (d : Device) (taken : Option Taken) → (took_back d taken).0.history ≡ d.history
-took_history d taken = (seen_nothing d taken).1
-
 -- an entry answers the call that an event makes or goes on with
 out_answers :
     (d : Device) (page : List ℕ) (e : Event) (c : Caller) (p : Page) (bytes : List ℕ) → StepOut d page e c p bytes
@@ -246,5 +243,3 @@ polled_counts made d d' (DiskStep.Dropped p e) was now = counted_after made d d'
 polled_counts made d d' (DiskStep.Came c p) was now = counted_after made d d' _ (seen.ReadCame p) was now
 polled_counts made d d' (DiskStep.Failed c p) was now = counted_after made d d' _ (seen.ReadFailed p) was now
 
-pub few_failed : (made : List (Input × Seen)) → (failed_writes_in made ≤ length made) × (failed_reads_in made ≤ length made)
-few_failed made = (count_by-le-length (λ (m : Input × Seen). is_write_failed m.1) made, count_by-le-length (λ (m : Input × Seen). is_read_failed m.1) made)

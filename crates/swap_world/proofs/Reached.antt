@@ -36,7 +36,7 @@ use Rattle.swap_table.proofs.Kept.{took_back_of}
 use Rattle.swap_world.specs.Laws.{Began}
 use Rattle.swap_world.proofs.Steps.{Known, EachEventKeeps, step_comes, run_known, run_keeps}
 use Rattle.swap_world.proofs.Told.{IsTold, new_told, each_told}
-use Rattle.swap_world.proofs.Counted.{SaysLittle, took_history}
+use Rattle.swap_world.proofs.Counted.{SaysLittle}
 use Rattle.swap_table.specs.Comes.{ComesTo}
 use Rattle.swap_world.proofs.Busy.{took_back_idle}
 use Rattle.swap_world.proofs.Effects.{comes_to_stays}
@@ -389,9 +389,3 @@ reached_new disk fabric s n k f spare blank fresh few =
 pub polled_of : (d d' : Device) (taken : Option Taken) → d' ≡ (took_back d taken).0 → of_device d' ≡ of_device d
 polled_of d d' taken is = ap of_device is ∙ took_back_of d taken
 
-pub polled_history : (d d' : Device) (taken : Option Taken) → d' ≡ (took_back d taken).0 → d'.history ≡ d.history
-polled_history d d' taken is = ap (λ (x : Device). x.history) is ∙ took_history d taken
-
-pub polled_idle :
-    (d d' : Device) (taken : Option Taken) → d' ≡ (took_back d taken).0 → (c : Caller) → is_idle (state_of d'.calls c) ≡ is_idle (state_of d.calls c)
-polled_idle d d' taken is c = ap (λ (x : Device). is_idle (state_of x.calls c)) is ∙ took_back_idle d taken c
