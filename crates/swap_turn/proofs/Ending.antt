@@ -17,8 +17,6 @@ pub record Gathers (seats : ℕ) (v : View) (left all : List Standing) : Type 0 
   pub seats_is : v.seats ≡ seats
   pub pairs : map pair_of left ++ pairs_of v ≡ map pair_of all
 
-}
-
 pub gathers_next : (seats : ℕ) (v w : View) (before left all : List Standing) (p : Standing) → Gathers seats v before all → before ≡ left ++ p ∷ []
     → w ≡ taken_in v (resting p.number p.lock.seats p.seen p.mine) → Gathers seats w left all
 gathers_next seats v w before left all p g split is = record {
