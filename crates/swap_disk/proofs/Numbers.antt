@@ -12,7 +12,7 @@ use Rattle.swap_places.specs.Line.{Line, stands, AreBelow}
 use Rattle.swap_places.specs.Line as line
 use Rattle.swap_disk.specs.Disk.{Flight, Write, Read, which_of, is_flight_of, without}
 use Rattle.swap_disk.specs.Port.{writes_in, oldest_in, oldest_write_in, is_write}
-use Rattle.swap_disk.specs.Flights.{Flying, number_of, is_known, which_at, bytes_at, page_read, flight_at, flights_in, pages_among}
+use Rattle.swap_disk.specs.Flights.{Flying, AreKept, number_of, is_known, which_at, bytes_at, page_read, flight_at, flights_in, pages_among}
 
 flip : (a b : ℕ) → (a == b) ≡ (b == a)
 flip a b = ⊎_elim (λ (e : a ≡ b). eq-eqb a b e ∙ sym (eq-eqb b a (sym e))) (λ (ne : a ≢ b). ne_eqb a b ne ∙ sym (ne_eqb b a (λ e. ne (sym e)))) (cases_eq a b)
@@ -298,3 +298,22 @@ module _ (s : Sizes) (reading : List Page) (kept : List (Option (List ℕ))) (or
 
   pub seen_out : is_known s w ≡ true → find (is_flight_of w) now.flights ≡ None → stands order.numbers (number_of s w) ≡ false
   seen_out known free = out_of_line s reading kept w order.numbers known (ap (λ (f : Flying). find (is_flight_of w) f.flights) v ∙ free)
+
+-- a write in flight: its page is one of the disk's, and stands in both lines
+pub record IsWriting (s : Sizes) (order writes : Line) (page : Page) : Type 0 where
+  pub low : page.0 < pages_of s
+  pub flies : stands order.numbers page.0 ≡ true
+  pub waits : stands writes.numbers page.0 ≡ true
+
+pub writing :
+    (s : Sizes) (order writes : Line) (reading : List Page) (kept : List (Option (List ℕ))) (spare : List (List ℕ)) (now : Flying) (page : Page)
+    → AreKept s order writes reading kept spare → ◌≡◌ {A = Flying} (record { sizes = s; flights = flights_in s reading kept order.numbers }) now
+    → AreBelow order.bound order.numbers → IsSome (find (is_flight_of (which.Write page)) now.flights) → IsWriting s order writes page
+writing s order writes reading kept spare now page keeps seen below some =
+    let in' = seen_in s reading kept order now seen keeps.order_bound below (which.Write page) some in
+    let low : page.0 < pages_of s = ltb-true page.0 (pages_of s) in'.0 in
+    record {
+      low = low;
+      flies = in'.1;
+      waits = ap (λ l. stands l page.0) keeps.writes_are ∙ page_stands s reading kept order.numbers page.0 low ∙ in'.1;
+    }

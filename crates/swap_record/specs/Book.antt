@@ -5,6 +5,7 @@ use Rattle.std.specs.List.{All}
 use Rattle.swap_base.specs.declared.Caller.{Caller}
 use Rattle.swap_base.specs.declared.Page.{Page}
 use Rattle.swap_record.specs.declared.Op.{Op}
+use Rattle.swap_record.specs.declared.TheConstants.{MOST_ENTRIES}
 use Rattle.swap_record.specs.History.{History, Row, count_of, pushed}
 
 pub record Book : Type 0 where
@@ -31,6 +32,6 @@ HasNumbers (row ∷ H) = (row.entry.number ≡ count_of row.entry.caller H) × H
 pub record IsBook (b : Book) : Type 0 where
   pub page : b.page_bytes ≤ 4_096
   pub pages : All (λ (row : Row). length row.bytes ≡ b.page_bytes) b.history
-  pub few : length b.history + b.spare ≤ 4_194_304
+  pub few : length b.history + b.spare ≤ MOST_ENTRIES
   pub numbers : HasNumbers b.history
   pub marked : IfSome b.noted (λ n. n < length b.history)

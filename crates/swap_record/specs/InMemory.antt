@@ -5,6 +5,7 @@ use Rattle.std.specs.declared.vec.Vec.{Vec}
 use Rattle.std.specs.declared.alloc.Global.{Global}
 use Rattle.swap_base.specs.declared.Caller.{Caller}
 use Rattle.swap_record.specs.declared.Entry.{Entry}
+use Rattle.swap_record.specs.declared.TheConstants.{MOST_CALLERS, MOST_ENTRIES}
 use Rattle.swap_record.specs.History.{History, Row, count_of}
 use Rattle.swap_record.specs.Book.{HasNumbers}
 
@@ -19,14 +20,14 @@ history_in page_bytes entries bytes = reverse (rows_in page_bytes entries bytes)
 
 -- the counts are those of the history
 abbrev pub AreCounts : List ℕ → History → Type 0
-AreCounts counts H = (caller : Caller) → caller.0 < 64 → slice_index counts caller.0 ≡ count_of caller H
+AreCounts counts H = (caller : Caller) → caller.0 < MOST_CALLERS → slice_index counts caller.0 ≡ count_of caller H
 
 -- the block has each entry's page, and there is room for what was reserved
 pub record IsKept (page_bytes : ℕ) (entries : Vec Entry Global) (bytes : Vec ℕ Global) (counts : List ℕ) (spare : ℕ)
     (noted : Option ℕ) : Type 0 where
   pub page : page_bytes ≤ 4_096
   pub block : length bytes.items ≡ length entries.items * page_bytes
-  pub few : vec_len entries + spare ≤ 4_194_304
+  pub few : vec_len entries + spare ≤ MOST_ENTRIES
   pub entries_room : vec_len entries + spare ≤ vec_capacity entries
   pub bytes_room : vec_len bytes + spare * page_bytes ≤ vec_capacity bytes
   pub counted : AreCounts counts (history_in page_bytes entries.items bytes.items)

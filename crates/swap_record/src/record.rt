@@ -2,16 +2,10 @@ ghost use Rattle.std.specs.Prelude.{◌≡◌, ◌+◌, ◌-◌, ◌<◌, ◌≤
 ghost use Rattle.swap_record.specs.History.{Row, next_name, named};
 ghost use Rattle.swap_record.specs.Book.{IsBook, written, first_noted};
 
-use super::{Entry, Op};
+use super::{Entry, MOST_CALLERS, MOST_ENTRIES, Op};
 use std::alloc::Global;
 use std::marker::Model;
 use swap_base::{CallKind, Caller, EntryNo, Origin, Page};
-
-/// How many entries a history may have.
-pub const MOST_ENTRIES: u32 = 4_194_304;
-
-/// How many callers a history may tell apart.
-pub const MOST_CALLERS: usize = 64;
 
 /// Why there is no room for more entries.
 #[derive(Clone, Copy, Debug, PartialEq, Eq)]
@@ -80,7 +74,7 @@ impl Record {
         ensures ok { OnOk result (self.new ≡ record self.old { spare = max self.old.spare n }) }
         ensures err { OnErr result (self.new ≡ self.old) }
         ensures too_many { (result ≡ Err ReserveRefused.TooMany)
-            ↔ (4_194_304 < length self.old.history + n) }
+            ↔ (MOST_ENTRIES < length self.old.history + n) }
         ensures no_memory { result ≡ Err ReserveRefused.NoMemory → self.old.spare < n }
     {
         if n > MOST_ENTRIES - self.entries.len() as u32 {
@@ -94,7 +88,7 @@ impl Record {
 
     /// Makes room for `n` more entries, of which there is less.
     fn grow(&mut self, n: u32) -> Result<(), ReserveRefused>
-        requires few { length self.old.history + n ≤ 4_194_304 }
+        requires few { length self.old.history + n ≤ MOST_ENTRIES }
         requires more { self.old.spare < n }
         ensures ok { OnOk result (self.new ≡ record self.old { spare = n }) }
         ensures err { OnErr result (self.new ≡ self.old) }
@@ -177,7 +171,7 @@ impl Record {
 
     /// A page-out, with the bytes handed in.
     pub fn push_out(&mut self, caller: Caller, page: Page, bytes: &[u8]) -> EntryNo
-        requires caller { caller.0 < 64 }
+        requires caller { caller.0 < MOST_CALLERS }
         requires room { 0 < self.old.spare }
         requires bytes { length bytes.now ≡ self.old.page_bytes }
         ensures after { self.new ≡ written self.old caller page Op.PageOut bytes.now }
@@ -195,7 +189,7 @@ impl Record {
         origin: Origin,
         bytes: &[u8],
     ) -> EntryNo
-        requires caller { caller.0 < 64 }
+        requires caller { caller.0 < MOST_CALLERS }
         requires room { 0 < self.old.spare }
         requires bytes { length bytes.now ≡ self.old.page_bytes }
         ensures after { self.new ≡ written self.old caller page (Op.PageIn named origin) bytes.now }
@@ -214,7 +208,7 @@ impl Record {
         at: u64,
         bytes: &[u8],
     ) -> EntryNo
-        requires caller { caller.0 < 64 }
+        requires caller { caller.0 < MOST_CALLERS }
         requires room { 0 < self.old.spare }
         requires bytes { length bytes.now ≡ self.old.page_bytes }
         ensures after { self.new
@@ -225,7 +219,7 @@ impl Record {
     }
 
     fn push(&mut self, caller: Caller, page: Page, op: Op, bytes: &[u8]) -> EntryNo
-        requires caller { caller.0 < 64 }
+        requires caller { caller.0 < MOST_CALLERS }
         requires room { 0 < self.old.spare }
         requires bytes { length bytes.now ≡ self.old.page_bytes }
         ensures after { self.new ≡ written self.old caller page op bytes.now }

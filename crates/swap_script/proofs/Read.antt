@@ -16,6 +16,7 @@ use Rattle.swap_script.specs.declared.ScriptRefused.{ScriptRefused}
 use Rattle.swap_script.specs.Lines.{words_of}
 use Rattle.swap_script.specs.Forms.{Line, line_of}
 use Rattle.swap_script.specs.Reading.{Above, are_addressed, is_within_reach, has_caller, has_page, has_slab, has_lender, has_pattern, tests, fault_of, fault_or, counted, first_fault, input_of, inputs_of, calls_of, calls_in, Reads, AllRead}
+use Rattle.swap_script.specs.declared.TheConstants.{CALL_BYTES, EVENT_LIMIT}
 
 -- where the first line is an event's and owes nothing
 pub first_fault-on : (g : Grammar) (end : ℕ) (s : Sizes) (lenders : ℕ) (above : Above) (n : ℕ) (text : List ℕ) (rest : List (ℕ × List ℕ)) (line : Line)
@@ -61,7 +62,7 @@ in_range s n (event.Round word) hc hp hs hl = tt
 
 -- a line that owes nothing reads, isn't behind too many events, and is within reach
 pub owes_nothing : (g : Grammar) (s : Sizes) (lenders : ℕ) (above : Above) (line : Line) → first_beyond (tests g s lenders above line) ≡ None
-    → Reads s lenders (Some line) × (above.events < 4_194_304) × (is_within_reach g line.event ≡ true)
+    → Reads s lenders (Some line) × (above.events < EVENT_LIMIT) × (is_within_reach g line.event ≡ true)
 owes_nothing g s lenders above line e =
     let owed = tests g s lenders above line in
     let addressed = passes why.Lenders (are_addressed g lenders) (drop 1 owed) e in
@@ -70,10 +71,10 @@ owes_nothing g s lenders above line e =
     let slab = passes why.Slab (has_slab s line.event) (drop 4 owed) page.1 in
     let lender = passes why.Lender (has_lender lenders line.event) (drop 5 owed) slab.1 in
     let pattern = passes why.Pattern (has_pattern s line) (drop 6 owed) lender.1 in
-    let calls = passes why.Calls (nat_le ((above.calls + calls_in line.event) * s.page_bytes) 1_073_741_824) (drop 7 owed) pattern.1 in
-    let events = passes why.Events (nat_lt above.events 4_194_304) (drop 8 owed) calls.1 in
+    let calls = passes why.Calls (nat_le ((above.calls + calls_in line.event) * s.page_bytes) CALL_BYTES) (drop 7 owed) pattern.1 in
+    let events = passes why.Events (nat_lt above.events EVENT_LIMIT) (drop 8 owed) calls.1 in
     let near = passes why.Tcp (is_within_reach g line.event) [] events.1 in
-    ((in_range s lenders line.event caller.0 page.0 slab.0 lender.0, pattern.0), below above.events 4_194_304 events.0, near.0)
+    ((in_range s lenders line.event caller.0 page.0 slab.0 lender.0, pattern.0), below above.events EVENT_LIMIT events.0, near.0)
 
 reads : (g : Grammar) (s : Sizes) (lenders : ℕ) (above : Above) (o : Option Line) → fault_of g s lenders above o ≡ None → Reads s lenders o
 reads g s lenders above None e = cc

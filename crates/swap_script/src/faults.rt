@@ -7,15 +7,9 @@ ghost use Rattle.swap_script.specs.Reading.{caller_of, page_of, mapped_slab, len
 ghost use Rattle.swap_script.specs.Spelled.{spelled, above_of};
 
 use super::forms::Line;
-use super::{Grammar, Why};
+use super::{CALL_BYTES, EVENT_LIMIT, Grammar, Why};
 use swap_base::{Caller, DiskWhich, Geometry, Lender, Page, Slab};
 use swap_wire::Event;
-
-/// How many bytes all calls of a script may page, at most.
-pub const CALL_BYTES: u64 = 1_073_741_824;
-
-/// How many events a script may have, at most.
-pub const EVENT_LIMIT: u32 = 4_194_304;
 
 /// How many events stand above a line, and how many of them are calls.
 #[derive(Clone, Copy)]

@@ -11,7 +11,7 @@ use super::faults::{Counts, are_addressed, fault_of, is_out};
 use super::forms::{Line, begins_with, geometry_line, is_call, line_of};
 use super::lending::{Lenders, lender_line, lender_rest};
 use super::text::{Kept, Place, line_count};
-use super::{Grammar, Part, ScriptRefused, TEXT_LIMIT, Why};
+use super::{EVENT_LIMIT, Grammar, Part, ScriptRefused, TEXT_LIMIT, Why};
 use std::marker::Model;
 use swap_base::{Caller, Geometry, LenderSpec};
 use swap_io::pattern;
@@ -145,6 +145,7 @@ pub struct Script<'t> {
 
 impl<'t> Model for Script<'t> {
     ghost use Rattle.std.specs.Prelude.{◌≡◌, ◌≤◌, length};
+    ghost use Rattle.swap_script.specs.declared.TheConstants.{EVENT_LIMIT};
     ghost use Rattle.swap_script.specs.Reading.{Script, inputs_of, calls_of, AllRead, MayLend};
 
     ghost Value = { Script };
@@ -160,7 +161,7 @@ impl<'t> Model for Script<'t> {
         × MayLend s.geometry s.lenders
         × (s.calls ≡ calls_of (inputs_of s.grammar s.geometry s.place))
         × (s.events ≡ length (inputs_of s.grammar s.geometry s.place)) × (s.calls ≤ s.events)
-        × (s.events ≤ 4_194_304) };
+        × (s.events ≤ EVENT_LIMIT) };
 }
 
 impl<'t> Script<'t> {
@@ -192,14 +193,14 @@ impl<'t> Script<'t> {
     /// How many of the events are calls, page-outs and page-ins.
     pub fn calls(&self) -> u32
         ensures calls { result ≡ calls_of self.now.inputs }
-        ensures within { result ≤ 4_194_304 }
+        ensures within { result ≤ EVENT_LIMIT }
     {
         self.calls
     }
 
     pub fn events(&self) -> u32
         ensures events { result ≡ length self.now.inputs }
-        ensures within { result ≤ 4_194_304 }
+        ensures within { result ≤ EVENT_LIMIT }
     {
         self.events
     }
@@ -291,7 +292,7 @@ fn checked_lines(
     ensures calls { IfOk result
         (λ counts. counts.calls ≡ calls_of (inputs_of grammar geometry.now place.entry)) }
     ensures within { IfOk result
-        (λ counts. (counts.calls ≤ counts.events) × (counts.events ≤ 4_194_304)) }
+        (λ counts. (counts.calls ≤ counts.events) × (counts.events ≤ EVENT_LIMIT)) }
 {
     let mut counts = Counts {
         events: 0,

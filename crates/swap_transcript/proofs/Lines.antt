@@ -15,6 +15,7 @@ use Rattle.swap_script.specs.Reading.{◌>>=◌, at, caller_of, has_caller, has_
 use Rattle.swap_transcript.specs.Readers.{Words}
 use Rattle.swap_transcript.specs.Told.{page_word}
 use Rattle.swap_transcript.specs.Transcripts.{Pair, Above, Judged, pair_of, checked, counted, end_rest, end_number, counts, ended_at, before, pairs_from, with_pair, judging, tests, entries_in, tells_page}
+use Rattle.swap_script.specs.declared.TheConstants.{CALL_BYTES, EVENT_LIMIT}
 
 -- a line that isn't the end's
 abbrev pair_line : Sizes → ℕ → Above → ℕ → List (ℕ × List ℕ) → Result Pair Why → Result (List Pair) ScriptRefused
@@ -34,12 +35,12 @@ four v w x y false b c d e = cc
 
 -- what a line owes that has no fault
 pub owes_nothing :
-    (s : Sizes) (above : Above) (pair : Pair) → first_beyond (tests s above pair) ≡ None → (has_caller s pair.event ≡ true) × (above.events < 4_194_304)
+    (s : Sizes) (above : Above) (pair : Pair) → first_beyond (tests s above pair) ≡ None → (has_caller s pair.event ≡ true) × (above.events < EVENT_LIMIT)
 owes_nothing s above pair e =
     let parts =
     four why.Caller why.Page why.Calls why.Events (has_caller s pair.event) (has_page s pair.event && tells_page s pair.told)
-    (nat_le ((above.entries + entries_in pair.told) * s.page_bytes) 1_073_741_824) (nat_lt above.events 4_194_304) e in
-    (parts.0, ltb-true above.events 4_194_304 parts.1)
+    (nat_le ((above.entries + entries_in pair.told) * s.page_bytes) CALL_BYTES) (nat_lt above.events EVENT_LIMIT) e in
+    (parts.0, ltb-true above.events EVENT_LIMIT parts.1)
 
 -- a caller in range is one of the callers that a record tells apart
 few_callers : (s : Sizes) (o : Option Caller) → s.callers ≤ 16 → option_map_or (λ (c : Caller). nat_lt c.0 s.callers) o true ≡ true → IfSome o (λ c. c.0 < 64)

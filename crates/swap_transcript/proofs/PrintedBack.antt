@@ -19,6 +19,7 @@ use Rattle.swap_transcript.proofs.Inked.{small_inked, pair_inked}
 use Rattle.swap_transcript.proofs.Apart.{IsPrintedLine, kept-printed}
 use Rattle.swap_transcript.proofs.Whole.{spec_small, entries_after}
 use Rattle.swap_transcript.proofs.WholeBack.{few_entries, entries_of-is, transcript-back}
+use Rattle.swap_script.specs.declared.TheConstants.{EVENT_LIMIT}
 
 abbrev AllPrinted : List Words → Type 0
 AllPrinted lines = AllByRecursion IsPrintedLine lines
@@ -100,7 +101,7 @@ end_printed n l = record { first = codes "end"; others = _; are = refl; inked = 
 
 pub printed_is_read : PrintedIsRead
 printed_is_read t h =
-    let few : entries_after nothing_above t.pairs ≤ 4_194_304 = few_entries t.sizes t.pairs nothing_above h.pairs (omega arith) (omega arith) in
+    let few : entries_after nothing_above t.pairs ≤ EVENT_LIMIT = few_entries t.sizes t.pairs nothing_above h.pairs (omega arith) (omega arith) in
     let end : entries_of t < 2 ^ 32 = omega (arith, few, entries_of-is t) in
     let lines : AllPrinted (transcript_words t) = (
       geometry_printed t.sizes h.sizes,

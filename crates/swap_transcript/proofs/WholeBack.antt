@@ -19,6 +19,7 @@ use Rattle.swap_transcript.specs.Laws.{geometry_words, lender_words, end_words, 
 use Rattle.swap_transcript.proofs.ResultBack.{pair_of-back}
 use Rattle.swap_transcript.proofs.Lines.{owes_nothing}
 use Rattle.swap_transcript.proofs.Whole.{bind_ok, at_ok, geometry-only, geometry-back, front-only, front-back, pairs-only, entries_after, NoLender, parts}
+use Rattle.swap_script.specs.declared.TheConstants.{EVENT_LIMIT}
 
 -- the same of lines
 record Spelled (lines : List (ℕ × List ℕ)) (t : Transcript) : Type 0 where
@@ -56,8 +57,8 @@ event_apart (event.Round w) words = (refl, refl)
 
 -- there are few entries
 pub few_entries :
-    (s : Sizes) (pairs : List Pair) (above : Above) → MayFollow s above pairs → above.entries ≤ above.events → above.events ≤ 4_194_304
-    → entries_after above pairs ≤ 4_194_304
+    (s : Sizes) (pairs : List Pair) (above : Above) → MayFollow s above pairs → above.entries ≤ above.events → above.events ≤ EVENT_LIMIT
+    → entries_after above pairs ≤ EVENT_LIMIT
 few_entries s [] above h fewer within = omega arith
 few_entries s (pair ∷ pairs) above h fewer within =
     let owes = owes_nothing s above pair h.1 in
@@ -65,7 +66,7 @@ few_entries s (pair ∷ pairs) above h fewer within =
 
 pairs-back :
     (s : Sizes) (end : ℕ) (pairs : List Pair) (above : Above) (lines : List (ℕ × List ℕ)) → MayFollow s above pairs → above.entries ≤ above.events
-    → above.events ≤ 4_194_304 → words_in lines ≡ map pair_words pairs ++ end_words (entries_after above pairs) ∷ []
+    → above.events ≤ EVENT_LIMIT → words_in lines ≡ map pair_words pairs ++ end_words (entries_after above pairs) ∷ []
     → pairs_from s end above lines ≡ Ok pairs
 pairs-back s end [] above [] h fewer within e = cc
 pairs-back s end [] above ((n, text) ∷ []) h fewer within e =

@@ -26,6 +26,7 @@ use Rattle.swap_transcript.specs.Readers.{Words, word_at}
 use Rattle.swap_transcript.specs.Events.{event_at}
 use Rattle.swap_transcript.specs.Told.{Told, Saw, Entered, Shown}
 use Rattle.swap_transcript.specs.Results.{told_of}
+use Rattle.swap_script.specs.declared.TheConstants.{CALL_BYTES, EVENT_LIMIT}
 
 -- an event, and what its line tells of it
 pub record Pair : Type 0 where
@@ -80,8 +81,8 @@ abbrev pub tests : Sizes → Above → Pair → List (Why × Bool)
 tests s above pair =
     (why.Caller, has_caller s pair.event)
     ∷ (why.Page, has_page s pair.event && tells_page s pair.told)
-    ∷ (why.Calls, nat_le ((above.entries + entries_in pair.told) * s.page_bytes) 1_073_741_824)
-    ∷ (why.Events, nat_lt above.events 4_194_304)
+    ∷ (why.Calls, nat_le ((above.entries + entries_in pair.told) * s.page_bytes) CALL_BYTES)
+    ∷ (why.Events, nat_lt above.events EVENT_LIMIT)
     ∷ []
 
 abbrev pub checked : Sizes → Above → Option Pair → Result Pair Why

@@ -18,10 +18,10 @@ use std::alloc::Global;
 use swap_base::{Caller, Geometry, NoMemory, Page};
 use swap_io::number;
 use swap_record::{Op, Record};
-use swap_script::faults::{CALL_BYTES, EVENT_LIMIT, caller_of, has_caller, has_page};
+use swap_script::faults::{caller_of, has_caller, has_page};
 use swap_script::forms::{geometry_line, is_word};
 use swap_script::text::{Kept, Place, Words, line_count};
-use swap_script::{ScriptRefused, TEXT_LIMIT, Why, front_of};
+use swap_script::{CALL_BYTES, EVENT_LIMIT, ScriptRefused, TEXT_LIMIT, Why, front_of};
 use swap_wire::{Event, Seen};
 
 /// How many events stand above a line, and how many of them have an entry.
