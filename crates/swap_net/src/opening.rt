@@ -141,6 +141,7 @@ where
         return Err(NotOpened::NoMemory);
     };
     let desk = writer::Desk {
+        alloc,
         orders: to_do,
         spare,
         streams,
