@@ -2,7 +2,7 @@
 #![tactic(auto)]
 
 ghost use Rattle.std.specs.Prelude.{ℕ, ◌≡◌, ◌*◌, ◌+◌, ◌-◌, ◌^◌, ◌<◌, ◌≤◌, ◌↔◌, IsTrue, List};
-ghost use Rattle.swap_activity.specs.Rates.{greatest, average, ceiling, still, hit, end_period, IsNearExact};
+ghost use Rattle.swap_activity.specs.Rates.{greatest, average, ceiling, activity_at_start, hit, end_period, IsNearExact};
 
 use std::marker::Model;
 
@@ -42,7 +42,7 @@ impl Model for Rate {
 impl Rate {
     /// A rate of no hits.
     pub fn new() -> Rate
-        ensures { result ≡ still }
+        ensures { result ≡ activity_at_start }
     {
         Rate { value: 0, hits: 0 }
     }

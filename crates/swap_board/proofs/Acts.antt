@@ -12,7 +12,7 @@ use Rattle.swap_table.specs.declared.DiskStep.{DiskStep}
 use Rattle.swap_table.specs.Device.{Device, disk_take, of_device}
 use Rattle.swap_table.specs.Happens.{see_disk}
 use Rattle.swap_world.specs.World.{IsEvent}
-use Rattle.swap_world.specs.Runs.{WorldOf, has_effect, event_of, logged_if, logged_polled, logged_with}
+use Rattle.swap_world.specs.Runs.{WorldView, has_effect, event_of, logged_if, logged_polled, logged_with}
 use Rattle.swap_board.specs.Acts.{Act, Made, Polled, Maker, IsActed, opens, makes, polls, line_of, line_if, line_with, lines_of, Makes, AreMade, calls_since, since_after, PACE}
 
 pub lines_of-append : (new acts : List Act) → lines_of (new ++ acts) ≡ lines_of acts ++ lines_of new
@@ -50,7 +50,7 @@ module _ {D F : Type 0} (disk_moves : D → (c : DiskCall) → DiskAnswer c → 
 
   -- one call after others
   pub makes_on :
-      (first w w' : WorldOf D F) (acts new : List Act) → Makes disk_moves moves acts first w → Makes disk_moves moves new w w'
+      (first w w' : WorldView D F) (acts new : List Act) → Makes disk_moves moves acts first w → Makes disk_moves moves new w w'
       → Makes disk_moves moves (new ++ acts) first w'
   makes_on first w w' acts new was now = record {
     acted =
@@ -64,12 +64,12 @@ module _ {D F : Type 0} (disk_moves : D → (c : DiskCall) → DiskAnswer c → 
 
   -- nothing, one event, and a poll
   pub makes_none :
-      (w w' : WorldOf D F) → w'.core.device ≡ w.core.device → w'.core.disk ≡ w.core.disk → w'.core.fabric ≡ w.core.fabric → w'.log ≡ w.log
+      (w w' : WorldView D F) → w'.core.device ≡ w.core.device → w'.core.disk ≡ w.core.disk → w'.core.fabric ≡ w.core.fabric → w'.log ≡ w.log
       → Makes disk_moves moves [] w w'
   makes_none w w' ed ek ef el = record { acted = rw (ed, ek, ef) opens; logged = el ∙ sym (append-nil w.log); of = ap of_device ed }
 
   pub makes_step :
-      (w w' : WorldOf D F) (by : Maker) (i : Input) (s : Seen) → IsInRange w.core.device.sizes w.core.device.lenders i.event
+      (w w' : WorldView D F) (by : Maker) (i : Input) (s : Seen) → IsInRange w.core.device.sizes w.core.device.lenders i.event
       → IsEvent disk_moves moves w.core.device w.core.disk w.core.fabric i s w'.core.device w'.core.disk w'.core.fabric
       → w'.log ≡ logged_if (has_effect i.event s) w.log i.event s → of_device w'.core.device ≡ of_device w.core.device
       → Makes disk_moves moves (Made by i s ∷ []) w w'
@@ -80,7 +80,7 @@ module _ {D F : Type 0} (disk_moves : D → (c : DiskCall) → DiskAnswer c → 
   }
 
   pub makes_poll :
-      (w w' : WorldOf D F) (step : DiskStep)
+      (w w' : WorldView D F) (step : DiskStep)
       → Along disk_moves moves (disk_take w.core.device) w.core.disk w.core.fabric w'.core.disk w'.core.fabric (w'.core.device, step)
       → w'.log ≡ logged_polled step w.log → of_device w'.core.device ≡ of_device w.core.device
       → Makes disk_moves moves (Polled step ∷ []) w w'
@@ -92,7 +92,8 @@ module _ {D F : Type 0} (disk_moves : D → (c : DiskCall) → DiskAnswer c → 
 
   -- one event after room was made
   pub makes_after :
-      (w w1 w' : WorldOf D F) (by : Maker) (i : Input) (s : Seen) → w1.core.device ≡ w.core.device → w1.core.disk ≡ w.core.disk → w1.core.fabric ≡ w.core.fabric
+      (w w1 w' : WorldView D F) (by : Maker) (i : Input) (s : Seen) → w1.core.device ≡ w.core.device → w1.core.disk ≡ w.core.disk
+      → w1.core.fabric ≡ w.core.fabric
       → w1.log ≡ w.log → IsInRange w.core.device.sizes w.core.device.lenders i.event
       → IsEvent disk_moves moves w1.core.device w1.core.disk w1.core.fabric i s w'.core.device w'.core.disk w'.core.fabric
       → w'.log ≡ logged_if (has_effect i.event s) w1.log i.event s → of_device w'.core.device ≡ of_device w1.core.device

@@ -19,10 +19,10 @@ use Rattle.swap_record.specs.History.{History, Row}
 use Rattle.swap_table.specs.Device.{Device, of_device}
 use Rattle.swap_device.specs.State.{KeepsRoom}
 use Rattle.swap_world.specs.World.{IsEvent}
-use Rattle.swap_world.specs.Runs.{WorldOf, has_effect, logged_if, Adds, AnswersCall, nothing, one, busy_callers, GrowsByCalls, is_new_call}
-use Rattle.swap_board.specs.Acts.{Act, Made, Polled, Maker, Player, Pacer, Operator, Makes, AreMade, IsPlayers, IsOperators, calls_in, calls_after, calls_since, since_after, drawn, operated, places, lines_of, PACE}
-use Rattle.swap_board.specs.Works.{IsSame, Works, WorksAt, PumpsAs, MakesOne, MakesAs, Paced, paces, since_now, ends, known, IsCallless}
-use Rattle.swap_board.specs.Boards.{Named, BoardOf, IsBoard, Begins, seed_of, IsCall, IsAnswered, IsAnswerTo, AddsEntry, TellsFault, AreOperators, Operates, OperatesAs, operated_of}
+use Rattle.swap_world.specs.Runs.{WorldView, has_effect, logged_if, Adds, AnswersCall, nothing, one, busy_callers, GrowsByCalls, is_new_call}
+use Rattle.swap_board.specs.Acts.{Act, Made, Polled, Maker, Player, Pacer, Operator, Makes, AreMade, IsPlayers, IsOperators, calls_in, calls_after, calls_since, since_after, seed_after, operator_events, places, lines_of, PACE}
+use Rattle.swap_board.specs.Works.{IsSame, Works, WorksAt, PumpsAs, MakesOne, MakesAs, Paced, paces, since_now, ends, known_operation, IsCallless}
+use Rattle.swap_board.specs.Boards.{Named, BoardView, IsBoard, Begins, seed_of, IsCall, IsAnswered, IsAnswerTo, AddsEntry, TellsFault, AreOperators, Operates, OperatesAs, operated_of}
 use Rattle.swap_board.specs.declared.board.Operated.{Operated}
 use Rattle.swap_board.specs.Boards as boards
 use Rattle.swap_board.specs.declared.works.Point.{Point}
@@ -37,7 +37,8 @@ abbrev pub AreQuiet : List Act → Type 0
 AreQuiet new =
     (seed : Lcg) (first : ℕ) (acts : List Act) → AreMade seed acts → calls_since acts ≤ PACE
     → AreMade seed (new ++ acts) × (calls_since (new ++ acts) ≡ calls_since acts) × (calls_in (new ++ acts) ≡ calls_in acts)
-    × (drawn seed (new ++ acts) ≡ drawn seed acts) × (operated (new ++ acts) ≡ operated acts) × (places first (new ++ acts) ≡ places first acts)
+    × (seed_after seed (new ++ acts) ≡ seed_after seed acts) × (operator_events (new ++ acts) ≡ operator_events acts)
+    × (places first (new ++ acts) ≡ places first acts)
 
 abbrev pub IsQuiet : Event → Type 0
 IsQuiet e = IsPlayers e × ((n : ℕ) → since_after e n ≡ n) × ((n : ℕ) → calls_after e n ≡ n)
@@ -66,13 +67,13 @@ quiet_ends None page s new quiet = quiet
 quiet_ends (Some w) page s new quiet = quiet_more (record { event = event.Disk w true; page = page }) s new (tt, λ n. refl, λ n. refl) quiet
 
 module _ {D F : Type 0} (disk_moves : D → (c : DiskCall) → DiskAnswer c → D → Type 0) (moves : F → (c : FabricCall) → FabricAnswer c → F → Type 0) where
-  pub point_quiet : (means : D → Port) (p : Point) (acts : List Act) (w w' : WorldOf D F) → WorksAt disk_moves moves means p acts w w' → AreQuiet acts
+  pub point_quiet : (means : D → Port) (p : Point) (acts : List Act) (w w' : WorldView D F) → WorksAt disk_moves moves means p acts w w' → AreQuiet acts
   point_quiet means point.Disk acts w w' at_ =
       subst AreQuiet (sym at_.acts_are)
       (quiet_polled at_.step
-      (ends (known w.core.device.sizes at_.oldest) at_.end_page at_.end_seen
+      (ends (known_operation w.core.device.sizes at_.oldest) at_.end_page at_.end_seen
       ++ Made Player (record { event = event.Start; page = at_.start_page }) at_.start_seen ∷ [])
-      (quiet_ends (known w.core.device.sizes at_.oldest) at_.end_page at_.end_seen
+      (quiet_ends (known_operation w.core.device.sizes at_.oldest) at_.end_page at_.end_seen
       (Made Player (record { event = event.Start; page = at_.start_page }) at_.start_seen ∷ [])
       (quiet_more (record { event = event.Start; page = at_.start_page }) at_.start_seen [] (tt, λ n. refl, λ n. refl) quiet_none)))
   point_quiet means (point.Give l) acts w w' (page, s, is) =
@@ -82,7 +83,7 @@ module _ {D F : Type 0} (disk_moves : D → (c : DiskCall) → DiskAnswer c → 
 
   -- the board after quiet acts
   pub board_quiet :
-      (n : Named D F) (w w' : WorldOf D F) (begun since : ℕ) (placed : List ℕ) (words : Lcg) (new : List Act) → AreQuiet new → Works disk_moves moves new w w'
+      (n : Named D F) (w w' : WorldView D F) (begun since : ℕ) (placed : List ℕ) (words : Lcg) (new : List Act) → AreQuiet new → Works disk_moves moves new w w'
       → IsBoard disk_moves moves n w begun since placed words → IsBoard disk_moves moves n w' begun since placed words
   board_quiet n w w' begun since placed words new quiet works b =
       let q = quiet (seed_of n.number) (length b.first.log) b.acts b.made (few_since (seed_of n.number) b.acts b.made) in
@@ -106,14 +107,14 @@ module _ {D F : Type 0} (disk_moves : D → (c : DiskCall) → DiskAnswer c → 
 
   -- and in a world with other room
   pub board_same :
-      (n : Named D F) (w w' : WorldOf D F) (begun since : ℕ) (placed : List ℕ) (words : Lcg) → IsSame w w'
+      (n : Named D F) (w w' : WorldView D F) (begun since : ℕ) (placed : List ℕ) (words : Lcg) → IsSame w w'
       → IsBoard disk_moves moves n w begun since placed words
       → IsBoard disk_moves moves n w' begun since placed words
   board_same n w w' begun since placed words same b = board_quiet n w w' begun since placed words [] quiet_none (works_same disk_moves moves w w' same) b
 
   -- the board after a point was worked at
   pub pumped_board :
-      (means : D → Port) (n : Named D F) (w w' : WorldOf D F) (begun since : ℕ) (placed : List ℕ) (words : Lcg) (p : Point) (m : Moved)
+      (means : D → Port) (n : Named D F) (w w' : WorldView D F) (begun since : ℕ) (placed : List ℕ) (words : Lcg) (p : Point) (m : Moved)
       → PumpsAs disk_moves moves means p m w w'
       → IsBoard disk_moves moves n w begun since placed words → IsBoard disk_moves moves n w' begun since placed words
   pumped_board means n w w' begun since placed words p moved.Did pumps b =
@@ -123,7 +124,7 @@ module _ {D F : Type 0} (disk_moves : D → (c : DiskCall) → DiskAnswer c → 
   pumped_board means n w w' begun since placed words p moved.NoMemory same b = board_same n w w' begun since placed words same b
 
   pub pumped_of :
-      (means : D → Port) (w w' : WorldOf D F) (p : Point) (m : Moved) → PumpsAs disk_moves moves means p m w w'
+      (means : D → Port) (w w' : WorldView D F) (p : Point) (m : Moved) → PumpsAs disk_moves moves means p m w w'
       → of_device w'.core.device ≡ of_device w.core.device
   pumped_of means w w' p moved.Did pumps = pumps.works.makes.of
   pumped_of means w w' p moved.Nothing pumps = pumps.works.makes.of
@@ -140,15 +141,15 @@ record PacedOn (seed : Lcg) (acts new : List Act) (since1 : ℕ) (words1 : Lcg) 
   pub made : AreMade seed (new ++ acts)
   pub since : since1 ≡ calls_since (new ++ acts)
   pub few : since1 < PACE
-  pub words : words1 ≡ drawn seed (new ++ acts)
+  pub words : words1 ≡ seed_after seed (new ++ acts)
   pub calls : calls_in (new ++ acts) ≡ calls_in acts
-  pub operated_same : operated (new ++ acts) ≡ operated acts
+  pub operated_same : operator_events (new ++ acts) ≡ operator_events acts
   pub placed : places first (new ++ acts) ≡ places first acts
 
 paced_by :
     (seed : Lcg) (acts : List Act) (since : ℕ) (g : Lcg) (page : List ℕ) (s : Seen) (since1 : ℕ) (words1 : Lcg) (first : ℕ) (b : Bool) → nat_le PACE since ≡ b
-    → since ≡ calls_since acts → g ≡ drawn seed acts → AreMade seed acts
-    → since1 ≡ cond b 0 since → words1 ≡ drawn g (cond b (Made Pacer (record { event = event.Round (pcg32 g).0; page = page }) s ∷ []) [])
+    → since ≡ calls_since acts → g ≡ seed_after seed acts → AreMade seed acts
+    → since1 ≡ cond b 0 since → words1 ≡ seed_after g (cond b (Made Pacer (record { event = event.Round (pcg32 g).0; page = page }) s ∷ []) [])
     → PacedOn seed acts (cond b (Made Pacer (record { event = event.Round (pcg32 g).0; page = page }) s ∷ []) []) since1 words1 first
 paced_by seed acts since g page s since1 words1 first true due is_since is_g are now after = record {
   made = (ap (λ (x : Lcg). event.Round (pcg32 x).0) is_g, omega arith, are);
@@ -195,7 +196,7 @@ finish_adds d d1 page c s H same told adds = subst (λ (x : Device). AddsEntry (
 
 module _ {D F : Type 0} (disk_moves : D → (c : DiskCall) → DiskAnswer c → D → Type 0) (moves : F → (c : FabricCall) → FabricAnswer c → F → Type 0) where
   -- a call's event, after the Round that was due
-  pub makes_begun : (w w1 w' : WorldOf D F) (since : ℕ) (words : Lcg) (since1 : ℕ) (words1 : Lcg) (i : Input) (s : Seen)
+  pub makes_begun : (w w1 w' : WorldView D F) (since : ℕ) (words : Lcg) (since1 : ℕ) (words1 : Lcg) (i : Input) (s : Seen)
       (p : Paced disk_moves moves since words w since1 words1 w1)
       → IsInRange w1.core.device.sizes w1.core.device.lenders i.event
       → IsEvent disk_moves moves w1.core.device w1.core.disk w1.core.fabric i s w'.core.device w'.core.disk w'.core.fabric
@@ -205,7 +206,8 @@ module _ {D F : Type 0} (disk_moves : D → (c : DiskCall) → DiskAnswer c → 
       makes_on disk_moves moves w w1 w' (paces since words p.page p.seen) (Made Player i s ∷ []) p.works.makes
       (makes_step disk_moves moves w1 w' Player i s range step logged of)
 
-  pub board_begun : (n : Named D F) (w w1 w' : WorldOf D F) (begun since : ℕ) (placed : List ℕ) (words : Lcg) (since1 : ℕ) (words1 : Lcg) (i : Input) (s : Seen)
+  pub board_begun : (n : Named D F) (w w1 w' : WorldView D F) (begun since : ℕ) (placed : List ℕ) (words : Lcg) (since1 : ℕ) (words1 : Lcg) (i : Input)
+      (s : Seen)
       → IsCall i.event → (p : Paced disk_moves moves since words w since1 words1 w1) → IsInRange w1.core.device.sizes w1.core.device.lenders i.event
       → IsEvent disk_moves moves w1.core.device w1.core.disk w1.core.fabric i s w'.core.device w'.core.disk w'.core.fabric
       → w'.log ≡ logged_if (has_effect i.event s) w1.log i.event s
@@ -239,7 +241,7 @@ module _ {D F : Type 0} (disk_moves : D → (c : DiskCall) → DiskAnswer c → 
       }
 
   -- what the call's beginning says
-  pub begins : (calls : ℕ) (w w1 w' : WorldOf D F) (begun since made : ℕ) (words : Lcg) (since1 : ℕ) (words1 : Lcg) (e : Event) (page : List ℕ) (s : Seen)
+  pub begins : (calls : ℕ) (w w1 w' : WorldView D F) (begun since made : ℕ) (words : Lcg) (since1 : ℕ) (words1 : Lcg) (e : Event) (page : List ℕ) (s : Seen)
       (p : Paced disk_moves moves since words w since1 words1 w1)
       → Makes disk_moves moves (Made Player (record { event = e; page = page }) s ∷ paces since words p.page p.seen) w w' → begun < calls
       → Begins disk_moves moves calls e page s (record { world = w; begun = begun; since = since; made = made; words = words })
@@ -250,13 +252,13 @@ module _ {D F : Type 0} (disk_moves : D → (c : DiskCall) → DiskAnswer c → 
     makes = makes_;
     fewer = fewer;
     now =
-        ap (λ (n : ℕ). let b : BoardOf D F = record { world = w'; begun = begun + 1; since = n + 1; made = made; words = words1 } in b) p.since_is
-        ∙ ap (λ (g : Lcg). let b : BoardOf D F = record { world = w'; begun = begun + 1; since = since_now since + 1; made = made; words = g } in b) p.words;
+        ap (λ (n : ℕ). let b : BoardView D F = record { world = w'; begun = begun + 1; since = n + 1; made = made; words = words1 } in b) p.since_is
+        ∙ ap (λ (g : Lcg). let b : BoardView D F = record { world = w'; begun = begun + 1; since = since_now since + 1; made = made; words = g } in b) p.words;
   }
 
   -- a later step of a call
   pub board_finished :
-      (n : Named D F) (w w1 w' : WorldOf D F) (begun since : ℕ) (placed : List ℕ) (words : Lcg) (i : Input) (s : Seen) → IsSame w w1 → IsQuiet i.event
+      (n : Named D F) (w w1 w' : WorldView D F) (begun since : ℕ) (placed : List ℕ) (words : Lcg) (i : Input) (s : Seen) → IsSame w w1 → IsQuiet i.event
       → is_new_call i.event ≡ 0
       → Makes disk_moves moves (Made Player i s ∷ []) w w' → KeepsRoom w1.core w'.core → GrowsByCalls i.event w1.core.device w'.core.device
       → IsBoard disk_moves moves n w begun since placed words → IsBoard disk_moves moves n w' begun since placed words
@@ -284,7 +286,7 @@ module _ {D F : Type 0} (disk_moves : D → (c : DiskCall) → DiskAnswer c → 
 
   -- a board that was just made
   pub board_made :
-      (n : Named D F) (w w' : WorldOf D F) (words : Lcg) → n.opening ≡ Some w → w.core.device.sizes ≡ n.sizes → w.core.device.lenders ≡ n.lenders
+      (n : Named D F) (w w' : WorldView D F) (words : Lcg) → n.opening ≡ Some w → w.core.device.sizes ≡ n.sizes → w.core.device.lenders ≡ n.lenders
       → AreOperators n.sizes n.lenders n.operator → busy_callers w.core.device ≡ 0 → n.calls ≤ w'.core.spare
       → IsSame w w' → words ≡ seed_of n.number → IsBoard disk_moves moves n w' 0 0 [] words
   board_made n w w' words is sizes lenders operators idle room same ew = record {
@@ -326,7 +328,7 @@ all_at P (x ∷ xs) (suc i) d all within = all_at P xs i d all.1 (omega (arith, 
 
 module _ {D F : Type 0} (disk_moves : D → (c : DiskCall) → DiskAnswer c → D → Type 0) (moves : F → (c : FabricCall) → FabricAnswer c → F → Type 0) where
   -- the board after the operator's next event
-  pub board_operated : (n : Named D F) (w w' : WorldOf D F) (begun since : ℕ) (placed placed' : List ℕ) (words : Lcg) (e : Event) (page : List ℕ) (s : Seen)
+  pub board_operated : (n : Named D F) (w w' : WorldView D F) (begun since : ℕ) (placed placed' : List ℕ) (words : Lcg) (e : Event) (page : List ℕ) (s : Seen)
       → IsOperators e → length placed < length n.operator → e ≡ get_or n.operator (length placed) e → placed' ≡ placed ++ length w.log ∷ []
       → Works disk_moves moves (Made Operator (record { event = e; page = page }) s ∷ []) w w'
       → IsBoard disk_moves moves n w begun since placed words → IsBoard disk_moves moves n w' begun (since_after e since) placed' words
@@ -355,21 +357,21 @@ module _ {D F : Type 0} (disk_moves : D → (c : DiskCall) → DiskAnswer c → 
       }
 
   -- an event was made, or nothing was for want of memory
-  pub made_none : (e : Event) (m : Moved) (w w' : WorldOf D F) → m ≡ moved.NoMemory → MakesAs disk_moves moves e m w w' → IsSame w w'
+  pub made_none : (e : Event) (m : Moved) (w w' : WorldView D F) → m ≡ moved.NoMemory → MakesAs disk_moves moves e m w w' → IsSame w w'
   made_none e moved.Did w w' is made = cc
   made_none e moved.Nothing w w' is made = cc
   made_none e moved.NoMemory w w' is made = made
 
-  pub made_one : (e : Event) (m : Moved) (w w' : WorldOf D F) → m ≢ moved.NoMemory → MakesAs disk_moves moves e m w w' → MakesOne disk_moves moves e m w w'
+  pub made_one : (e : Event) (m : Moved) (w w' : WorldView D F) → m ≢ moved.NoMemory → MakesAs disk_moves moves e m w w' → MakesOne disk_moves moves e m w w'
   made_one e moved.Did w w' some made = made
   made_one e moved.Nothing w w' some made = made
   made_one e moved.NoMemory w w' some made = absurd (some refl)
 
-  abbrev board_at : WorldOf D F → ℕ → ℕ → ℕ → Lcg → BoardOf D F
+  abbrev board_at : WorldView D F → ℕ → ℕ → ℕ → Lcg → BoardView D F
   board_at w begun since made words = record { world = w; begun = begun; since = since; made = made; words = words }
 
   operates :
-      (es : List Event) (e : Event) (w w' : WorldOf D F) (begun since made since' made' : ℕ) (words : Lcg) (m : Moved) → MakesOne disk_moves moves e m w w'
+      (es : List Event) (e : Event) (w w' : WorldView D F) (begun since made since' made' : ℕ) (words : Lcg) (m : Moved) → MakesOne disk_moves moves e m w w'
       → made < length es → e ≡ get_or es made e
       → since' ≡ since_after e since → made' ≡ made + 1
       → Operates disk_moves moves es (operated_of m) (board_at w begun since made words) (board_at w' begun since' made' words)
@@ -386,7 +388,7 @@ module _ {D F : Type 0} (disk_moves : D → (c : DiskCall) → DiskAnswer c → 
 
   -- what the operator's call says
   pub operates_as :
-      (es : List Event) (e : Event) (w w' : WorldOf D F) (begun since made since' made' : ℕ) (words : Lcg) (m : Moved) (o : Operated) → m ≢ moved.NoMemory
+      (es : List Event) (e : Event) (w w' : WorldView D F) (begun since made since' made' : ℕ) (words : Lcg) (m : Moved) (o : Operated) → m ≢ moved.NoMemory
       → MakesOne disk_moves moves e m w w' → made < length es → e ≡ get_or es made e
       → since' ≡ since_after e since → made' ≡ made + 1 → o ≡ operated_of m
       → OperatesAs disk_moves moves es o (board_at w begun since made words) (board_at w' begun since' made' words)

@@ -18,17 +18,17 @@ use Rattle.swap_wire.specs.Fabric.{FabricOf}
 use Rattle.swap_disk.specs.Port.{Port, DiskCall, DiskAnswer, TakeDone, TellsOldest}
 use Rattle.swap_disk.specs.Disk.{Taken}
 use Rattle.swap_record.specs.History.{History, Row}
-use Rattle.swap_calls.specs.Calls.{Call, Calls, state_of, idle, is_idle}
+use Rattle.swap_calls.specs.Calls.{Call, Calls, state_of, idle_call, is_idle}
 use Rattle.swap_table.proofs.Lists.{one_if, count_by-cons}
 use Rattle.swap_table.specs.Ports.{Along}
 use Rattle.swap_table.specs.declared.DiskStep.{DiskStep}
 use Rattle.swap_table.specs.Device.{Device, Core, disk_take, took_back, of_device}
 use Rattle.swap_device.specs.State.{KeepsRoom}
 use Rattle.swap_world.specs.World.{IsEvent}
-use Rattle.swap_world.specs.Runs.{WorldOf, has_effect, logged_if, Adds, nothing, one, AnswersEvent, HasSpare, IsPolled, IsLogged, is_busy_call, busy_callers, GrowsByCalls, is_new_call, one_less_if, StaysIdle}
+use Rattle.swap_world.specs.Runs.{WorldView, has_effect, logged_if, Adds, nothing, one, AnswersEvent, HasSpare, IsPolled, IsLogged, is_busy_call, busy_callers, GrowsByCalls, is_new_call, one_less_if, StaysIdle}
 use Rattle.swap_world.specs.Answered.{is_call_of}
-use Rattle.swap_board.specs.Acts.{Act, Made, Polled, Maker, Player, Pacer, lines_of, drawn, PACE}
-use Rattle.swap_board.specs.Works.{IsSame, Works, Stepped, Ended, Polls, Pumps, PumpsAs, MakesOne, MakesAs, moved_by, moved_between, IsCallless, Paced, ends, known}
+use Rattle.swap_board.specs.Acts.{Act, Made, Polled, Maker, Player, Pacer, lines_of, seed_after, PACE}
+use Rattle.swap_board.specs.Works.{IsSame, Works, Stepped, Ended, Polls, Pumps, PumpsAs, MakesOne, MakesAs, moved_by, moved_between, IsCallless, Paced, ends, known_operation}
 use Rattle.swap_board.specs.declared.works.Point.TheVariants as point
 use Rattle.swap_board.specs.declared.works.Moved.{Moved}
 use Rattle.swap_board.specs.declared.works.Moved.TheVariants as moved
@@ -52,7 +52,8 @@ callless_adds d i s H is (one row seen_ same answers) = absurd (answers_none d i
 
 -- where as many calls are idle, as many are busy
 busy_same :
-    (xs ys : Calls) → ((n : ℕ) → is_idle (get_or xs n idle).state ≡ is_idle (get_or ys n idle).state) → count_by is_busy_call xs ≡ count_by is_busy_call ys
+    (xs ys : Calls) → ((n : ℕ) → is_idle (get_or xs n idle_call).state ≡ is_idle (get_or ys n idle_call).state)
+    → count_by is_busy_call xs ≡ count_by is_busy_call ys
 busy_same [] [] same = refl
 busy_same [] (y ∷ ys) same =
     let first : one_if true ≡ one_if (is_idle y.state) = ap one_if (same 0) in
@@ -78,7 +79,7 @@ busy_same (x ∷ xs) (y ∷ ys) same =
     let a = count_by-cons is_busy_call x xs in let b = count_by-cons is_busy_call y ys in omega (arith, a, b, here, rest)
 
 -- a caller with a call under way is busy
-pub busy_some : (cs : Calls) (n : ℕ) → is_idle (get_or cs n idle).state ≡ false → 0 < count_by is_busy_call cs
+pub busy_some : (cs : Calls) (n : ℕ) → is_idle (get_or cs n idle_call).state ≡ false → 0 < count_by is_busy_call cs
 busy_some [] n busy = cc
 busy_some (x ∷ cs) zero busy = let a = count_by-cons is_busy_call x cs in let b = ap (λ i. one_if (not i)) busy in omega (arith, a, b)
 busy_some (x ∷ cs) (suc n) busy = let a = count_by-cons is_busy_call x cs in let b = busy_some cs n busy in omega (arith, a, b)
@@ -114,7 +115,7 @@ never_none before now is = by_test (nat_lt before now) is
 
 module _ {D F : Type 0} (disk_moves : D → (c : DiskCall) → DiskAnswer c → D → Type 0) (moves : F → (c : FabricCall) → FabricAnswer c → F → Type 0) where
   pub works_on :
-      (first w w' : WorldOf D F) (acts new : List Act) → Works disk_moves moves acts first w → Works disk_moves moves new w w'
+      (first w w' : WorldView D F) (acts new : List Act) → Works disk_moves moves acts first w → Works disk_moves moves new w w'
       → Works disk_moves moves (new ++ acts) first w'
   works_on first w w' acts new was now = record {
     makes = makes_on disk_moves moves first w w' acts new was.makes now.makes;
@@ -123,7 +124,7 @@ module _ {D F : Type 0} (disk_moves : D → (c : DiskCall) → DiskAnswer c → 
     spare = let a = was.spare in let b = now.spare in omega (arith, a, b);
   }
 
-  pub works_same : (w w' : WorldOf D F) → IsSame w w' → Works disk_moves moves [] w w'
+  pub works_same : (w w' : WorldView D F) → IsSame w w' → Works disk_moves moves [] w w'
   works_same w w' same = record {
     makes = makes_none disk_moves moves w w' same.device same.disk same.fabric same.log;
     history = ap (λ (d : Device). d.history) same.device;
@@ -132,11 +133,11 @@ module _ {D F : Type 0} (disk_moves : D → (c : DiskCall) → DiskAnswer c → 
   }
 
   -- after room was made
-  pub works_after : (w w1 w' : WorldOf D F) (new : List Act) → IsSame w w1 → Works disk_moves moves new w1 w' → Works disk_moves moves new w w'
+  pub works_after : (w w1 w' : WorldView D F) (new : List Act) → IsSame w w1 → Works disk_moves moves new w1 w' → Works disk_moves moves new w w'
   works_after w w1 w' new same works = subst (λ l. Works disk_moves moves l w w') (append-nil new) (works_on w w1 w' [] new (works_same w w1 same) works)
 
   -- one event that is no step of a call
-  pub works_step : (w w' : WorldOf D F) (by : Maker) (i : Input) (s : Seen) → IsCallless i.event → IsInRange w.core.device.sizes w.core.device.lenders i.event
+  pub works_step : (w w' : WorldView D F) (by : Maker) (i : Input) (s : Seen) → IsCallless i.event → IsInRange w.core.device.sizes w.core.device.lenders i.event
       → IsEvent disk_moves moves w.core.device w.core.disk w.core.fabric i s w'.core.device w'.core.disk w'.core.fabric
       → w'.log ≡ logged_if (has_effect i.event s) w.log i.event s → of_device w'.core.device ≡ of_device w.core.device
       → Adds w.core.device i s w'.core.device.history
@@ -154,7 +155,7 @@ module _ {D F : Type 0} (disk_moves : D → (c : DiskCall) → DiskAnswer c → 
 
   -- a poll
   pub works_poll :
-      (w w' : WorldOf D F) (s : Seen) → (p : IsPolled disk_moves w.core.device w.core.disk w.log s w'.core.device w'.core.disk w'.log)
+      (w w' : WorldView D F) (s : Seen) → (p : IsPolled disk_moves w.core.device w.core.disk w.log s w'.core.device w'.core.disk w'.log)
       → w'.core.fabric ≡ w.core.fabric → w'.core.device.history ≡ w.core.device.history
       → w'.core.spare ≡ w.core.spare → of_device w'.core.device ≡ of_device w.core.device
       → ((c : Caller) → is_idle (state_of w'.core.device.calls c) ≡ is_idle (state_of w.core.device.calls c))
@@ -173,11 +174,11 @@ module _ {D F : Type 0} (disk_moves : D → (c : DiskCall) → DiskAnswer c → 
   round_of g page s = Made Pacer (record { event = event.Round (pcg32 g).0; page = page }) s ∷ []
 
   -- no Round is due
-  pub paced_none : (since : ℕ) (g : Lcg) (w w1 : WorldOf D F) → since < PACE → IsSame w w1 → 0 < w1.log_spare → Paced disk_moves moves since g w since g w1
+  pub paced_none : (since : ℕ) (g : Lcg) (w w1 : WorldView D F) → since < PACE → IsSame w w1 → 0 < w1.log_spare → Paced disk_moves moves since g w since g w1
   paced_none since g w w1 early same room =
       let no : nat_le PACE since ≡ false = grind (arith, nat_tests, early) in
       let P : Bool → Type 0 = λ b. Works disk_moves moves (cond b (round_of g [] seen.Nothing) []) w w1 in
-      let Q : Bool → Type 0 = λ b. g ≡ drawn g (cond b (round_of g [] seen.Nothing) []) in
+      let Q : Bool → Type 0 = λ b. g ≡ seed_after g (cond b (round_of g [] seen.Nothing) []) in
       let R : Bool → Type 0 = λ b. since ≡ cond b 0 since in
       let I : Device → Type 0 = λ d. (c : Caller) → c.0 < w.core.device.sizes.callers → is_idle (state_of w.core.device.calls c) ≡ true
       → is_idle (state_of d.calls c) ≡ true in
@@ -193,7 +194,7 @@ module _ {D F : Type 0} (disk_moves : D → (c : DiskCall) → DiskAnswer c → 
 
   -- a Round is made
   pub paced_round :
-      (since : ℕ) (g g' : Lcg) (word : ℕ) (page : List ℕ) (s : Seen) (w w1 w' : WorldOf D F) → PACE ≤ since → (word, g') ≡ pcg32 g → IsSame w w1
+      (since : ℕ) (g g' : Lcg) (word : ℕ) (page : List ℕ) (s : Seen) (w w1 w' : WorldView D F) → PACE ≤ since → (word, g') ≡ pcg32 g → IsSame w w1
       → Works disk_moves moves (Made Pacer (record { event = event.Round word; page = page }) s ∷ []) w1 w'
       → StaysIdle w1.core.device (event.Round word) w'.core.device → 0 < w'.log_spare → Paced disk_moves moves since g w 0 g' w'
   paced_round since g g' word page s w w1 w' late drew same works stays room =
@@ -203,7 +204,7 @@ module _ {D F : Type 0} (disk_moves : D → (c : DiskCall) → DiskAnswer c → 
       works_on w w1 w' [] (Made Pacer (record { event = event.Round word; page = page }) s ∷ []) (works_same w w1 same) works in
       let W : ℕ → Type 0 = λ n. Works disk_moves moves (Made Pacer (record { event = event.Round n; page = page }) s ∷ []) w w' in
       let P : Bool → Type 0 = λ b. Works disk_moves moves (cond b (round_of g page s) []) w w' in
-      let Q : Bool → Type 0 = λ b. g' ≡ drawn g (cond b (round_of g page s) []) in
+      let Q : Bool → Type 0 = λ b. g' ≡ seed_after g (cond b (round_of g page s) []) in
       let R : Bool → Type 0 = λ b. 0 ≡ cond b 0 since in
       let I : Device → Type 0 = λ d. (c : Caller) → c.0 < d.sizes.callers → is_idle (state_of d.calls c) ≡ true
       → is_idle (state_of w'.core.device.calls c) ≡ true in
@@ -219,16 +220,16 @@ module _ {D F : Type 0} (disk_moves : D → (c : DiskCall) → DiskAnswer c → 
 
   -- the oldest operation of a disk in memory finishes, where there is one
   pub ended_some :
-      (means : D → Port) (w w' : WorldOf D F) (oldest : Option DiskWhich) (which : DiskWhich)
-      → TellsOldest (means w.core.disk).blocks (means w.core.disk).flights oldest → known w.core.device.sizes oldest ≡ Some which
+      (means : D → Port) (w w' : WorldView D F) (oldest : Option DiskWhich) (which : DiskWhich)
+      → TellsOldest (means w.core.disk).blocks (means w.core.disk).flights oldest → known_operation w.core.device.sizes oldest ≡ Some which
       → Stepped disk_moves moves (event.Disk which true) w w' → Ended disk_moves moves means w w'
   ended_some means w w' oldest which tells is made =
       let P : Option DiskWhich → Type 0 = λ o. Works disk_moves moves (ends o made.page made.seen) w w' in
       record { oldest = oldest; tells = tells; page = made.page; seen = made.seen; works = subst P (sym is) (made.works Player) }
 
   pub ended_none :
-      (means : D → Port) (w : WorldOf D F) (oldest : Option DiskWhich) → TellsOldest (means w.core.disk).blocks (means w.core.disk).flights oldest
-      → known w.core.device.sizes oldest ≡ None → Ended disk_moves moves means w w
+      (means : D → Port) (w : WorldView D F) (oldest : Option DiskWhich) → TellsOldest (means w.core.disk).blocks (means w.core.disk).flights oldest
+      → known_operation w.core.device.sizes oldest ≡ None → Ended disk_moves moves means w w
   ended_none means w oldest tells is =
       let P : Option DiskWhich → Type 0 = λ o. Works disk_moves moves (ends o [] seen.Nothing) w w in
       record {
@@ -241,14 +242,14 @@ module _ {D F : Type 0} (disk_moves : D → (c : DiskCall) → DiskAnswer c → 
 
   -- all of what a pump makes at the disk
   worked_disk :
-      (means : D → Port) (w w1 w2 w3 w' : WorldOf D F) → IsSame w w1 → Stepped disk_moves moves event.Start w1 w2 → Ended disk_moves moves means w2 w3
+      (means : D → Port) (w w1 w2 w3 w' : WorldView D F) → IsSame w w1 → Stepped disk_moves moves event.Start w1 w2 → Ended disk_moves moves means w2 w3
       → Polls disk_moves moves w3 w' → (m : Moved) → m ≡ moved_between (length w.log) (length w'.log) → Pumps disk_moves moves means point.Disk m w w'
   worked_disk means w w1 w2 w3 w' same start ended polled m says =
       let first : List Act = Made Player (record { event = event.Start; page = start.page }) start.seen ∷ [] in
       let starts : Works disk_moves moves first w w2 = works_after w w1 w2 first same (start.works Player) in
       let sizes : w2.core.device.sizes ≡ w.core.device.sizes = ap (λ (o : FabricOf). o.sizes) starts.makes.of in
-      let E : Sizes → Type 0 = λ s. Works disk_moves moves (ends (known s ended.oldest) ended.page ended.seen) w2 w3 in
-      let middle : List Act = ends (known w.core.device.sizes ended.oldest) ended.page ended.seen in
+      let E : Sizes → Type 0 = λ s. Works disk_moves moves (ends (known_operation s ended.oldest) ended.page ended.seen) w2 w3 in
+      let middle : List Act = ends (known_operation w.core.device.sizes ended.oldest) ended.page ended.seen in
       let rest : Works disk_moves moves (Polled polled.step ∷ middle) w2 w' =
       works_on w2 w3 w' middle (Polled polled.step ∷ []) (subst E sizes ended.works) polled.works in
       let all : Works disk_moves moves ((Polled polled.step ∷ middle) ++ first) w w' = works_on w w2 w' first (Polled polled.step ∷ middle) starts rest in
@@ -273,7 +274,7 @@ module _ {D F : Type 0} (disk_moves : D → (c : DiskCall) → DiskAnswer c → 
       }
 
   pub worked_as :
-      (means : D → Port) (w w1 w2 w3 w' : WorldOf D F) → IsSame w w1 → Stepped disk_moves moves event.Start w1 w2 → Ended disk_moves moves means w2 w3
+      (means : D → Port) (w w1 w2 w3 w' : WorldView D F) → IsSame w w1 → Stepped disk_moves moves event.Start w1 w2 → Ended disk_moves moves means w2 w3
       → Polls disk_moves moves w3 w' → (m : Moved) → m ≡ moved_between (length w.log) (length w'.log) → PumpsAs disk_moves moves means point.Disk m w w'
   worked_as means w w1 w2 w3 w' same start ended polled moved.Did says = worked_disk means w w1 w2 w3 w' same start ended polled moved.Did says
   worked_as means w w1 w2 w3 w' same start ended polled moved.Nothing says = worked_disk means w w1 w2 w3 w' same start ended polled moved.Nothing says
@@ -281,7 +282,7 @@ module _ {D F : Type 0} (disk_moves : D → (c : DiskCall) → DiskAnswer c → 
 
   -- one event
   makes_one :
-      (w w1 w' : WorldOf D F) (e : Event) → IsSame w w1 → Stepped disk_moves moves e w1 w' → (m : Moved) → m ≡ moved_between (length w.log) (length w'.log)
+      (w w1 w' : WorldView D F) (e : Event) → IsSame w w1 → Stepped disk_moves moves e w1 w' → (m : Moved) → m ≡ moved_between (length w.log) (length w'.log)
       → MakesOne disk_moves moves e m w w'
   makes_one w w1 w' e same made m says =
       let i : Input = record { event = e; page = made.page } in
@@ -295,7 +296,7 @@ module _ {D F : Type 0} (disk_moves : D → (c : DiskCall) → DiskAnswer c → 
       }
 
   pub makes_as :
-      (w w1 w' : WorldOf D F) (e : Event) → IsSame w w1 → Stepped disk_moves moves e w1 w' → (m : Moved) → m ≡ moved_between (length w.log) (length w'.log)
+      (w w1 w' : WorldView D F) (e : Event) → IsSame w w1 → Stepped disk_moves moves e w1 w' → (m : Moved) → m ≡ moved_between (length w.log) (length w'.log)
       → MakesAs disk_moves moves e m w w'
   makes_as w w1 w' e same made moved.Did says = makes_one w w1 w' e same made moved.Did says
   makes_as w w1 w' e same made moved.Nothing says = makes_one w w1 w' e same made moved.Nothing says
@@ -303,7 +304,7 @@ module _ {D F : Type 0} (disk_moves : D → (c : DiskCall) → DiskAnswer c → 
 
   -- so at a link
   given :
-      (w w' : WorldOf D F) (means : D → Port) (l : Lender) (m : Moved) → MakesOne disk_moves moves (event.Give l) m w w'
+      (w w' : WorldView D F) (means : D → Port) (l : Lender) (m : Moved) → MakesOne disk_moves moves (event.Give l) m w w'
       → Pumps disk_moves moves means (point.Give l) m w w'
   given w w' means l m one_ =
       record {
@@ -314,7 +315,7 @@ module _ {D F : Type 0} (disk_moves : D → (c : DiskCall) → DiskAnswer c → 
       }
 
   taken :
-      (w w' : WorldOf D F) (means : D → Port) (l : Lender) (m : Moved) → MakesOne disk_moves moves (event.Take l) m w w'
+      (w w' : WorldView D F) (means : D → Port) (l : Lender) (m : Moved) → MakesOne disk_moves moves (event.Take l) m w w'
       → Pumps disk_moves moves means (point.Take l) m w w'
   taken w w' means l m one_ =
       record {
@@ -325,14 +326,14 @@ module _ {D F : Type 0} (disk_moves : D → (c : DiskCall) → DiskAnswer c → 
       }
 
   pub give_pumps :
-      (w w' : WorldOf D F) (means : D → Port) (l : Lender) (m : Moved) → MakesAs disk_moves moves (event.Give l) m w w'
+      (w w' : WorldView D F) (means : D → Port) (l : Lender) (m : Moved) → MakesAs disk_moves moves (event.Give l) m w w'
       → PumpsAs disk_moves moves means (point.Give l) m w w'
   give_pumps w w' means l moved.Did made = given w w' means l moved.Did made
   give_pumps w w' means l moved.Nothing made = given w w' means l moved.Nothing made
   give_pumps w w' means l moved.NoMemory made = made
 
   pub take_pumps :
-      (w w' : WorldOf D F) (means : D → Port) (l : Lender) (m : Moved) → MakesAs disk_moves moves (event.Take l) m w w'
+      (w w' : WorldView D F) (means : D → Port) (l : Lender) (m : Moved) → MakesAs disk_moves moves (event.Take l) m w w'
       → PumpsAs disk_moves moves means (point.Take l) m w w'
   take_pumps w w' means l moved.Did made = taken w w' means l moved.Did made
   take_pumps w w' means l moved.Nothing made = taken w w' means l moved.Nothing made

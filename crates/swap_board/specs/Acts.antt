@@ -11,7 +11,7 @@ use Rattle.swap_table.specs.declared.DiskStep.{DiskStep}
 use Rattle.swap_table.specs.Device.{Device, disk_take, of_device}
 use Rattle.swap_table.specs.Happens.{see_disk}
 use Rattle.swap_world.specs.World.{IsEvent}
-use Rattle.swap_world.specs.Runs.{WorldOf, has_effect, event_of}
+use Rattle.swap_world.specs.Runs.{WorldView, has_effect, event_of}
 use Rattle.rand_pcg.specs.Lcg.{Lcg}
 use Rattle.rand_pcg.specs.Pcg.{pcg32}
 
@@ -61,7 +61,7 @@ lines_of (act ∷ acts) = lines_of acts ++ line_of act
 
 -- these acts led from one world to the other, and stand in its log
 pub record Makes {D F : Type 0} (disk_moves : D → (c : DiskCall) → DiskAnswer c → D → Type 0)
-    (moves : F → (c : FabricCall) → FabricAnswer c → F → Type 0) (acts : List Act) (w w' : WorldOf D F) : Type 0 where
+    (moves : F → (c : FabricCall) → FabricAnswer c → F → Type 0) (acts : List Act) (w w' : WorldView D F) : Type 0 where
   pub acted : IsActed disk_moves moves w.core.device w.core.disk w.core.fabric acts w'.core.device w'.core.disk
       w'.core.fabric
   pub logged : w'.log ≡ w.log ++ lines_of acts
@@ -96,10 +96,10 @@ drawn_by Player g = g
 drawn_by Pacer g = (pcg32 g).1
 drawn_by Operator g = g
 
-abbrev pub drawn : Lcg → List Act → Lcg
-drawn seed [] = seed
-drawn seed (Made by i s ∷ acts) = drawn_by by (drawn seed acts)
-drawn seed (Polled step ∷ acts) = drawn seed acts
+abbrev pub seed_after : Lcg → List Act → Lcg
+seed_after seed [] = seed
+seed_after seed (Made by i s ∷ acts) = drawn_by by (seed_after seed acts)
+seed_after seed (Polled step ∷ acts) = seed_after seed acts
 
 -- what callers and pumps make
 abbrev pub IsPlayers : Event → Type 0
@@ -136,7 +136,7 @@ PACE = 256
 abbrev pub AreMade : Lcg → List Act → Type 0
 AreMade seed [] = Unit {0}
 AreMade seed (Made by i s ∷ acts) =
-    IsOf (drawn seed acts) by i.event × (since_after i.event (calls_since acts) ≤ PACE) × AreMade seed acts
+    IsOf (seed_after seed acts) by i.event × (since_after i.event (calls_since acts) ≤ PACE) × AreMade seed acts
 AreMade seed (Polled step ∷ acts) = AreMade seed acts
 
 -- the operator's events, the oldest first
@@ -145,10 +145,10 @@ with_operated Player e es = es
 with_operated Pacer e es = es
 with_operated Operator e es = es ++ e ∷ []
 
-abbrev pub operated : List Act → List Event
-operated [] = []
-operated (Made by i s ∷ acts) = with_operated by i.event (operated acts)
-operated (Polled step ∷ acts) = operated acts
+abbrev pub operator_events : List Act → List Event
+operator_events [] = []
+operator_events (Made by i s ∷ acts) = with_operated by i.event (operator_events acts)
+operator_events (Polled step ∷ acts) = operator_events acts
 
 -- the length that the log had before each of them
 abbrev pub with_place : Maker → ℕ → List ℕ → List ℕ

@@ -17,7 +17,7 @@ use Rattle.swap_record.specs.declared.Op.TheVariants as op
 use Rattle.swap_calls.specs.Calls.{state_of, call_of, is_idle}
 use Rattle.swap_table.specs.Device.{Device}
 use Rattle.swap_world.specs.Answered.{Answers}
-use Rattle.swap_world.specs.Runs.{WorldOf, GivesPage, AnswersUnderWay, entry_seen, busy_callers}
+use Rattle.swap_world.specs.Runs.{WorldView, GivesPage, AnswersUnderWay, entry_seen, busy_callers}
 use Rattle.swap_board.specs.declared.works.Moved.{Moved}
 use Rattle.swap_board.specs.declared.works.Moved.TheVariants as moved
 use Rattle.swap_board.specs.declared.board.Operated.{Operated}
@@ -27,13 +27,13 @@ use Rattle.swap_board.specs.declared.board.Begun.TheVariants as begun
 use Rattle.rand_core.specs.Pcg32Seed.{pcg32_seed}
 use Rattle.rand_pcg.specs.Lcg.{Lcg}
 use Rattle.rand_pcg.specs.Pcg.{pcg32_of_seed}
-use Rattle.swap_board.specs.Acts.{Act, Made, Player, Operator, Makes, AreMade, calls_in, calls_since, drawn, operated, places, lines_of, since_after, IsOperators}
+use Rattle.swap_board.specs.Acts.{Act, Made, Player, Operator, Makes, AreMade, calls_in, calls_since, seed_after, operator_events, places, lines_of, since_after, IsOperators}
 use Rattle.swap_board.specs.Works.{IsSame, Works, moved_by, paces, since_now}
 
 -- What stays the same of a board: the world that it was made with, its geometry and number of lenders, the operator's
 -- list, how many calls may begin, and the number of its generator.
 pub record Named (D F : Type 0) : Type 0 where
-  pub opening : Option (WorldOf D F)
+  pub opening : Option (WorldView D F)
   pub sizes : Sizes
   pub lenders : ℕ
   pub operator : List Event
@@ -57,8 +57,8 @@ seed_of number = pcg32_of_seed (pcg32_seed 16 number)
 
 -- a world, how many calls were begun, in all and since the last Round, how many of the operator's events were made, and
 -- the generator of the Rounds
-pub record BoardOf (D F : Type 0) : Type 0 where
-  pub world : WorldOf D F
+pub record BoardView (D F : Type 0) : Type 0 where
+  pub world : WorldView D F
   pub begun : ℕ
   pub since : ℕ
   pub made : ℕ
@@ -74,9 +74,9 @@ AreOperators s lenders es = AllByRecursion (IsOperatorsOf s lenders) es
 -- The world of a board: acts of callers, pumps, pacing calls and the operator led to it from the world that it was made
 -- with, and its counts are theirs. Each call that may still begin, and each under way, has room for its entry.
 pub record IsBoard {D F : Type 0} (disk_moves : D → (c : DiskCall) → DiskAnswer c → D → Type 0)
-    (moves : F → (c : FabricCall) → FabricAnswer c → F → Type 0) (n : Named D F) (w : WorldOf D F) (begun since : ℕ)
+    (moves : F → (c : FabricCall) → FabricAnswer c → F → Type 0) (n : Named D F) (w : WorldView D F) (begun since : ℕ)
     (placed : List ℕ) (words : Lcg) : Type 0 where
-  pub first : WorldOf D F
+  pub first : WorldView D F
   pub opens : n.opening ≡ Some first
   pub acts : List Act
   pub makes : Makes disk_moves moves acts first w
@@ -84,19 +84,19 @@ pub record IsBoard {D F : Type 0} (disk_moves : D → (c : DiskCall) → DiskAns
   pub lenders : w.core.device.lenders ≡ n.lenders
   pub operators : AreOperators n.sizes n.lenders n.operator
   pub made : AreMade (seed_of n.number) acts
-  pub words_are : words ≡ drawn (seed_of n.number) acts
+  pub words_are : words ≡ seed_after (seed_of n.number) acts
   pub since_is : since ≡ calls_since acts
   pub begun_is : begun ≡ calls_in acts
   pub most : begun ≤ n.calls
   pub room : n.calls + busy_callers w.core.device ≤ w.core.spare + begun
   -- the operator's events so far, each with the length that the log had before it
-  pub operated_are : operated acts ≡ take (length placed) n.operator
+  pub operated_are : operator_events acts ≡ take (length placed) n.operator
   pub placed_are : placed ≡ places (length first.log) acts
 
 -- and what stands beside the world fits what is named: the operator's list with room for a place of each of its events,
 -- the number of calls, and a page
 pub record IsKept {D F : Type 0} (disk_moves : D → (c : DiskCall) → DiskAnswer c → D → Type 0)
-    (moves : F → (c : FabricCall) → FabricAnswer c → F → Type 0) (n : Named D F) (w : WorldOf D F) (begun since : ℕ)
+    (moves : F → (c : FabricCall) → FabricAnswer c → F → Type 0) (n : Named D F) (w : WorldView D F) (begun since : ℕ)
     (placed : List ℕ) (words : Lcg) (operator : List Event) (most_places calls : ℕ) (page : List ℕ) : Type 0 where
   pub board : IsBoard disk_moves moves n w begun since placed words
   pub operator_is : operator ≡ n.operator
@@ -107,13 +107,13 @@ pub record IsKept {D F : Type 0} (disk_moves : D → (c : DiskCall) → DiskAnsw
 
 -- a world that was a board's
 pub record WasPlayed {D F : Type 0} (disk_moves : D → (c : DiskCall) → DiskAnswer c → D → Type 0)
-    (moves : F → (c : FabricCall) → FabricAnswer c → F → Type 0) (n : Named D F) (b : BoardOf D F) : Type 0 where
+    (moves : F → (c : FabricCall) → FabricAnswer c → F → Type 0) (n : Named D F) (b : BoardView D F) : Type 0 where
   pub placed : List ℕ
   pub made : b.made ≡ length placed
   pub board : IsBoard disk_moves moves n b.world b.begun b.since placed b.words
 
 -- nothing was made
-pub record Stays {D F : Type 0} (b b' : BoardOf D F) : Type 0 where
+pub record Stays {D F : Type 0} (b b' : BoardView D F) : Type 0 where
   pub world : IsSame b.world b'.world
   pub rest : b' ≡ record b { world = b'.world }
 
@@ -131,7 +131,7 @@ IsOfIdle d _ = Unit {0}
 -- a call was begun: its event was made, after a Round where one was due
 pub record Begins {D F : Type 0} (disk_moves : D → (c : DiskCall) → DiskAnswer c → D → Type 0)
     (moves : F → (c : FabricCall) → FabricAnswer c → F → Type 0) (calls : ℕ) (e : Event) (page : List ℕ) (s : Seen)
-    (b b' : BoardOf D F) : Type 0 where
+    (b b' : BoardView D F) : Type 0 where
   pub buf : List ℕ
   pub seen : Seen
   pub makes : Makes disk_moves moves
@@ -143,13 +143,13 @@ pub record Begins {D F : Type 0} (disk_moves : D → (c : DiskCall) → DiskAnsw
         begun = b.begun + 1;
         since = since_now b.since + 1;
         made = b.made;
-        words = drawn b.words (paces b.since b.words buf seen);
+        words = seed_after b.words (paces b.since b.words buf seen);
       }
 
 -- how a call began: it was made, or all calls were begun before, or there was no memory; then nothing was made
 abbrev pub BeginsAs :
     {D F : Type 0} → (D → (c : DiskCall) → DiskAnswer c → D → Type 0)
-    → (F → (c : FabricCall) → FabricAnswer c → F → Type 0) → ℕ → Event → List ℕ → Begun → BoardOf D F → BoardOf D F
+    → (F → (c : FabricCall) → FabricAnswer c → F → Type 0) → ℕ → Event → List ℕ → Begun → BoardView D F → BoardView D F
     → Type 0
 BeginsAs disk_moves moves calls e page (begun.Made s) b b' = Begins disk_moves moves calls e page s b b'
 BeginsAs disk_moves moves calls e page begun.Spent b b' = (b' ≡ b) × (b.begun ≡ calls)
@@ -196,7 +196,7 @@ BeginsGives e begun.NoMemory H before given = given ≡ before
 -- a later step of a call
 pub record Finishes {D F : Type 0} (disk_moves : D → (c : DiskCall) → DiskAnswer c → D → Type 0)
     (moves : F → (c : FabricCall) → FabricAnswer c → F → Type 0) (c : Caller) (page : List ℕ) (s : Seen)
-    (b b' : BoardOf D F) : Type 0 where
+    (b b' : BoardView D F) : Type 0 where
   pub makes : Makes disk_moves moves
       (Made Player (record { event = event.Finish c; page = page }) s ∷ []) b.world b'.world
   pub adds : AddsEntry (IsAnswerTo b.world.core.device c) b.world.core.device.history s b'.world.core.device.history
@@ -204,8 +204,8 @@ pub record Finishes {D F : Type 0} (disk_moves : D → (c : DiskCall) → DiskAn
 
 abbrev pub FinishesAs :
     {D F : Type 0} → (D → (c : DiskCall) → DiskAnswer c → D → Type 0)
-    → (F → (c : FabricCall) → FabricAnswer c → F → Type 0) → Caller → List ℕ → Result Seen NoMemory → BoardOf D F
-    → BoardOf D F → Type 0
+    → (F → (c : FabricCall) → FabricAnswer c → F → Type 0) → Caller → List ℕ → Result Seen NoMemory → BoardView D F
+    → BoardView D F → Type 0
 FinishesAs disk_moves moves c page (Ok s) b b' = Finishes disk_moves moves c page s b b'
 FinishesAs disk_moves moves c page (Err e) b b' = Stays b b'
 
@@ -222,7 +222,7 @@ operated_of moved.NoMemory = operating.NoMemory
 -- the next event of the operator's list was made, and the answer says whether it had an effect
 pub record Operates {D F : Type 0} (disk_moves : D → (c : DiskCall) → DiskAnswer c → D → Type 0)
     (moves : F → (c : FabricCall) → FabricAnswer c → F → Type 0) (es : List Event) (o : Operated)
-    (b b' : BoardOf D F) : Type 0 where
+    (b b' : BoardView D F) : Type 0 where
   pub event : Event
   pub page : List ℕ
   pub seen : Seen
@@ -242,7 +242,8 @@ pub record Operates {D F : Type 0} (disk_moves : D → (c : DiskCall) → DiskAn
 -- or all were made before, or there was no memory
 abbrev pub OperatesAs :
     {D F : Type 0} → (D → (c : DiskCall) → DiskAnswer c → D → Type 0)
-    → (F → (c : FabricCall) → FabricAnswer c → F → Type 0) → List Event → Operated → BoardOf D F → BoardOf D F → Type 0
+    → (F → (c : FabricCall) → FabricAnswer c → F → Type 0) → List Event → Operated → BoardView D F → BoardView D F
+    → Type 0
 OperatesAs disk_moves moves es operating.Ended b b' = (b.made ≡ length es) × (b' ≡ b)
 OperatesAs disk_moves moves es operating.NoMemory b b' = Stays b b'
 OperatesAs disk_moves moves es operating.Made b b' = Operates disk_moves moves es operating.Made b b'

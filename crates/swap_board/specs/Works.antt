@@ -12,17 +12,17 @@ use Rattle.swap_wire.specs.Fabric.{FabricCall, FabricAnswer}
 use Rattle.swap_disk.specs.Port.{Port, DiskCall, DiskAnswer, TellsOldest}
 use Rattle.swap_calls.specs.Calls.{state_of, is_idle}
 use Rattle.swap_table.specs.declared.DiskStep.{DiskStep}
-use Rattle.swap_world.specs.Runs.{WorldOf, busy_callers}
+use Rattle.swap_world.specs.Runs.{WorldView, busy_callers}
 use Rattle.rand_pcg.specs.Lcg.{Lcg}
 use Rattle.rand_pcg.specs.Pcg.{pcg32}
-use Rattle.swap_board.specs.Acts.{Act, Made, Polled, Maker, Player, Pacer, Makes, lines_of, drawn, PACE}
+use Rattle.swap_board.specs.Acts.{Act, Made, Polled, Maker, Player, Pacer, Makes, lines_of, seed_after, PACE}
 use Rattle.swap_board.specs.declared.works.Point.{Point}
 use Rattle.swap_board.specs.declared.works.Point.TheVariants as point
 use Rattle.swap_board.specs.declared.works.Moved.{Moved}
 use Rattle.swap_board.specs.declared.works.Moved.TheVariants as moved
 
 -- nothing of a world changed but its room, which is no less
-pub record IsSame {D F : Type 0} (w w' : WorldOf D F) : Type 0 where
+pub record IsSame {D F : Type 0} (w w' : WorldView D F) : Type 0 where
   pub device : w'.core.device ≡ w.core.device
   pub disk : w'.core.disk ≡ w.core.disk
   pub fabric : w'.core.fabric ≡ w.core.fabric
@@ -31,7 +31,7 @@ pub record IsSame {D F : Type 0} (w w' : WorldOf D F) : Type 0 where
 
 -- acts that begin no call and end none
 pub record Works {D F : Type 0} (disk_moves : D → (c : DiskCall) → DiskAnswer c → D → Type 0)
-    (moves : F → (c : FabricCall) → FabricAnswer c → F → Type 0) (acts : List Act) (w w' : WorldOf D F) : Type 0 where
+    (moves : F → (c : FabricCall) → FabricAnswer c → F → Type 0) (acts : List Act) (w w' : WorldView D F) : Type 0 where
   pub makes : Makes disk_moves moves acts w w'
   pub history : w'.core.device.history ≡ w.core.device.history
   pub busy : busy_callers w'.core.device ≤ busy_callers w.core.device
@@ -46,7 +46,7 @@ IsCallless _ = Unit {0}
 
 -- such an event was made, whoever makes it
 pub record Stepped {D F : Type 0} (disk_moves : D → (c : DiskCall) → DiskAnswer c → D → Type 0)
-    (moves : F → (c : FabricCall) → FabricAnswer c → F → Type 0) (e : Event) (w w' : WorldOf D F) : Type 0 where
+    (moves : F → (c : FabricCall) → FabricAnswer c → F → Type 0) (e : Event) (w w' : WorldView D F) : Type 0 where
   pub page : List ℕ
   pub seen : Seen
   pub works : (by : Maker) → Works disk_moves moves (Made by (record { event = e; page = page }) seen ∷ []) w w'
@@ -56,9 +56,9 @@ abbrev pub known_by : Sizes → DiskWhich → Option DiskWhich
 known_by s (which.Write p) = if nat_lt p.0 (pages_of s) then Some (which.Write p) else None
 known_by s (which.Read c) = if nat_lt c.0 s.callers then Some (which.Read c) else None
 
-abbrev pub known : Sizes → Option DiskWhich → Option DiskWhich
-known s None = None
-known s (Some w) = known_by s w
+abbrev pub known_operation : Sizes → Option DiskWhich → Option DiskWhich
+known_operation s None = None
+known_operation s (Some w) = known_by s w
 
 -- the end of an operation that a disk in memory lets finish
 abbrev pub ends : Option DiskWhich → List ℕ → Seen → List Act
@@ -69,8 +69,8 @@ ends (Some w) page s = Made Player (record { event = event.Disk w true; page = p
 -- finished by itself is taken
 pub record WorksDisk {D F : Type 0} (disk_moves : D → (c : DiskCall) → DiskAnswer c → D → Type 0)
     (moves : F → (c : FabricCall) → FabricAnswer c → F → Type 0) (means : D → Port) (acts : List Act)
-    (w w' : WorldOf D F) : Type 0 where
-  pub started : WorldOf D F
+    (w w' : WorldView D F) : Type 0 where
+  pub started : WorldView D F
   pub start_page : List ℕ
   pub start_seen : Seen
   pub start : Makes disk_moves moves
@@ -80,8 +80,9 @@ pub record WorksDisk {D F : Type 0} (disk_moves : D → (c : DiskCall) → DiskA
   pub end_page : List ℕ
   pub end_seen : Seen
   pub step : DiskStep
-  pub rest : Makes disk_moves moves (Polled step ∷ ends (known w.core.device.sizes oldest) end_page end_seen) started w'
-  pub acts_are : acts ≡ (Polled step ∷ ends (known w.core.device.sizes oldest) end_page end_seen)
+  pub rest : Makes disk_moves moves (Polled step ∷ ends (known_operation w.core.device.sizes oldest) end_page end_seen)
+      started w'
+  pub acts_are : acts ≡ (Polled step ∷ ends (known_operation w.core.device.sizes oldest) end_page end_seen)
       ++ Made Player (record { event = event.Start; page = start_page }) start_seen ∷ []
 
 -- a pump's points: the lender is one of so many
@@ -93,7 +94,8 @@ IsPoint lenders (point.Take l) = l.0 < lenders
 -- what a point makes
 abbrev pub WorksAt :
     {D F : Type 0} → (D → (c : DiskCall) → DiskAnswer c → D → Type 0)
-    → (F → (c : FabricCall) → FabricAnswer c → F → Type 0) → (D → Port) → Point → List Act → WorldOf D F → WorldOf D F
+    → (F → (c : FabricCall) → FabricAnswer c → F → Type 0) → (D → Port) → Point → List Act → WorldView D F
+    → WorldView D F
     → Type 0
 WorksAt disk_moves moves means point.Disk acts w w' = WorksDisk disk_moves moves means acts w w'
 WorksAt disk_moves moves means (point.Give l) acts w w' =
@@ -113,7 +115,7 @@ moved_between before now = if nat_lt before now then moved.Did else moved.Nothin
 -- a point's acts were made, and the answer says whether one of them had an effect
 pub record Pumps {D F : Type 0} (disk_moves : D → (c : DiskCall) → DiskAnswer c → D → Type 0)
     (moves : F → (c : FabricCall) → FabricAnswer c → F → Type 0) (means : D → Port) (p : Point) (m : Moved)
-    (w w' : WorldOf D F) : Type 0 where
+    (w w' : WorldView D F) : Type 0 where
   pub acts : List Act
   pub works : Works disk_moves moves acts w w'
   pub at_point : WorksAt disk_moves moves means p acts w w'
@@ -122,7 +124,7 @@ pub record Pumps {D F : Type 0} (disk_moves : D → (c : DiskCall) → DiskAnswe
 -- or there was no memory
 abbrev pub PumpsAs :
     {D F : Type 0} → (D → (c : DiskCall) → DiskAnswer c → D → Type 0)
-    → (F → (c : FabricCall) → FabricAnswer c → F → Type 0) → (D → Port) → Point → Moved → WorldOf D F → WorldOf D F
+    → (F → (c : FabricCall) → FabricAnswer c → F → Type 0) → (D → Port) → Point → Moved → WorldView D F → WorldView D F
     → Type 0
 PumpsAs disk_moves moves means p moved.Did w w' = Pumps disk_moves moves means p moved.Did w w'
 PumpsAs disk_moves moves means p moved.Nothing w w' = Pumps disk_moves moves means p moved.Nothing w w'
@@ -131,7 +133,7 @@ PumpsAs disk_moves moves means p moved.NoMemory w w' = IsSame w w'
 -- so of an event
 pub record MakesOne {D F : Type 0} (disk_moves : D → (c : DiskCall) → DiskAnswer c → D → Type 0)
     (moves : F → (c : FabricCall) → FabricAnswer c → F → Type 0) (e : Event) (m : Moved)
-    (w w' : WorldOf D F) : Type 0 where
+    (w w' : WorldView D F) : Type 0 where
   pub page : List ℕ
   pub seen : Seen
   pub works : (by : Maker) → Works disk_moves moves (Made by (record { event = e; page = page }) seen ∷ []) w w'
@@ -139,23 +141,24 @@ pub record MakesOne {D F : Type 0} (disk_moves : D → (c : DiskCall) → DiskAn
 
 abbrev pub MakesAs :
     {D F : Type 0} → (D → (c : DiskCall) → DiskAnswer c → D → Type 0)
-    → (F → (c : FabricCall) → FabricAnswer c → F → Type 0) → Event → Moved → WorldOf D F → WorldOf D F → Type 0
+    → (F → (c : FabricCall) → FabricAnswer c → F → Type 0) → Event → Moved → WorldView D F → WorldView D F → Type 0
 MakesAs disk_moves moves e moved.Did w w' = MakesOne disk_moves moves e moved.Did w w'
 MakesAs disk_moves moves e moved.Nothing w w' = MakesOne disk_moves moves e moved.Nothing w w'
 MakesAs disk_moves moves e moved.NoMemory w w' = IsSame w w'
 
 -- of what a pump makes at the disk the middle
 pub record Ended {D F : Type 0} (disk_moves : D → (c : DiskCall) → DiskAnswer c → D → Type 0)
-    (moves : F → (c : FabricCall) → FabricAnswer c → F → Type 0) (means : D → Port) (w w' : WorldOf D F) : Type 0 where
+    (moves : F → (c : FabricCall) → FabricAnswer c → F → Type 0) (means : D
+    → Port) (w w' : WorldView D F) : Type 0 where
   pub oldest : Option DiskWhich
   pub tells : TellsOldest (means w.core.disk).blocks (means w.core.disk).flights oldest
   pub page : List ℕ
   pub seen : Seen
-  pub works : Works disk_moves moves (ends (known w.core.device.sizes oldest) page seen) w w'
+  pub works : Works disk_moves moves (ends (known_operation w.core.device.sizes oldest) page seen) w w'
 
 -- and the end
 pub record Polls {D F : Type 0} (disk_moves : D → (c : DiskCall) → DiskAnswer c → D → Type 0)
-    (moves : F → (c : FabricCall) → FabricAnswer c → F → Type 0) (w w' : WorldOf D F) : Type 0 where
+    (moves : F → (c : FabricCall) → FabricAnswer c → F → Type 0) (w w' : WorldView D F) : Type 0 where
   pub step : DiskStep
   pub works : Works disk_moves moves (Polled step ∷ []) w w'
 
@@ -169,12 +172,12 @@ since_now since = if nat_le PACE since then 0 else since
 
 -- the Round that was due was made, and there is room for one event more
 pub record Paced {D F : Type 0} (disk_moves : D → (c : DiskCall) → DiskAnswer c → D → Type 0)
-    (moves : F → (c : FabricCall) → FabricAnswer c → F → Type 0) (since : ℕ) (g : Lcg) (w : WorldOf D F) (since' : ℕ)
-    (g' : Lcg) (w' : WorldOf D F) : Type 0 where
+    (moves : F → (c : FabricCall) → FabricAnswer c → F → Type 0) (since : ℕ) (g : Lcg) (w : WorldView D F) (since' : ℕ)
+    (g' : Lcg) (w' : WorldView D F) : Type 0 where
   pub page : List ℕ
   pub seen : Seen
   pub works : Works disk_moves moves (paces since g page seen) w w'
-  pub words : g' ≡ drawn g (paces since g page seen)
+  pub words : g' ≡ seed_after g (paces since g page seen)
   pub since_is : since' ≡ since_now since
   pub room : 0 < w'.log_spare
   pub idle :

@@ -42,9 +42,9 @@ pub struct Board<D: DiskPort, F: Fabric, N: Naming<D, F>> {
 
 impl<D: DiskPort, F: Fabric, N: Naming<D, F>> Model for Board<D, F, N> {
     ghost use Rattle.std.specs.Prelude.{length, vec_capacity};
-    ghost use Rattle.swap_board.specs.Boards.{BoardOf, IsKept};
+    ghost use Rattle.swap_board.specs.Boards.{BoardView, IsKept};
 
-    ghost Value = { BoardOf D F };
+    ghost Value = { BoardView D F };
 
     ghost view = { λ b.
         record {

@@ -1,7 +1,7 @@
 // What a board makes of its world besides the steps of calls.
 ghost use Rattle.std.specs.Prelude.{◌≡◌, ◌≤◌, ◌<◌, ◌+◌, length, IfSome, IfNone};
 ghost use Rattle.swap_wire.specs.Input.{IsInRange};
-ghost use Rattle.swap_board.specs.Works.{IsCallless, IsPoint, Stepped, MakesAs, Ended, Polls, PumpsAs, known, moved_between, IsSame, Paced};
+ghost use Rattle.swap_board.specs.Works.{IsCallless, IsPoint, Stepped, MakesAs, Ended, Polls, PumpsAs, known_operation, moved_between, IsSame, Paced};
 
 use rand_core::utils::NextWord;
 use rand_pcg::Lcg64Xsh32;
@@ -42,7 +42,7 @@ fn what_moved(before: usize, now: usize) -> Moved
 
 // An operation that the geometry knows.
 fn known(geometry: Geometry, oldest: Option<DiskWhich>) -> Option<DiskWhich>
-    ensures { result ≡ known geometry oldest }
+    ensures { result ≡ known_operation geometry oldest }
 {
     let which = oldest?;
     let is_known = match which {

@@ -12,11 +12,11 @@ use Rattle.swap_base.specs.declared.Via.TheVariants as via
 use Rattle.swap_calls.specs.declared.Arrived.TheVariants as arrived
 use Rattle.swap_calls.specs.declared.CallState.{CallState}
 use Rattle.swap_calls.specs.declared.CallState.TheVariants.{Idle, Room, Reading}
-use Rattle.swap_calls.specs.Calls.{Call, Calls, KeepsItsPage, idle, call_of, state_of, keeps_page, is_waiting, with_state, arrives, arrived_state, newer_if_reads, lost_if_through, came, failed}
+use Rattle.swap_calls.specs.Calls.{Call, Calls, KeepsItsPage, idle_call, call_of, state_of, keeps_page, is_waiting, with_state, arrives, arrived_state, newer_if_reads, lost_if_through, came_after, failed_after}
 use Rattle.swap_calls.specs.Kept.{Kept, call_in, calls_in, in_state}
 
-pub call_of-in : (all : List Kept) (i : ℕ) (d : Kept) → i < length all → get_or (calls_in all) i idle ≡ call_in (get_or all i d)
-call_of-in all i d lt = get_or-map call_in all i d idle lt
+pub call_of-in : (all : List Kept) (i : ℕ) (d : Kept) → i < length all → get_or (calls_in all) i idle_call ≡ call_in (get_or all i d)
+call_of-in all i d lt = get_or-map call_in all i d idle_call lt
 
 pub in_range : (all : List Kept) (i : ℕ) → i < length (calls_in all) → i < length all
 in_range all i h = rw (length-map all call_in) at h
@@ -105,26 +105,28 @@ each_kept f same n cs h =
 
 -- the place of a caller is written, and its call is what the place stands for
 pub came_in : (all : List Kept) (caller : Caller) (d : Kept) (bytes : List ℕ) → caller.0 < length all → is_waiting (state_of (calls_in all) caller) ≡ true
-    → calls_in (set all caller.0 (record { state = arrived_state arrived.Came (get_or all caller.0 d).state; page = bytes })) ≡ came (calls_in all) caller bytes
+    → calls_in (set all caller.0 (record { state = arrived_state arrived.Came (get_or all caller.0 d).state; page = bytes }))
+    ≡ came_after (calls_in all) caller bytes
 came_in all caller d bytes lt is =
-    let same : get_or (calls_in all) caller.0 idle ≡ call_in (get_or all caller.0 d) = call_of-in all caller.0 d lt in
+    let same : get_or (calls_in all) caller.0 idle_call ≡ call_in (get_or all caller.0 d) = call_of-in all caller.0 d lt in
     map-set call_in all caller.0 _
     ∙ ap (λ (s : CallState). set (calls_in all) caller.0 (call_in (record { state = arrived_state arrived.Came s; page = bytes })))
     (ap (λ (call : Call). call.state) (sym same))
     ∙ ap (λ (call : Call). set (calls_in all) caller.0 call) (came_call bytes (call_of (calls_in all) caller) (state_of (calls_in all) caller) is)
 
 pub failed_in : (all : List Kept) (caller : Caller) (d : Kept) (page : List ℕ) → caller.0 < length all → is_waiting (state_of (calls_in all) caller) ≡ true
-    → calls_in (set all caller.0 (record { state = arrived_state arrived.Failed (get_or all caller.0 d).state; page = page })) ≡ failed (calls_in all) caller
+    → calls_in (set all caller.0 (record { state = arrived_state arrived.Failed (get_or all caller.0 d).state; page = page }))
+    ≡ failed_after (calls_in all) caller
 failed_in all caller d page lt is =
-    let same : get_or (calls_in all) caller.0 idle ≡ call_in (get_or all caller.0 d) = call_of-in all caller.0 d lt in
+    let same : get_or (calls_in all) caller.0 idle_call ≡ call_in (get_or all caller.0 d) = call_of-in all caller.0 d lt in
     map-set call_in all caller.0 _
     ∙ ap (λ (s : CallState). set (calls_in all) caller.0 (call_in (record { state = arrived_state arrived.Failed s; page = page })))
     (ap (λ (call : Call). call.state) (sym same))
     ∙ ap (λ (call : Call). set (calls_in all) caller.0 call) (failed_call page (call_of (calls_in all) caller) (state_of (calls_in all) caller) is)
 
-pub idle_in : (n : ℕ) (page : List ℕ) → calls_in (replicate n (record { state = Idle; page = page })) ≡ replicate n idle
+pub idle_in : (n : ℕ) (page : List ℕ) → calls_in (replicate n (record { state = Idle; page = page })) ≡ replicate n idle_call
 idle_in zero page = refl
-idle_in (suc n) page = ap (λ rest. idle ∷ rest) (idle_in n page)
+idle_in (suc n) page = ap (λ rest. idle_call ∷ rest) (idle_in n page)
 
 pub each_whole :
     (f : CallState → CallState) (page_bytes : ℕ) (all : List Kept) → All (λ kept. length kept.page ≡ page_bytes) all

@@ -1,5 +1,5 @@
 ghost use Rattle.std.specs.Prelude.{◌≡◌, ◌<◌, length, map, IfOk, true, if◌then◌else◌};
-ghost use Rattle.swap_calls.specs.Calls.{all_idle, call_of, state_of, is_idle, is_waiting, may_read, keeps_page, ended, waits_for_room, reads, came, failed, lost, lost_if_through, paged_out, newer_if_reads, IsTable};
+ghost use Rattle.swap_calls.specs.Calls.{all_idle, call_of, state_of, is_idle, is_waiting, may_read, keeps_page, end_after, waits_for_room, reads, came_after, failed_after, lost_after, lost_if_through, paged_out, newer_if_reads, IsTable};
 ghost use Rattle.swap_calls.specs.Kept.{in_state};
 
 use super::kept::KeptCall;
@@ -18,10 +18,10 @@ pub struct Calls {
 impl Model for Calls {
     ghost use Rattle.std.specs.Prelude.{◌≡◌, length};
     ghost use Rattle.std.specs.List.{All};
-    ghost use Rattle.swap_calls.specs.Calls.{CallTable};
+    ghost use Rattle.swap_calls.specs.Calls.{CallsView};
     ghost use Rattle.swap_calls.specs.Kept.{calls_in};
 
-    ghost Value = { CallTable };
+    ghost Value = { CallsView };
 
     ghost view = { λ t. record { calls = calls_in t.calls.items; page_bytes = t.page_bytes } };
 
@@ -112,7 +112,7 @@ impl Calls {
         requires caller { caller.0 < length self.old.calls }
         requires waiting { is_waiting (state_of self.old.calls caller) ≡ true }
         requires bytes { length bytes.now ≡ self.old.page_bytes }
-        ensures { self.new ≡ record self.old { calls = came self.old.calls caller bytes.now } }
+        ensures { self.new ≡ record self.old { calls = came_after self.old.calls caller bytes.now } }
     {
         let call = &mut self.calls[caller.0 as usize];
         let state = call.state().arrived_as(Arrived::Came);
@@ -123,7 +123,7 @@ impl Calls {
     pub fn failed(&mut self, caller: Caller)
         requires caller { caller.0 < length self.old.calls }
         requires waiting { is_waiting (state_of self.old.calls caller) ≡ true }
-        ensures { self.new ≡ record self.old { calls = failed self.old.calls caller } }
+        ensures { self.new ≡ record self.old { calls = failed_after self.old.calls caller } }
     {
         let call = &mut self.calls[caller.0 as usize];
         let state = call.state().arrived_as(Arrived::Failed);
@@ -132,7 +132,7 @@ impl Calls {
 
     /// The lender's link is gone: each read that waits for it is lost.
     pub fn lost(&mut self, lender: Lender)
-        ensures { self.new ≡ record self.old { calls = lost self.old.calls lender } }
+        ensures { self.new ≡ record self.old { calls = lost_after self.old.calls lender } }
     {
         lose(&mut self.calls, lender);
     }
@@ -147,7 +147,7 @@ impl Calls {
     /// The caller's call is over, whatever it was.
     pub fn end(&mut self, caller: Caller)
         requires { caller.0 < length self.old.calls }
-        ensures { self.new ≡ record self.old { calls = ended self.old.calls caller } }
+        ensures { self.new ≡ record self.old { calls = end_after self.old.calls caller } }
     {
         self.calls[caller.0 as usize].set_state(CallState::Idle);
     }

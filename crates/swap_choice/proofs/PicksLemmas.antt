@@ -10,7 +10,7 @@ use Rattle.std.proofs.Math.Nat.{mod-lt}
 use Rattle.std.proofs.lemmas.List.Edits.{length-remove, get_or-remove_below, get_or-remove_above}
 use Rattle.swap_choice.specs.declared.lenders.Asked.TheVariants.{Two}
 use Rattle.swap_choice.specs.Picks.{first_picks, picks}
-use Rattle.swap_choice.specs.Asked.{first_two, named, asked}
+use Rattle.swap_choice.specs.Asked.{first_two, lenders_asked, two_asked}
 
 second :
     (first n word : ℕ) (others : List ℕ) → 0 < length others
@@ -71,13 +71,13 @@ picked_all (suc n) word (x ∷ xs) len =
 pub IsPermutation-picks : (word : ℕ) (list : List ℕ) → IsPermutation list (picks word list)
 IsPermutation-picks word list = picked_all (length list) word list refl
 
-named-first_two : (list : List ℕ) → named (first_two list) ≡ take 2 list
+named-first_two : (list : List ℕ) → lenders_asked (first_two list) ≡ take 2 list
 named-first_two [] = refl
 named-first_two (a ∷ []) = refl
 named-first_two (a ∷ b ∷ rest) = refl
 
 -- to join the first two of two lists is to take the first two of both
-pub first_two-append : (xs ys : List ℕ) → first_two (named (first_two xs) ++ named (first_two ys)) ≡ first_two (xs ++ ys)
+pub first_two-append : (xs ys : List ℕ) → first_two (lenders_asked (first_two xs) ++ lenders_asked (first_two ys)) ≡ first_two (xs ++ ys)
 first_two-append [] [] = refl
 first_two-append [] (b ∷ []) = refl
 first_two-append [] (b ∷ c ∷ rest) = refl
@@ -86,7 +86,8 @@ first_two-append (a ∷ []) (b ∷ []) = refl
 first_two-append (a ∷ []) (b ∷ c ∷ rest) = refl
 first_two-append (a ∷ b ∷ rest) ys = refl
 
-pub asked_members : (word : ℕ) (fresh other : List ℕ) (lender : ℕ) → Contains (named (asked word fresh other)) lender → Contains (fresh ++ other) lender
+pub asked_members : (word : ℕ) (fresh other : List ℕ) (lender : ℕ) → Contains (lenders_asked (two_asked word fresh other)) lender
+    → Contains (fresh ++ other) lender
 asked_members word fresh other lender is =
     Contains-permutation (picks word fresh ++ picks word other) (fresh ++ other) lender
     (IsPermutation-sym _ _
@@ -98,13 +99,13 @@ asked_members word fresh other lender is =
 nat_eq_comm : (x y : ℕ) → nat_eq x y ≡ nat_eq y x
 nat_eq_comm x y = grind arith
 
-distinct_two : (list : List ℕ) → IsDistinct nat_eq list → IsDistinct nat_eq (named (first_two list))
+distinct_two : (list : List ℕ) → IsDistinct nat_eq list → IsDistinct nat_eq (lenders_asked (first_two list))
 unfolding IsDistinct
 distinct_two [] h = tt
 distinct_two (a ∷ []) h = (tt, tt)
 distinct_two (a ∷ b ∷ rest) h = ((h.0.0, tt), (tt, tt))
 
-pub asked_different : (word : ℕ) (fresh other : List ℕ) → IsDistinct nat_eq (fresh ++ other) → IsDistinct nat_eq (named (asked word fresh other))
+pub asked_different : (word : ℕ) (fresh other : List ℕ) → IsDistinct nat_eq (fresh ++ other) → IsDistinct nat_eq (lenders_asked (two_asked word fresh other))
 asked_different word fresh other h =
     distinct_two (picks word fresh ++ picks word other)
     (IsDistinct-IsPermutation nat_eq nat_eq_comm (fresh ++ other) (picks word fresh ++ picks word other)

@@ -11,11 +11,11 @@ first_two (a ∷ []) = One a
 first_two (a ∷ b ∷ rest) = Two a b
 
 -- two are asked, and the fresh ones come first
-abbrev pub asked : ℕ → List ℕ → List ℕ → Asked
-asked word fresh other = first_two (picks word fresh ++ picks word other)
+abbrev pub two_asked : ℕ → List ℕ → List ℕ → Asked
+two_asked word fresh other = first_two (picks word fresh ++ picks word other)
 
 -- the lenders that are asked
-abbrev pub named : Asked → List ℕ
-named Nobody = []
-named (One a) = a ∷ []
-named (Two a b) = a ∷ b ∷ []
+abbrev pub lenders_asked : Asked → List ℕ
+lenders_asked Nobody = []
+lenders_asked (One a) = a ∷ []
+lenders_asked (Two a b) = a ∷ b ∷ []

@@ -1,7 +1,7 @@
 ghost use Rattle.std.specs.Prelude.{ℕ, ◌≡◌, ◌%◌, ◌/◌, ◌<◌, ◌≤◌, ◌↔◌, ◌++◌, Contains, nat_eq};
 ghost use Rattle.std.specs.List.{IsDistinct};
 ghost use Rattle.swap_choice.specs.Picks.{picks};
-ghost use Rattle.swap_choice.specs.Asked.{first_two, asked, named};
+ghost use Rattle.swap_choice.specs.Asked.{first_two, two_asked, lenders_asked};
 
 /// Which lenders are asked for their free slots.
 #[derive(Clone, Copy, Debug, PartialEq, Eq)]
@@ -31,18 +31,18 @@ pub fn first_pick(word: u64, n: usize) -> (usize, u64)
 
 /// The first two of the word's picks from the fresh lenders and then from the others.
 pub fn two_lenders(word: u64, fresh: &[u32], other: &[u32]) -> Asked
-    ensures asked { result ≡ asked word fresh.now other.now }
-    ensures members { (lender : ℕ) → Contains (named result) lender
+    ensures asked { result ≡ two_asked word fresh.now other.now }
+    ensures members { (lender : ℕ) → Contains (lenders_asked result) lender
         → Contains (fresh.now ++ other.now) lender }
     ensures different { IsDistinct nat_eq (fresh.now ++ other.now)
-        → IsDistinct nat_eq (named result) }
+        → IsDistinct nat_eq (lenders_asked result) }
 {
     joined(two_of(word, fresh), two_of(word, other))
 }
 
 /// The first two of those that were picked first and those that were picked next.
 fn joined(first: Asked, next: Asked) -> Asked
-    ensures { result ≡ first_two (named first ++ named next) }
+    ensures { result ≡ first_two (lenders_asked first ++ lenders_asked next) }
 {
     match (first, next) {
         (Asked::Nobody, _) => next,

@@ -4,8 +4,8 @@ use Rattle.swap_base.specs.declared.Lender.{Lender}
 use Rattle.swap_disk.specs.Port.{DiskCall, DiskAnswer}
 use Rattle.swap_wire.specs.Fabric.{FabricCall, FabricAnswer}
 use Rattle.swap_table.specs.Ports.{Prog, Ret, AskDisk, AskFabric, Along, and_then}
-use Rattle.swap_table.specs.Device.{Device, lost, give_up}
-use Rattle.swap_device.specs.State.{fallen, given_up}
+use Rattle.swap_table.specs.Device.{Device, lost_after, give_up}
+use Rattle.swap_device.specs.State.{lose_in_turn, given_up}
 
 module _ {D F : Type 0} (disk_moves : D → (c : DiskCall) → DiskAnswer c → D → Type 0) (moves : F → (c : FabricCall) → FabricAnswer c → F → Type 0) where
   -- what went along both parts of a sequence went along it
@@ -48,17 +48,17 @@ module _ {D F : Type 0} (disk_moves : D → (c : DiskCall) → DiskAnswer c → 
   -- the slabs that are given up make the loss
   loss_of :
       (more : ℕ) (d e : Device) (l : Lender) (k k' : D) (f f' : F)
-      → Along disk_moves moves (give_up (fallen more) (length d.remote.slabs) 0 (lost d l) l) k f k' f' e
-      → Along disk_moves moves (fallen (suc more) d l) k f k' f' e
+      → Along disk_moves moves (give_up (lose_in_turn more) (length d.remote.slabs) 0 (lost_after d l) l) k f k' f' e
+      → Along disk_moves moves (lose_in_turn (suc more) d l) k f k' f' e
   loss_of zero d e l k k' f f' along = along
   loss_of (suc more) d e l k k' f f' along = along
 
   pub falls :
       (more slabs n : ℕ) (d e : Device) (l : Lender) (k k' : D) (f f' : F) → (more ≡ 0 → ⊥) → length d.remote.slabs ≡ slabs → slabs ≤ n
-      → ComesOf (fallen (more - 1)) slabs n l e k' f' (lost d l) k f → Along disk_moves moves (fallen more d l) k f k' f' e
+      → ComesOf (lose_in_turn (more - 1)) slabs n l e k' f' (lost_after d l) k f → Along disk_moves moves (lose_in_turn more d l) k f k' f' e
   falls more slabs n d e l k k' f f' some len all before =
       let left : suc (more - 1) ≡ more = omega (arith, some) in
-      subst (λ i. Along disk_moves moves (fallen i d l) k f k' f' e) left
+      subst (λ i. Along disk_moves moves (lose_in_turn i d l) k f k' f' e) left
       (loss_of (more - 1) d e l k k' f f'
-      (subst (λ i. Along disk_moves moves (give_up (fallen (more - 1)) i 0 (lost d l) l) k f k' f' e) (sym len)
-      (comes_all (fallen (more - 1)) slabs n l e (lost d l) k' k f' f all before)))
+      (subst (λ i. Along disk_moves moves (give_up (lose_in_turn (more - 1)) i 0 (lost_after d l) l) k f k' f' e) (sym len)
+      (comes_all (lose_in_turn (more - 1)) slabs n l e (lost_after d l) k' k f' f all before)))

@@ -12,7 +12,7 @@ use Rattle.swap_slabs.specs.declared.SlabState.{SlabState}
 use Rattle.swap_slabs.specs.declared.SlabState.TheVariants.{Mapped}
 use Rattle.swap_slabs.specs.declared.TheConstants.{MOST_FLYING}
 use Rattle.swap_rings.specs.Rings.{ring_of}
-use Rattle.swap_remote.specs.Remote.{Remote, slab_for, target, changed}
+use Rattle.swap_remote.specs.Remote.{Remote, slab_for, target, changed_after}
 use Rattle.swap_table.specs.Serves.{Keeping, Owing, is_for_slab, flying_for, SlabFits, Serves}
 use Rattle.swap_table.proofs.Sends.{slab_within}
 use Rattle.swap_table.proofs.Waits.{Target, target_is}
@@ -45,6 +45,6 @@ may_go keeps owes s n H cs r p None k within page is = tt
 may_go keeps owes s n H cs r p (Some at) k within page is = target_goes keeps owes s n H cs r p at k within page (target_is s r p at (is at refl))
 
 -- a changed page's bit doesn't matter to it
-pub still_goes : (s : Sizes) (n : ℕ) (r : Remote) (p q : Page) (at : Option (Lender × Lease)) → MayGoTo s r n p at → MayGoTo s (changed r q) n p at
+pub still_goes : (s : Sizes) (n : ℕ) (r : Remote) (p q : Page) (at : Option (Lender × Lease)) → MayGoTo s r n p at → MayGoTo s (changed_after r q) n p at
 still_goes s n r p q None h = tt
 still_goes s n r p q (Some at) h = (record { few = h.0.few; mapped = h.0.mapped; flying = h.0.flying; room = h.0.room }, h.1)

@@ -19,7 +19,7 @@ use Rattle.swap_wire.specs.declared.fabric.Fabric.{Ghosts as FabricMeaning}
 use Rattle.swap_table.specs.Ports.{Along}
 use Rattle.swap_table.specs.declared.LinkStep.{LinkStep}
 use Rattle.swap_table.specs.declared.LinkStep.TheVariants as link
-use Rattle.swap_table.specs.Device.{Device, Core, Heard, of_device, query_reply, borrow_reply, write_reply, read_reply, rate_asked, taken_back, query_answered, borrow_answered, lent_or_refused, write_answered, read_answered, rate_told, evicted, answered, heard_by, heard, with_step, lose, follow, understood}
+use Rattle.swap_table.specs.Device.{Device, Core, Heard, of_device, query_reply, borrow_reply, write_reply, read_reply, rate_asked, taken_back, query_answered, borrow_answered, lent_or_refused, write_answered, read_answered, rate_told, heard_evict, heard_answer, heard_by, heard_parcel, with_step, lose, follow, understand}
 use Rattle.swap_table.proofs.Programs.{Along-answering}
 use Rattle.swap_device.specs.State.{IsReady, answered_of, heard_by_of, heard_of, heard_with}
 use Rattle.swap_device.specs.declared.links.Answer.{Answer}
@@ -74,7 +74,7 @@ heard_none d l m bytes o = go (rate_asked m) (taken_back m)
     told lease None = tt
     told lease (Some slab) = (refl, λ n up. up)
 
-    back : (at : Option Slab) → RaisesNone d (evicted d at)
+    back : (at : Option Slab) → RaisesNone d (heard_evict d at)
     back None = tt
     back (Some slab) = (refl, λ n up. up)
 
@@ -115,16 +115,16 @@ module _ {D F : Type 0} (disk_moves : D → (c : DiskCall) → DiskAnswer c → 
   -- a message that isn't heard ends its link
   pub unheard :
       (k k' : D) (f f1 f' : F) (d e : Device) (l : Lender) (m : Msg) (o : Option Heard) → o ≡ None → moves f (End l) tt f1
-      → Along disk_moves moves (lose d l) k f1 k' f' e → Along disk_moves moves (understood d l m o) k f k' f' (e, LinkStep.Lied)
+      → Along disk_moves moves (lose d l) k f1 k' f' e → Along disk_moves moves (understand d l m o) k f k' f' (e, LinkStep.Lied)
   unheard k k' f f1 f' d e l m o is ended along =
-      subst (λ x. Along disk_moves moves (understood d l m x) k f k' f' (e, LinkStep.Lied)) (sym is)
+      subst (λ x. Along disk_moves moves (understand d l m x) k f k' f' (e, LinkStep.Lied)) (sym is)
       (tt, f1, ended, Along-answering disk_moves moves (with_step link.Lied) (lose d l) k f1 k' f' e along)
 
   pub heard_along :
       (k k' : D) (f f' : F) (d e : Device) (l : Lender) (m : Msg) (o : Option Heard) (h : Heard) → o ≡ Some h → Along disk_moves moves (follow h l) k f k' f' e
-      → Along disk_moves moves (understood d l m o) k f k' f' (e, LinkStep.Got m)
+      → Along disk_moves moves (understand d l m o) k f k' f' (e, LinkStep.Got m)
   heard_along k k' f f' d e l m o h is along =
-      subst (λ x. Along disk_moves moves (understood d l m x) k f k' f' (e, LinkStep.Got m)) (sym is)
+      subst (λ x. Along disk_moves moves (understand d l m x) k f k' f' (e, LinkStep.Got m)) (sym is)
       (Along-answering disk_moves moves (with_step (link.Got m)) (follow h l) k f k' f' e along)
 
 -- a message is heard as it is with its page in a buffer
@@ -146,14 +146,14 @@ read_is d l c p bytes (msg.PageIs lease place) = refl
 read_is d l c p bytes (msg.AskRates lease) = refl
 read_is d l c p bytes (msg.Evict lease) = refl
 
-answered_is : (d : Device) (l : Lender) (m : Msg) (bytes : List ℕ) (o : Option Request) → answered d l (parcel_of m bytes) o ≡ answered_of d l m bytes o
+answered_is : (d : Device) (l : Lender) (m : Msg) (bytes : List ℕ) (o : Option Request) → heard_answer d l (parcel_of m bytes) o ≡ answered_of d l m bytes o
 answered_is d l m bytes None = refl
 answered_is d l m bytes (Some (request.Query slab)) = refl
 answered_is d l m bytes (Some (request.Borrow slab)) = refl
 answered_is d l m bytes (Some (request.Write p e)) = refl
 answered_is d l m bytes (Some (request.Read c p)) = read_is d l c p bytes m
 
-pub heard_is : (d : Device) (l : Lender) (m : Msg) (bytes : List ℕ) (o : Option Request) → heard d l (parcel_of m bytes) o ≡ heard_of d l m bytes o
+pub heard_is : (d : Device) (l : Lender) (m : Msg) (bytes : List ℕ) (o : Option Request) → heard_parcel d l (parcel_of m bytes) o ≡ heard_of d l m bytes o
 heard_is d l m bytes o = go (rate_asked m) (taken_back m)
   where
     go : (rate taken : Option Lease) → heard_by d l (parcel_of m bytes) o rate taken ≡ heard_by_of d l m bytes o rate taken

@@ -6,7 +6,7 @@ use Rattle.swap_disk.specs.declared.port.DiskPort.{Ghosts as DiskMeaning}
 use Rattle.swap_wire.specs.Fabric.{FabricOf}
 use Rattle.swap_wire.specs.declared.fabric.Fabric.{Ghosts as FabricMeaning}
 use Rattle.swap_table.specs.Ports.{Prog}
-use Rattle.swap_table.specs.Device.{Device, Core, of_device, new}
+use Rattle.swap_table.specs.Device.{Device, Core, of_device, device_at_start}
 use Rattle.swap_table.specs.Laws.{AgreeWith, AgreesAfter}
 use Rattle.swap_table.proofs.Programs.{Leads-Along}
 use Rattle.swap_device.specs.State.{IsDevice, Went}
@@ -36,6 +36,6 @@ module _ {D F : Type 0} (disk : DiskMeaning D) (fabric : FabricMeaning F) where
       (Leads-Along disk.moves fabric.moves (program core.device) core.disk core.fabric now.disk now.fabric (now.device, answer) _ after went) len
 
   pub new_held :
-      (s : Sizes) (n : ℕ) (k : D) (f : F) (spare : ℕ) (page : List ℕ) → AgreeWith disk fabric (is_some (disk.means k).blocks) (new s n) k f
-      → length page ≡ s.page_bytes → IsDevice disk fabric (record { device = new s n; disk = k; fabric = f; spare = spare }) page
+      (s : Sizes) (n : ℕ) (k : D) (f : F) (spare : ℕ) (page : List ℕ) → AgreeWith disk fabric (is_some (disk.means k).blocks) (device_at_start s n) k f
+      → length page ≡ s.page_bytes → IsDevice disk fabric (record { device = device_at_start s n; disk = k; fabric = f; spare = spare }) page
   new_held s n k f spare page agrees len = record { agree = agrees; page_len = len }

@@ -33,7 +33,7 @@ use Rattle.swap_table.specs.declared.InStep.{InStep}
 use Rattle.swap_table.specs.declared.OutStep.{OutStep}
 use Rattle.swap_table.specs.declared.Step.{Step}
 use Rattle.swap_table.specs.Ports.{answering, Along}
-use Rattle.swap_table.specs.Device.{Device, Core, Heard, lose, choose, borrow_from, say, follow, sent_nowhere, accept, accepted, accepted_late, write_to, read_disk, read_at, put, finish_out, may_map, with_answer, map, may_ask, not_asked, query, placed_at, placed_beside, ask_one, ask_second, ask, with_step, understood, link_take, raised, next_link, hello, with_link, connect_on, without_link, connect}
+use Rattle.swap_table.specs.Device.{Device, Core, Heard, lose, choose, borrow_from, say_after, follow, sent_nowhere, accept_program, accept_after, accepted_late, write_to, read_disk, read_at, put_program, finish_out, may_map, with_answer, map, may_ask, not_asked, query, placed_at, placed_beside, ask_one, ask_second, ask, with_step, understand, link_take, raised_after, next_link, hello, with_link, connect_on, without_link, connect}
 use Rattle.swap_table.proofs.Links.{state-same}
 use Rattle.swap_table.proofs.Programs.{Along-answering}
 use Rattle.swap_device.specs.State.{Became, heard_of}
@@ -61,9 +61,10 @@ asked_alone r slab (Some m) l within is = let no : ⊥ = cc in absurd no
 
 module _ {D F : Type 0} (disk_moves : D → (c : DiskCall) → DiskAnswer c → D → Type 0) (moves : F → (c : FabricCall) → FabricAnswer c → F → Type 0) where
   pub follows :
-      (h : Heard) (l : Lender) (k k1 k' : D) (f f1 f' : F) (e now : Device) → Along disk_moves moves (say h.device l h.word) k f k1 f1 e
+      (h : Heard) (l : Lender) (k k1 k' : D) (f f1 f' : F) (e now : Device) → Along disk_moves moves (say_after h.device l h.word) k f k1 f1 e
       → Along disk_moves moves (choose lose e h.choice) k1 f1 k' f' now → Along disk_moves moves (follow h l) k f k' f' now
-  follows h l k k1 k' f f1 f' e now one two = Along-and disk_moves moves (say h.device l h.word) (λ x. choose lose x h.choice) k k1 k' f f1 f' e now one two
+  follows h l k k1 k' f f1 f' e now one two =
+      Along-and disk_moves moves (say_after h.device l h.word) (λ x. choose lose x h.choice) k k1 k' f f1 f' e now one two
 
   pub writes_down :
       (d e : Device) (p : Page) (entry : EntryNo) (bytes : List ℕ) (at : Lender × Lease) (k k' : D) (f f1 f' : F)
@@ -81,21 +82,23 @@ module _ {D F : Type 0} (disk_moves : D → (c : DiskCall) → DiskAnswer c → 
 
   pub puts :
       (d now : Device) (c : Caller) (p : Page) (bytes : List ℕ) (entry : EntryNo) (sent : Option Lender) (k k' : D) (f f' : F) → has_room d.queue p ≡ true
-      → entry ≡ next_name d.history → Along disk_moves moves (accept d c p bytes) k f k' f' (now, sent)
-      → Along disk_moves moves (put d c p bytes) k f k' f' (now, OutStep.Done entry sent)
+      → entry ≡ next_name d.history → Along disk_moves moves (accept_program d c p bytes) k f k' f' (now, sent)
+      → Along disk_moves moves (put_program d c p bytes) k f k' f' (now, OutStep.Done entry sent)
   puts d now c p bytes entry sent k k' f f' room named along =
       rw room
-      (subst (λ n. Along disk_moves moves (answering (accepted (next_name d.history)) (accept d c p bytes)) k f k' f' (now, OutStep.Done n sent)) (sym named)
-      (Along-answering disk_moves moves (accepted (next_name d.history)) (accept d c p bytes) k f k' f' (now, sent) along))
+      (subst (λ n. Along disk_moves moves (answering (accept_after (next_name d.history)) (accept_program d c p bytes)) k f k' f' (now, OutStep.Done n sent))
+      (sym named)
+      (Along-answering disk_moves moves (accept_after (next_name d.history)) (accept_program d c p bytes) k f k' f' (now, sent) along))
 
   pub puts_late :
       (d now : Device) (c : Caller) (p : Page) (since : ℕ) (bytes : List ℕ) (entry : EntryNo) (sent : Option Lender) (k k' : D) (f f' : F)
-      → has_room d.queue p ≡ true → entry ≡ next_name d.history → Along disk_moves moves (accept d c p bytes) k f k' f' (now, sent)
+      → has_room d.queue p ≡ true → entry ≡ next_name d.history → Along disk_moves moves (accept_program d c p bytes) k f k' f' (now, sent)
       → Along disk_moves moves (finish_out d c p since bytes) k f k' f' (now, Step.Done entry sent)
   puts_late d now c p since bytes entry sent k k' f f' room named along =
       rw room
-      (subst (λ n. Along disk_moves moves (answering (accepted_late (next_name d.history)) (accept d c p bytes)) k f k' f' (now, Step.Done n sent)) (sym named)
-      (Along-answering disk_moves moves (accepted_late (next_name d.history)) (accept d c p bytes) k f k' f' (now, sent) along))
+      (subst (λ n. Along disk_moves moves (answering (accepted_late (next_name d.history)) (accept_program d c p bytes)) k f k' f' (now, Step.Done n sent))
+      (sym named)
+      (Along-answering disk_moves moves (accepted_late (next_name d.history)) (accept_program d c p bytes) k f k' f' (now, sent) along))
 
   pub maps :
       (d e : Device) (slab : Slab) (l : Lender) (may : Bool) (k k' : D) (f f' : F) → may ≡ may_map d slab l
@@ -112,24 +115,27 @@ module _ {D F : Type 0} (disk_moves : D → (c : DiskCall) → DiskAnswer c → 
       rw may (sent.Down, f1, down, Along-answering disk_moves moves not_asked (lose d l) k f1 k' f' e along)
 
   pub opens :
-      (d up now : Device) (l : Lender) (n page_bytes pages : ℕ) (k k1 k' : D) (f f1 f2 f' : F) → up ≡ raised d l → n ≡ d.links_made
+      (d up now : Device) (l : Lender) (n page_bytes pages : ℕ) (k k1 k' : D) (f f1 f2 f' : F) → up ≡ raised_after d l → n ≡ d.links_made
       → page_bytes ≡ d.sizes.page_bytes → pages ≡ d.sizes.pages_per_slab → k1 ≡ k → f2 ≡ f1 → moves f (Connect l (record { 0 = n })) tt f1
-      → Along disk_moves moves (say up l (Some (parcel_of (msg.Hello WIRE_VERSION page_bytes pages) []))) k1 f2 k' f' now
+      → Along disk_moves moves (say_after up l (Some (parcel_of (msg.Hello WIRE_VERSION page_bytes pages) []))) k1 f2 k' f' now
       → Along disk_moves moves (connect_on d l) k f k' f' (now, Some (record { 0 = n }))
   opens d up now l n page_bytes pages k k1 k' f f1 f2 f' is_up is_next is_page is_pages same_k same_f opened along =
-      let first = subst (λ x. Along disk_moves moves (say x l (Some (parcel_of (msg.Hello WIRE_VERSION page_bytes pages) []))) k1 f2 k' f' now) is_up along in
+      let first =
+      subst (λ x. Along disk_moves moves (say_after x l (Some (parcel_of (msg.Hello WIRE_VERSION page_bytes pages) []))) k1 f2 k' f' now) is_up along in
       let second =
-      subst (λ x. Along disk_moves moves (say (raised d l) l (Some (parcel_of (msg.Hello WIRE_VERSION x pages) []))) k1 f2 k' f' now) is_page first in
+      subst (λ x. Along disk_moves moves (say_after (raised_after d l) l (Some (parcel_of (msg.Hello WIRE_VERSION x pages) []))) k1 f2 k' f' now) is_page
+      first in
       let third =
-      subst (λ x. Along disk_moves moves (say (raised d l) l (Some (parcel_of (msg.Hello WIRE_VERSION d.sizes.page_bytes x) []))) k1 f2 k' f' now) is_pages
+      subst (λ x. Along disk_moves moves (say_after (raised_after d l) l (Some (parcel_of (msg.Hello WIRE_VERSION d.sizes.page_bytes x) []))) k1 f2 k' f' now)
+      is_pages
       second in
-      let fourth = subst (λ x. Along disk_moves moves (say (raised d l) l (Some (hello d.sizes))) x f2 k' f' now) same_k third in
-      let said = subst (λ x. Along disk_moves moves (say (raised d l) l (Some (hello d.sizes))) k x k' f' now) same_f fourth in
+      let fourth = subst (λ x. Along disk_moves moves (say_after (raised_after d l) l (Some (hello d.sizes))) x f2 k' f' now) same_k third in
+      let said = subst (λ x. Along disk_moves moves (say_after (raised_after d l) l (Some (hello d.sizes))) k x k' f' now) same_f fourth in
       subst (λ (x : ℕ). Along disk_moves moves (connect_on d l) k f k' f' (now, Some (record { 0 = x }))) (sym is_next) (
         tt,
         f1,
         subst (λ (x : ℕ). moves f (Connect l (record { 0 = x })) tt f1) is_next opened,
-        Along-answering disk_moves moves (with_link (next_link d)) (say (raised d l) l (Some (hello d.sizes))) k f1 k' f' now said,
+        Along-answering disk_moves moves (with_link (next_link d)) (say_after (raised_after d l) l (Some (hello d.sizes))) k f1 k' f' now said,
       )
 
   pub connects :
@@ -173,14 +179,14 @@ module _ {D F : Type 0} (disk_moves : D → (c : DiskCall) → DiskAnswer c → 
   pub takes_message :
       (d now : Device) (l : Lender) (m : Msg) (bytes : List ℕ) (step : LinkStep) (k k' : D) (f f1 f' : F) → is_up d.remote.links l ≡ true
       → moves f (Take l) (Brought (parcel_of m bytes)) f1
-      → Along disk_moves moves (understood d l m (heard_of d l m bytes (oldest (ring_of d.remote.links l)))) k f1 k' f' (now, step)
+      → Along disk_moves moves (understand d l m (heard_of d l m bytes (oldest (ring_of d.remote.links l)))) k f1 k' f' (now, step)
       → Along disk_moves moves (link_take d l) k f k' f' (now, step)
   takes_message d now l m bytes step k k' f f1 f' up brought along =
       rw up (
         Brought (parcel_of m bytes),
         f1,
         brought,
-        subst (λ o. Along disk_moves moves (understood d l m o) k f1 k' f' (now, step))
+        subst (λ o. Along disk_moves moves (understand d l m o) k f1 k' f' (now, step))
             (sym (heard_is d l m bytes (oldest (ring_of d.remote.links l)))) along,
       )
 

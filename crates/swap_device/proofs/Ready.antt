@@ -13,7 +13,7 @@ use Rattle.swap_rings.specs.Rings as rings
 use Rattle.swap_rings.specs.Rings.{LinkState, down, is_up}
 use Rattle.swap_disk.specs.declared.port.DiskPort.{Ghosts as DiskMeaning}
 use Rattle.swap_wire.specs.declared.fabric.Fabric.{Ghosts as FabricMeaning}
-use Rattle.swap_table.specs.Device.{Core, lost, enter}
+use Rattle.swap_table.specs.Device.{Core, lost_after, enter_entry}
 use Rattle.swap_table.proofs.Agree.{get_or-map_idle}
 use Rattle.swap_device.specs.State.{Agree, IsReady, LeavesRest}
 
@@ -27,20 +27,20 @@ up_set (y ∷ links) zero (suc j) x was up = up
 up_set (y ∷ links) (suc i) zero x was up = up
 up_set (y ∷ links) (suc i) (suc j) x was up = up_set links i j x was up
 
-pub answered_up : (links : List LinkState) (l m : Lender) → is_up (rings.answered links l) m ≡ true → is_up links m ≡ true
+pub answered_up : (links : List LinkState) (l m : Lender) → is_up (rings.answered_after links l) m ≡ true → is_up links m ≡ true
 answered_up links l m up = up_set links l.0 m.0 (rings.answered_on (rings.link_of links l)) (λ u. u) up
 
-pub lost_up : (links : List LinkState) (l m : Lender) → is_up (rings.lost links l) m ≡ true → is_up links m ≡ true
+pub lost_up : (links : List LinkState) (l m : Lender) → is_up (rings.lost_after links l) m ≡ true → is_up links m ≡ true
 lost_up links l m up = up_set links l.0 m.0 down (λ u. never u) up
   where
     never : {P : Type 0} → false ≡ true → P
     never e = let no : ⊥ = cc in absurd no
 
 -- a caller that may read may still where a link was lost
-pub lost_reads : (cs : Calls) (l : Lender) (c : Caller) → may_read (state_of cs c) ≡ true → may_read (state_of (calls.lost cs l) c) ≡ true
+pub lost_reads : (cs : Calls) (l : Lender) (c : Caller) → may_read (state_of cs c) ≡ true → may_read (state_of (calls.lost_after cs l) c) ≡ true
 lost_reads cs l c may = ap may_read is ∙ still (state_of cs c) may
   where
-    is : state_of (calls.lost cs l) c ≡ calls.lost_if_through l (state_of cs c)
+    is : state_of (calls.lost_after cs l) c ≡ calls.lost_if_through l (state_of cs c)
     is = ap (λ (x : Call). x.state) (get_or-map_idle (calls.with_state (calls.lost_if_through l)) cs c.0 refl)
 
     still : (s : CallState) → may_read s ≡ true → may_read (calls.lost_if_through l s) ≡ true
@@ -66,7 +66,7 @@ module _ {D F : Type 0} where
     reads = λ caller may. two.reads caller (one.reads caller may);
   }
 
-  pub rest_lost : (core : Core D F) (l : Lender) → LeavesRest core (record core { device = lost core.device l })
+  pub rest_lost : (core : Core D F) (l : Lender) → LeavesRest core (record core { device = lost_after core.device l })
   rest_lost core l = record { of = refl; history = refl; links_made = refl; disk = refl; spare = refl; reads = λ c may. lost_reads core.device.calls l c may }
 
   -- what agrees is ready
@@ -74,11 +74,11 @@ module _ {D F : Type 0} where
   agree_ready disk fabric core h = record { of = h.1; few = h.0.serves.few; lead = λ l up. (h.0.serves.link l).lender up }
 
   pub ready_lost :
-      (fabric : FabricMeaning F) (core : Core D F) (l : Lender) → IsReady fabric core → IsReady fabric (record core { device = lost core.device l })
+      (fabric : FabricMeaning F) (core : Core D F) (l : Lender) → IsReady fabric core → IsReady fabric (record core { device = lost_after core.device l })
   ready_lost fabric core l h = record { of = h.of; few = h.few; lead = λ m up. h.lead m (lost_up core.device.remote.links l m up) }
 
   -- a page-out that is accepted changes no link
   pub entered_ready :
       (fabric : FabricMeaning F) (core : Core D F) (c : Caller) (p : Page) (bytes : List ℕ) (spare : ℕ) → IsReady fabric core
-      → IsReady fabric (record core { device = enter core.device c p bytes; spare = spare })
+      → IsReady fabric (record core { device = enter_entry core.device c p bytes; spare = spare })
   entered_ready fabric core c p bytes spare h = record { of = h.of; few = h.few; lead = h.lead }

@@ -10,9 +10,9 @@ use Rattle.swap_base.specs.declared.DiskWhich.TheVariants as which
 use Rattle.swap_disk.specs.declared.DiskDone.{DiskDone}
 use Rattle.swap_disk.specs.Disk.{Flight, Write, Read, Taken, which_of, page_of, is_flight_of}
 use Rattle.swap_disk.specs.Port.{Port, Takes, writes_in}
-use Rattle.swap_queue.specs.Queue.{Queue, Copy, Places, next, flying, front, front_of, start, start_of, copies_at, one_if as queue_one_if}
+use Rattle.swap_queue.specs.Queue.{Queue, Copy, Places, next_copy, flying, front, front_of, start, start_of, copies_at, one_if as queue_one_if}
 use Rattle.swap_queue.specs.Kept.{IsQueue}
-use Rattle.swap_queue.specs.Backlog.{started_answer}
+use Rattle.swap_queue.specs.BehindView.{started_answer}
 use Rattle.swap_calls.specs.Calls.{Calls, is_waiting, state_of}
 use Rattle.swap_calls.specs.declared.Arrived.TheVariants as arrived
 use Rattle.swap_calls.specs.declared.CallState.{CallState}
@@ -29,15 +29,15 @@ pub record IsFront (q : Queue) (pg : Page) (entry : EntryNo) : Type 0 where
   pub line : List Page
   pub copy : Copy
   pub is_line : q.line ≡ pg ∷ line
-  pub is_next : next q pg ≡ Some copy
+  pub is_next : next_copy q pg ≡ Some copy
   pub is_entry : copy.entry ≡ entry
 
 front_by :
     (q : Queue) (line : List Page) (pg : Page) (entry : EntryNo) → q.line ≡ line → Some (pg, entry) ≡ started_answer (front_of q line) → IsFront q pg entry
 front_by q [] pg entry el e = cc
-front_by q (r ∷ line) pg entry el e = go (next q r) refl e
+front_by q (r ∷ line) pg entry el e = go (next_copy q r) refl e
   where
-    go : (o : Option Copy) → next q r ≡ o → Some (pg, entry) ≡ started_answer (option_map (λ (copy : Copy). (r, copy)) o) → IsFront q pg entry
+    go : (o : Option Copy) → next_copy q r ≡ o → Some (pg, entry) ≡ started_answer (option_map (λ (copy : Copy). (r, copy)) o) → IsFront q pg entry
     go None en e = cc
     go (Some copy) en e =
         let same : (pg, entry) ≡ (r, copy.entry) = some_is e in
@@ -46,7 +46,7 @@ front_by q (r ∷ line) pg entry el e = go (next q r) refl e
           line = line;
           copy = copy;
           is_line = subst (λ x. q.line ≡ x ∷ line) (sym page) el;
-          is_next = subst (λ x. next q x ≡ Some copy) (sym page) en;
+          is_next = subst (λ x. next_copy q x ≡ Some copy) (sym page) en;
           is_entry = sym (ap (λ x. x.1) same);
         }
       where
@@ -89,7 +89,7 @@ pub start_room :
 start_room T A p d pg entry h answer q =
     let f = front_is d.queue pg entry answer in
     let line = front_in_line T A p d pg entry h f in
-    let x : Places = record { flying = next d.queue pg; next = None } in
+    let x : Places = record { flying = next_copy d.queue pg; next = None } in
     let places : (start d.queue).places ≡ set d.queue.places pg.0 x = ap (λ l. (start_of d.queue l).places) f.is_line in
     let fits : pg.0 < length d.queue.places = omega (arith, h.agrees.places_len, line.0) in
     let more : count_by flies (set d.queue.places pg.0 x) ≡ count_by flies d.queue.places + 1 =

@@ -5,16 +5,16 @@ use Rattle.swap_base.specs.declared.Page.{Page}
 use Rattle.swap_base.specs.declared.Caller.{Caller}
 use Rattle.swap_base.specs.declared.EntryNo.{EntryNo}
 use Rattle.swap_base.specs.Sizes.{Sizes, pages_of}
-use Rattle.swap_record.specs.Book.{Book}
+use Rattle.swap_record.specs.RecordView.{RecordView}
 use Rattle.swap_record.specs.declared.Op.{Op}
 use Rattle.swap_record.specs.declared.Op.TheVariants.{PageOut, PageIn, Failed}
 use Rattle.swap_record.specs.History.{History, last}
-use Rattle.swap_queue.specs.Backlog.{Backlog}
+use Rattle.swap_queue.specs.BehindView.{BehindView}
 use Rattle.swap_queue.specs.Queue.{Queue, flying}
 use Rattle.swap_base.specs.declared.DiskWhich.{DiskWhich}
 use Rattle.swap_base.specs.declared.DiskWhich.TheVariants as which
 use Rattle.swap_base.specs.declared.Via.{Via}
-use Rattle.swap_calls.specs.Calls.{CallTable, state_of, is_waiting, may_read}
+use Rattle.swap_calls.specs.Calls.{CallsView, state_of, is_waiting, may_read}
 use Rattle.swap_calls.specs.declared.Arrived.TheVariants as arrived
 use Rattle.swap_calls.specs.declared.CallState.{CallState}
 use Rattle.swap_calls.specs.declared.CallState.TheVariants.{Reading}
@@ -23,7 +23,7 @@ use Rattle.swap_table.specs.declared.InStep.{InStep}
 use Rattle.swap_table.specs.declared.InStep.TheVariants as ins
 use Rattle.swap_table.specs.declared.Step.{Step}
 use Rattle.swap_table.specs.declared.Step.TheVariants as steps
-use Rattle.swap_table.specs.Device.{Device, Core, of_device, lost, lose_with, give_up_one, Heard, query_reply, borrow_reply, write_reply, read_reply, rate_asked, taken_back, query_answered, borrow_answered, write_answered, read_answered, rate_told, evicted}
+use Rattle.swap_table.specs.Device.{Device, Core, of_device, lost_after, lose_with, give_up_one, Heard, query_reply, borrow_reply, write_reply, read_reply, rate_asked, taken_back, query_answered, borrow_answered, write_answered, read_answered, rate_told, heard_evict}
 use Rattle.swap_wire.specs.Fabric.{Parcel, carries_page, parcel_of, FabricCall, FabricAnswer}
 use Rattle.swap_base.specs.declared.Slab.{Slab}
 use Rattle.swap_base.specs.declared.Lender.{Lender}
@@ -38,7 +38,7 @@ use Rattle.swap_wire.specs.declared.Msg.{Msg}
 use Rattle.swap_rings.specs.declared.Request.{Request}
 use Rattle.swap_rings.specs.declared.Request.TheVariants as request
 use Rattle.swap_rings.specs.Rings.{is_up, ring_of}
-use Rattle.swap_remote.specs.Remote.{Table, Remote, state_for, mapped_by}
+use Rattle.swap_remote.specs.Remote.{RemoteView, Remote, state_for, mapped_by}
 use Rattle.swap_table.specs.Ports.{Prog, Ret, Along}
 use Rattle.swap_table.specs.Laws.{AgreeWith}
 use Rattle.swap_disk.specs.declared.port.DiskPort.{Ghosts as DiskMeaning}
@@ -46,7 +46,7 @@ use Rattle.swap_wire.specs.declared.fabric.Fabric.{Ghosts as FabricMeaning}
 use Rattle.swap_device.specs.declared.links.Answer.{Answer}
 
 -- a device without its ports, and the entries that its history has room for
-pub record Standing : Type 0 where
+pub record StateView : Type 0 where
   pub device : Device
   pub spare : ℕ
 
@@ -54,8 +54,9 @@ pub record Standing : Type 0 where
 abbrev pub IsNewest : ℕ → List (Option EntryNo) → History → Type 0
 IsNewest pages newest H = (p : Page) → p.0 < pages → slice_index_or newest p.0 None ≡ last H p
 
-pub record AreTables (s : Sizes) (book : Book) (queue : Backlog) (calls : CallTable) (newest : List (Option EntryNo))
-    (remote : Table) (rates : List Activity) : Type 0 where
+pub record AreTables (s : Sizes) (book : RecordView) (queue : BehindView) (calls : CallsView)
+    (newest : List (Option EntryNo))
+    (remote : RemoteView) (rates : List Activity) : Type 0 where
   pub remote_sizes : remote.sizes ≡ s
   pub record_page : book.page_bytes ≡ s.page_bytes
   pub queue_sizes : queue.sizes ≡ s
@@ -107,9 +108,9 @@ pub record LeavesRest {D F : Type 0} (before now : Core D F) : Type 0 where
       (c : Caller) → may_read (state_of before.device.calls c) ≡ true → may_read (state_of now.device.calls c) ≡ true
 
 -- a link is lost, of so many at most; after the last one no choice is looked at
-abbrev pub fallen : ℕ → Device → Lender → Prog Device
-fallen zero d l = Ret (lost d l)
-fallen (suc more) d l = lose_with more d l
+abbrev pub lose_in_turn : ℕ → Device → Lender → Prog Device
+lose_in_turn zero d l = Ret (lost_after d l)
+lose_in_turn (suc more) d l = lose_with more d l
 
 -- a slab that waits for a lender which is gone waits no more
 abbrev pub given_up : (Device → Lender → Prog Device) → Device → Lender → Slab → Prog Device
@@ -191,12 +192,12 @@ MayGoTo s r lenders page None = Unit {0}
 MayGoTo s r lenders page (Some at) = MayGo s r page at.0 × (at.0.0 < lenders)
 
 -- what is said without a page
-abbrev pub said : Option Msg → Option Parcel
-said word = option_map (λ m. parcel_of m []) word
+abbrev pub said_parcel : Option Msg → Option Parcel
+said_parcel word = option_map (λ m. parcel_of m []) word
 
 -- what a message makes of the device, with what follows
 abbrev pub heard_with : Device → Answer → Heard
-heard_with now answer = record { device = now; word = said answer.word; choice = answer.choice }
+heard_with now answer = record { device = now; word = said_parcel answer.word; choice = answer.choice }
 
 -- what a message does: it is heard, or nothing changes
 abbrev pub IsHeard : Option Heard → Device → Device → Option Answer → Type 0
@@ -239,7 +240,7 @@ answered_of d lender m bytes (Some (request.Read caller page)) = read_answered d
 
 abbrev pub heard_by_of : Device → Lender → Msg → List ℕ → Option Request → Option Lease → Option Lease → Option Heard
 heard_by_of d lender m bytes oldest (Some lease) back = rate_told d lease (mapped_by d.remote.slabs lender lease)
-heard_by_of d lender m bytes oldest None (Some lease) = evicted d (mapped_by d.remote.slabs lender lease)
+heard_by_of d lender m bytes oldest None (Some lease) = heard_evict d (mapped_by d.remote.slabs lender lease)
 heard_by_of d lender m bytes oldest None None = answered_of d lender m bytes oldest
 
 abbrev pub heard_of : Device → Lender → Msg → List ℕ → Option Request → Option Heard

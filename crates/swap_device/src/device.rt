@@ -8,7 +8,7 @@ ghost use Rattle.swap_calls.specs.Calls.{call_of, state_of, is_idle, keeps_page}
 ghost use Rattle.swap_slabs.specs.Slabs as slabs;
 ghost use Rattle.swap_slabs.specs.declared.TheConstants.{MOST_LENDERS};
 ghost use Rattle.swap_rings.specs.Rings as rings;
-ghost use Rattle.swap_table.specs.Device.{new, out, read, finish, disk_start, disk_take, took, link_take, tick, map, connect};
+ghost use Rattle.swap_table.specs.Device.{device_at_start, out, read, finish, disk_start, disk_take, took_after, link_take, tick, map, connect};
 ghost use Rattle.swap_table.specs.Fits.{IsBlank};
 ghost use Rattle.swap_device.specs.State.{Agree, Went, KeepsRoom, GivesIn, GivesStep, WritesBack, ReadsBack};
 
@@ -296,7 +296,7 @@ impl<D: DiskPort, F: Fabric> DeviceCore<D, F> {
 
     /// How many slabs are mapped.
     pub fn mapped(&self) -> u32
-        ensures { result ≡ slabs.mapped self.now.device.remote.slabs }
+        ensures { result ≡ slabs.mapped_count self.now.device.remote.slabs }
     {
         self.machine.state.mapped()
     }
@@ -339,7 +339,7 @@ impl<D: DiskPort + Drop, F: Fabric + Drop> DeviceCore<D, F> {
         ensures { IfOk result
             (λ core. core
             ≡ record {
-              device = new geometry lenders;
+              device = device_at_start geometry lenders;
               disk = disk;
               fabric = fabric;
               spare = 0;

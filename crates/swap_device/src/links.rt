@@ -6,7 +6,7 @@ ghost use Rattle.swap_slabs.specs.declared.SlabState.TheVariants as SlabState;
 ghost use Rattle.swap_slabs.specs.declared.TheConstants.{MOST_LENDERS};
 ghost use Rattle.swap_remote.specs.Remote.{state_for, mapped_by};
 ghost use Rattle.swap_rings.specs.Rings as rings;
-ghost use Rattle.swap_table.specs.Device.{query_reply, borrow_reply, write_reply, read_reply, rate_asked, taken_back, query_answered, borrow_answered, write_answered, read_answered, rate_told, evicted, follow, understood, link_take, map, connect_on, connect, without_link};
+ghost use Rattle.swap_table.specs.Device.{query_reply, borrow_reply, write_reply, read_reply, rate_asked, taken_back, query_answered, borrow_answered, write_answered, read_answered, rate_told, heard_evict, follow, understand, link_take, map, connect_on, connect, without_link};
 ghost use Rattle.swap_table.specs.declared.TheConstants.{MOST_LINKS, WIRE_VERSION};
 ghost use Rattle.swap_device.specs.State.{Agree, Went, Became, IsReady, LeavesRest, IsHeard, MayFollow, IsServed, answered_of, heard_of, heard_with};
 
@@ -49,7 +49,7 @@ impl<D: DiskPort, F: Fabric> Machine<D, F> {
         requires ready { IsReady F.Fabric self.old }
         ensures moved { Went D.moves F.moves
             (λ d.
-            understood d lender msg
+            understand d lender msg
             (heard_of self.old.device lender msg bytes.now
             (rings.oldest (rings.ring_of self.old.device.remote.links lender))))
             self.old self.new result }
@@ -374,7 +374,7 @@ fn tell_rate(state: &State, lender: Lender, lease: Lease) -> Option<Answer>
 fn evict(state: &mut State, lender: Lender, lease: Lease) -> Option<Answer>
     requires lender { lender.0 < MOST_LENDERS }
     ensures heard { IsHeard
-        (evicted state.old.device (mapped_by state.old.device.remote.slabs lender lease))
+        (heard_evict state.old.device (mapped_by state.old.device.remote.slabs lender lease))
         state.old.device state.new.device result }
     ensures may { MayFollow state.old.device.sizes result }
     ensures spare { state.new.spare ≡ state.old.spare }

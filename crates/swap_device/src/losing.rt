@@ -1,6 +1,6 @@
 ghost use Rattle.std.specs.Prelude.{◌≡◌, ◌<◌, ◌+◌, ◌^◌};
-ghost use Rattle.swap_table.specs.Device.{choose, lose, say};
-ghost use Rattle.swap_device.specs.State.{Became, IsReady, LeavesRest, MayBorrow, IsPlain, fallen, given_up, said};
+ghost use Rattle.swap_table.specs.Device.{choose, lose, say_after};
+ghost use Rattle.swap_device.specs.State.{Became, IsReady, LeavesRest, MayBorrow, IsPlain, lose_in_turn, given_up, said_parcel};
 
 use crate::machine::Machine;
 use swap_base::{Lender, Slab};
@@ -20,7 +20,7 @@ impl<D: DiskPort, F: Fabric> Machine<D, F> {
     fn fall(&mut self, more: u32, lender: Lender)
         requires lender { lender.0 < self.old.device.lenders }
         requires ready { IsReady F.Fabric self.old }
-        ensures moved { Became D.moves F.moves (λ d. fallen more d lender) self.old self.new }
+        ensures moved { Became D.moves F.moves (λ d. lose_in_turn more d lender) self.old self.new }
         ensures ready { IsReady F.Fabric self.new }
         ensures rest { LeavesRest self.old self.new }
     {
@@ -41,7 +41,7 @@ impl<D: DiskPort, F: Fabric> Machine<D, F> {
         requires slab { slab.0 < self.old.device.sizes.slabs }
         requires ready { IsReady F.Fabric self.old }
         ensures moved { Became D.moves F.moves
-            (λ d. given_up (fallen more) d lender slab) self.old self.new }
+            (λ d. given_up (lose_in_turn more) d lender slab) self.old self.new }
         ensures ready { IsReady F.Fabric self.new }
         ensures rest { LeavesRest self.old self.new }
     {
@@ -57,7 +57,7 @@ impl<D: DiskPort, F: Fabric> Machine<D, F> {
         requires choice { MayBorrow self.old.device.sizes choice }
         requires ready { IsReady F.Fabric self.old }
         ensures moved { Became D.moves F.moves
-            (λ d. choose (fallen more) d choice) self.old self.new }
+            (λ d. choose (lose_in_turn more) d choice) self.old self.new }
         ensures ready { IsReady F.Fabric self.new }
         ensures rest { LeavesRest self.old self.new }
     {
@@ -89,7 +89,7 @@ impl<D: DiskPort, F: Fabric> Machine<D, F> {
         requires lender { lender.0 < self.old.device.lenders }
         requires plain { IsPlain word }
         requires ready { IsReady F.Fabric self.old }
-        ensures moved { Became D.moves F.moves (λ d. say d lender (said word)) self.old self.new }
+        ensures moved { Became D.moves F.moves (λ d. say_after d lender (said_parcel word)) self.old self.new }
         ensures ready { IsReady F.Fabric self.new }
         ensures rest { LeavesRest self.old self.new }
     {

@@ -1,6 +1,6 @@
 ghost use Rattle.std.specs.Prelude.{◌≡◌, ◌<◌, length, true};
 ghost use Rattle.swap_disk.specs.Port.{LetFinish};
-ghost use Rattle.swap_wire.specs.Fabric.{carries_page, parcel_of, handed, Connect, Send, Take, End, Give, Cut, Crash, Host};
+ghost use Rattle.swap_wire.specs.Fabric.{carries_page, parcel_of, handed_of, Connect, Send, Take, End, Give, Cut, Crash, Host};
 ghost use Rattle.swap_table.specs.Device.{of_device};
 
 use crate::state::State;
@@ -53,7 +53,7 @@ impl<D: DiskPort, F: Fabric> Machine<D, F> {
         requires of { F.of self.old.fabric ≡ of_device self.old.device }
         ensures rest { self.new ≡ record self.old { fabric = self.new.fabric } }
         ensures moved { F.moves self.old.fabric (Take lender)
-            (handed result page.new) self.new.fabric }
+            (handed_of result page.new) self.new.fabric }
         ensures of { F.of self.new.fabric ≡ of_device self.old.device }
     {
         self.fabric.take(lender, page)

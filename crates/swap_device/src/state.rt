@@ -1,11 +1,11 @@
 ghost use Rattle.std.specs.Prelude.{◌≡◌, ◌<◌, ◌-◌, ◌+◌, ◌^◌, ◌↔◌, max, length, IfOk, OnOk, OnErr, IfSome, IsSome, IsTrue, true, slice_set, is_some, Some, None, replicate, option_map};
 ghost use Rattle.swap_base.specs.Sizes.{pages_of, place_of, zeros, IsWithin};
 ghost use Rattle.swap_record.specs.History.{next_name, last};
-ghost use Rattle.swap_record.specs.Book.{written};
-ghost use Rattle.swap_queue.specs.Queue.{Copy, put, has_room, front, start, done, failed, flying, next, newest, copies};
-ghost use Rattle.swap_queue.specs.Backlog.{started_answer, started_bytes, failed_answer, bytes_or};
+ghost use Rattle.swap_record.specs.RecordView.{push_after};
+ghost use Rattle.swap_queue.specs.Queue.{Copy, put_after, has_room, front, start, done_after, failed_after, flying, next_copy, newest, copies};
+ghost use Rattle.swap_queue.specs.BehindView.{started_answer, started_bytes, failed_answer, bytes_or};
 ghost use Rattle.swap_queue.specs.Kept.{IsQueue};
-ghost use Rattle.swap_calls.specs.Calls.{call_of, state_of, is_idle, may_read, is_waiting, keeps_page, came, failed as failed_call};
+ghost use Rattle.swap_calls.specs.Calls.{call_of, state_of, is_idle, may_read, is_waiting, keeps_page, came_after, failed_after as failed_call};
 ghost use Rattle.swap_slabs.specs.Slabs as slabs;
 ghost use Rattle.swap_slabs.specs.Kept.{IsSlabs};
 ghost use Rattle.swap_slabs.specs.declared.TheConstants.{MOST_LENDERS, MOST_FLYING};
@@ -17,7 +17,7 @@ ghost use Rattle.swap_rates.specs.Table as rates;
 ghost use Rattle.swap_choice.specs.Asked as choice;
 ghost use Rattle.swap_remote.specs.Kept.{AreAsked, MayAsk};
 ghost use Rattle.swap_device.specs.State.{MayGo, MayBorrow};
-ghost use Rattle.swap_table.specs.Device.{new, enter, give, fault, wait_for_room, wait_for_disk, hit, periods_ended, lost, write_sent, read_sent, source, may_map, may_ask, chosen_for, is_newest, raised};
+ghost use Rattle.swap_table.specs.Device.{device_at_start, enter_entry, give, fault, wait_for_room, wait_for_disk, hit, periods_ended, lost_after, write_sent, read_sent, source, may_map, may_ask, chosen_for, is_newest, raised_after};
 
 use std::alloc::Global;
 use std::marker::Model;
@@ -51,9 +51,9 @@ pub(crate) struct State {
 }
 
 impl Model for State {
-    ghost use Rattle.swap_device.specs.State.{Standing, AreTables};
+    ghost use Rattle.swap_device.specs.State.{StateView, AreTables};
 
-    ghost Value = { Standing };
+    ghost Value = { StateView };
 
     ghost view = { λ t. record {
       device = record {
@@ -92,9 +92,9 @@ fn enter(
     requires copy { length bytes.now ≡ queue.old.sizes.page_bytes }
     requires room { IsTrue (has_room queue.old.queue page) }
     ensures name { result ≡ next_name history.old.history }
-    ensures history { history.new ≡ written history.old caller page Op.PageOut bytes.now }
+    ensures history { history.new ≡ push_after history.old caller page Op.PageOut bytes.now }
     ensures queue { queue.new.queue
-        ≡ put queue.old.queue page
+        ≡ put_after queue.old.queue page
         (record { entry = next_name history.old.history; bytes = bytes.now }) }
     ensures sizes { queue.new.sizes ≡ queue.old.sizes }
     ensures newest { newest.new
@@ -109,7 +109,7 @@ fn enter(
 impl State {
     /// The tables of a device that nothing happened to.
     pub fn make(alloc: Global, geometry: Geometry, lenders: u32) -> Result<State, NoMemory>
-        ensures { IfOk result (λ t. t ≡ record { device = new geometry lenders; spare = 0 }) }
+        ensures { IfOk result (λ t. t ≡ record { device = device_at_start geometry lenders; spare = 0 }) }
     {
         let pages = geometry.pages() as usize;
         let entries = Record::make(alloc, geometry.page_bytes());
@@ -142,7 +142,7 @@ impl State {
         requires spare { 0 < self.old.spare }
         ensures state { self.new
             ≡ record {
-              device = enter self.old.device caller page bytes.now;
+              device = enter_entry self.old.device caller page bytes.now;
               spare = self.old.spare - 1;
             } }
         ensures name { result ≡ next_name self.old.device.history }
@@ -312,7 +312,7 @@ impl State {
             (λ (copy : Copy). result ≡ copy.entry) }
         ensures state { self.new
             ≡ record self.old
-            { device = record self.old.device { queue = done self.old.device.queue page } } }
+            { device = record self.old.device { queue = done_after self.old.device.queue page } } }
     {
         self.queue.done(page)
     }
@@ -323,12 +323,12 @@ impl State {
         requires count { self.old.device.failed_writes + 1 < 2 ^ 64 }
         ensures answer { IfSome (flying self.old.device.queue page)
             (λ (copy : Copy). result
-            ≡ failed_answer (next self.old.device.queue page) copy.entry) }
+            ≡ failed_answer (next_copy self.old.device.queue page) copy.entry) }
         ensures state { self.new
             ≡ record self.old {
               device =
                   record self.old.device {
-                    queue = failed self.old.device.queue page;
+                    queue = failed_after self.old.device.queue page;
                     failed_writes = self.old.device.failed_writes + 1;
                   };
             } }
@@ -345,7 +345,7 @@ impl State {
         ensures { self.new
             ≡ record self.old {
               device =
-                  record self.old.device { calls = came self.old.device.calls caller bytes.now };
+                  record self.old.device { calls = came_after self.old.device.calls caller bytes.now };
             } }
     {
         self.calls.came(caller, bytes);
@@ -532,8 +532,8 @@ impl State {
     /// The lenders that a word picks to be asked for a slab.
     pub fn to_ask(&self, word: u64) -> Asked
         ensures asked { result
-            ≡ choice.asked word (remote.fresh self.now.device.remote)
-            (remote.others self.now.device.remote) }
+            ≡ choice.two_asked word (remote.fresh_lenders self.now.device.remote)
+            (remote.other_lenders self.now.device.remote) }
         ensures lenders { AreAsked result }
     {
         self.remote.to_ask(word)
@@ -587,7 +587,7 @@ impl State {
 
     /// How many slabs are mapped.
     pub fn mapped(&self) -> u32
-        ensures { result ≡ slabs.mapped self.now.device.remote.slabs }
+        ensures { result ≡ slabs.mapped_count self.now.device.remote.slabs }
     {
         self.remote.mapped()
     }
@@ -654,7 +654,7 @@ impl State {
             ≡ record self.old {
               device =
                   record self.old.device
-                  { remote = remote.told self.old.device.remote lender slab free };
+                  { remote = remote.told_after self.old.device.remote lender slab free };
             } }
         ensures choice { result
             ≡ chosen_for slab
@@ -675,7 +675,7 @@ impl State {
             ≡ record self.old {
               device =
                   record self.old.device
-                  { remote = remote.gone self.old.device.remote lender slab };
+                  { remote = remote.gone_after self.old.device.remote lender slab };
             } }
         ensures choice { result
             ≡ chosen_for slab
@@ -713,7 +713,7 @@ impl State {
             ≡ record self.old {
               device =
                   record self.old.device
-                  { remote = remote.lent self.old.device.remote lender slab lease };
+                  { remote = remote.lent_after self.old.device.remote lender slab lease };
             } }
     {
         self.remote.lent(lender, slab, lease);
@@ -729,7 +729,7 @@ impl State {
             ≡ record self.old {
               device =
                   record self.old.device
-                  { remote = remote.refused self.old.device.remote lender slab };
+                  { remote = remote.refused_after self.old.device.remote lender slab };
             } }
     {
         self.remote.refused(lender, slab);
@@ -749,7 +749,7 @@ impl State {
               device =
                   record self.old.device {
                     remote =
-                        remote.written self.old.device.sizes self.old.device.remote lender page
+                        remote.written_after self.old.device.sizes self.old.device.remote lender page
                         (is_newest (last self.old.device.history page) entry);
                   };
             } }
@@ -783,7 +783,7 @@ impl State {
                   record self.old.device {
                     remote =
                         remote.settled_for self.old.device.sizes self.old.device.remote lender page;
-                    calls = came self.old.device.calls caller bytes.now;
+                    calls = came_after self.old.device.calls caller bytes.now;
                   };
             } }
         ensures lease { result
@@ -805,7 +805,7 @@ impl State {
               device =
                   record self.old.device {
                     remote =
-                        remote.evicted self.old.device.sizes self.old.device.remote slab;
+                        remote.evicted_after self.old.device.sizes self.old.device.remote slab;
                   };
             } }
         ensures lease { result
@@ -818,7 +818,7 @@ impl State {
     /// that asked its lender still wait.
     pub fn lost(&mut self, lender: Lender)
         requires { lender.0 < MOST_LENDERS }
-        ensures { self.new ≡ record self.old { device = lost self.old.device lender } }
+        ensures { self.new ≡ record self.old { device = lost_after self.old.device lender } }
     {
         self.remote.lost(lender);
         self.calls.lost(lender);
@@ -828,7 +828,7 @@ impl State {
     pub fn raised(&mut self, lender: Lender)
         requires lender { lender.0 < MOST_LENDERS }
         requires links { self.old.device.links_made + 1 < 2 ^ 32 }
-        ensures { self.new ≡ record self.old { device = raised self.old.device lender } }
+        ensures { self.new ≡ record self.old { device = raised_after self.old.device lender } }
     {
         self.remote.raised(lender);
         self.links_made += 1;

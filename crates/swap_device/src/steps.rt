@@ -15,7 +15,7 @@ ghost use Rattle.swap_remote.specs.Remote as remote;
 ghost use Rattle.swap_wire.specs.Fabric.{parcel_of};
 ghost use Rattle.swap_table.specs.Ports.{answering};
 ghost use Rattle.swap_disk.specs.Disk.{bytes_given};
-ghost use Rattle.swap_table.specs.Device.{out, put, read, finish, disk_start, disk_take, took, write_to, accept, read_disk, read_at, route, routed_again, finish_out, give, fault, origin_of};
+ghost use Rattle.swap_table.specs.Device.{out, put_program, read, finish, disk_start, disk_take, took_after, write_to, accept_program, read_disk, read_at, route, routed_again, finish_out, give, fault, origin_of};
 ghost use Rattle.swap_device.specs.State.{Agree, IsReady, LeavesRest, Went, KeepsRoom, MayGoTo, GivesIn, GivesStep, IsOutStep, CameFor, FailedFor, WritesBack, ReadsBack, Waits, EndsInOut};
 
 use crate::machine::Machine;
@@ -69,7 +69,7 @@ impl<D: DiskPort, F: Fabric> Machine<D, F> {
         requires spare { 0 < self.old.spare }
         requires agree { Agree D.DiskPort F.Fabric self.old }
         ensures moved { Went D.moves F.moves
-            (λ d. accept d caller page bytes.now) self.old self.new result.1 }
+            (λ d. accept_program d caller page bytes.now) self.old self.new result.1 }
         ensures name { result.0 ≡ next_name self.old.device.history }
         ensures room { KeepsRoom self.old self.new }
         ensures out { EndsInOut self.new.device.history }
@@ -148,7 +148,7 @@ impl<D: DiskPort, F: Fabric> Machine<D, F> {
         requires spare { 0 < self.old.spare }
         requires agree { Agree D.DiskPort F.Fabric self.old }
         ensures moved { Went D.moves F.moves
-            (λ d. put d caller page bytes.now) self.old self.new result }
+            (λ d. put_program d caller page bytes.now) self.old self.new result }
         ensures room { KeepsRoom self.old self.new }
     {
         if self.state.has_room(page) {
@@ -388,7 +388,7 @@ fn take_back(state: &mut State, done: DiskDone, bytes: &[u8]) -> DiskStep
     requires writes { state.old.device.failed_writes + 1 < 2 ^ 64 }
     requires reads { state.old.device.failed_reads + 1 < 2 ^ 64 }
     ensures took { (state.new.device, result)
-        ≡ took state.old.device done.which done.page done.ok
+        ≡ took_after state.old.device done.which done.page done.ok
         (bytes_given done.which done.ok bytes.now) }
     ensures spare { state.new.spare ≡ state.old.spare }
     ensures history { state.new.device.history ≡ state.old.device.history }

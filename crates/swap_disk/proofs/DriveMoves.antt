@@ -9,11 +9,11 @@ use Rattle.swap_base.specs.declared.Caller.{Caller}
 use Rattle.swap_base.specs.declared.DiskWhich.{DiskWhich}
 use Rattle.swap_base.specs.declared.DiskWhich.TheVariants as which
 use Rattle.swap_disk.specs.declared.mem_disk.Ended.{Ended}
-use Rattle.swap_disk.specs.Disk.{Disk, Flight, Write, Read, which_of, page_of, Finished, is_flight_of, without, spoilt, finish, finish_flight, can_finish, bytes_given, one_more, Taken, taken, taken_of, after_take, after_take_of, started}
-use Rattle.swap_disk.specs.Drive.{Drive, IsInFlight, IsDrive}
+use Rattle.swap_disk.specs.Disk.{Disk, Flight, Write, Read, which_of, page_of, Finished, is_flight_of, without_flight, spoil, finish, finish_flight, can_finish, bytes_given, one_more, Taken, take_from, taken_of, after_take, after_take_of, start_after}
+use Rattle.swap_disk.specs.MemDiskView.{MemDiskView, IsInFlight, IsDrive}
 use Rattle.swap_disk.specs.lemmas.Follows.{found_is, found_again}
 use Rattle.swap_store.specs.Blocks.{Blocks}
-use Rattle.swap_disk.specs.Flights.{Flying, ended_as, ended_in, drive_in, Stands, settled_by, handed, Holds}
+use Rattle.swap_disk.specs.Flights.{FlightsView, ended_as, ended_in, drive_in, Stands, settled_by, buffer_after, Holds}
 
 -- a disk as it is kept is a drive
 flies :
@@ -26,7 +26,7 @@ ended_flies flights None = tt
 ended_flies flights (Some e) = flies flights e.which e.ok (find (is_flight_of e.which) flights) refl
 
 pub is_drive :
-    (store : Blocks) (flying : Flying) (ended : Option Ended) (faults : ℕ) → Holds store flying ended faults → IsDrive (drive_in store flying ended faults)
+    (store : Blocks) (flying : FlightsView) (ended : Option Ended) (faults : ℕ) → Holds store flying ended faults → IsDrive (drive_in store flying ended faults)
 is_drive store flying ended faults h = record { in_flight = ended_flies flying.flights ended; range = h.faults_fit }
 
 -- ---- an operation is started
@@ -46,39 +46,40 @@ stands_more : (fs more : List Flight) (ended : Option Ended) → Stands fs ended
 stands_more fs more None h = tt
 stands_more fs more (Some e) h = ap (λ (o : Option Flight). is_some o) (found_more e.which fs more h) ∙ h
 
-module _ (store : Blocks) (flying flying' : Flying) (ended : Option Ended) (faults : ℕ) (more : List Flight) (h : Holds store flying ended faults)
+module _ (store : Blocks) (flying flying' : FlightsView) (ended : Option Ended) (faults : ℕ) (more : List Flight) (h : Holds store flying ended faults)
     (is : flying' ≡ record { sizes = flying.sizes; flights = flying.flights ++ more }) where
-  pub start_is : ◌≡◌ {A = Drive} (record { sizes = flying.sizes; disk = started (drive_in store flying ended faults).disk more })
+  pub start_is : ◌≡◌ {A = MemDiskView} (record { sizes = flying.sizes; disk = start_after (drive_in store flying ended faults).disk more })
       (drive_in store flying' ended faults)
   start_is =
-      let F : Option Finished → Drive =
+      let F : Option Finished → MemDiskView =
       λ o. record { sizes = flying.sizes; disk = record { blocks = store.blocks; flights = flying.flights ++ more; finished = o; faults = faults } } in
-      ap F (sym (ended_more flying.flights more ended h.stands)) ∙ ap (λ (f : Flying). drive_in store f ended faults) (sym is)
+      ap F (sym (ended_more flying.flights more ended h.stands)) ∙ ap (λ (f : FlightsView). drive_in store f ended faults) (sym is)
 
   pub start_holds : Holds store flying' ended faults
   start_holds =
-      subst (λ (f : Flying). Holds store f ended faults) (sym is)
+      subst (λ (f : FlightsView). Holds store f ended faults) (sym is)
       (record { page_bytes = h.page_bytes; pages = h.pages; stands = stands_more flying.flights more ended h.stands; faults_fit = h.faults_fit })
 
 -- ---- an operation that has finished is taken
 
 given :
     (store : Blocks) (w : DiskWhich) (page : Page) (ok : Bool) (buf : List ℕ)
-    → bytes_given w ok (handed store w page ok buf) ≡ bytes_given w ok (get_or store.blocks page.0 [])
+    → bytes_given w ok (buffer_after store w page ok buf) ≡ bytes_given w ok (get_or store.blocks page.0 [])
 given store (which.Write p) page ok buf = refl
 given store (which.Read c) page true buf = refl
 given store (which.Read c) page false buf = refl
 
 -- what is taken, and the drive after it
-abbrev TakeGives : Blocks → Flying → Ended → ℕ → Option Flight → Page → List ℕ → Type 0
+abbrev TakeGives : Blocks → FlightsView → Ended → ℕ → Option Flight → Page → List ℕ → Type 0
 TakeGives store flying e faults o page buf =
     (taken_of (record { blocks = store.blocks; flights = flying.flights; finished = ended_as e.ok o; faults = faults }) (ended_as e.ok o)
-    ≡ Some (record { done = record { which = e.which; page = page; ok = e.ok }; bytes = bytes_given e.which e.ok (handed store e.which page e.ok buf) }))
+    ≡ Some (record { done = record { which = e.which; page = page; ok = e.ok }; bytes = bytes_given e.which e.ok (buffer_after store e.which page e.ok buf) }))
     × (after_take_of (record { blocks = store.blocks; flights = flying.flights; finished = ended_as e.ok o; faults = faults }) (ended_as e.ok o)
-    ≡ record { blocks = store.blocks; flights = without e.which flying.flights; finished = None; faults = if e.ok then faults else one_more faults })
+    ≡ record { blocks = store.blocks; flights = without_flight e.which flying.flights; finished = None; faults = if e.ok then faults else one_more faults })
 
 take_found :
-    (store : Blocks) (flying : Flying) (e : Ended) (faults : ℕ) (o : Option Flight) (page : Page) (buf : List ℕ) → find (is_flight_of e.which) flying.flights ≡ o
+    (store : Blocks) (flying : FlightsView) (e : Ended) (faults : ℕ) (o : Option Flight) (page : Page) (buf : List ℕ)
+    → find (is_flight_of e.which) flying.flights ≡ o
     → option_map page_of o ≡ Some page → TakeGives store flying e faults o page buf
 take_found store flying e faults None page buf found is = cc
 take_found store flying e faults (Some f) page buf found is =
@@ -89,29 +90,39 @@ take_found store flying e faults (Some f) page buf found is =
           ∙ ap (λ p. G e.which p (bytes_given e.which e.ok (get_or store.blocks p.0 []))) page_is
           ∙ ap (λ bs. G e.which page bs) (sym (given store e.which page e.ok buf)),
       ap
-          (λ w. record { blocks = store.blocks; flights = without w flying.flights; finished = None; faults = if e.ok then faults else one_more faults })
+          (λ w. record { blocks = store.blocks; flights = without_flight w flying.flights; finished = None; faults = if e.ok then faults else one_more faults })
           which_is,
     )
 
-module _ (store : Blocks) (flying flying' : Flying) (e : Ended) (faults faults' : ℕ) (page : Page) (buf buf' : List ℕ)
+module _ (store : Blocks) (flying flying' : FlightsView) (e : Ended) (faults faults' : ℕ) (page : Page) (buf buf' : List ℕ)
     (found : option_map page_of (find (is_flight_of e.which) flying.flights) ≡ Some page)
-    (handed_is : buf' ≡ handed store e.which page e.ok buf) (landed : flying' ≡ record { sizes = flying.sizes; flights = without e.which flying.flights })
+    (handed_is : buf' ≡ buffer_after store e.which page e.ok buf) (landed : flying'
+    ≡ record { sizes = flying.sizes; flights = without_flight e.which flying.flights })
     (counted : faults' ≡ (if e.ok then faults else one_more faults)) where
   gives : TakeGives store flying e faults (find (is_flight_of e.which) flying.flights) page buf
   gives = take_found store flying e faults (find (is_flight_of e.which) flying.flights) page buf refl found
 
-  pub taken_is : taken (drive_in store flying (Some e) faults).disk
+  pub taken_is : take_from (drive_in store flying (Some e) faults).disk
       ≡ Some (record { done = record { which = e.which; page = page; ok = e.ok }; bytes = bytes_given e.which e.ok buf' })
   taken_is =
       gives.0 ∙ ap (λ bs. Some (record { done = record { which = e.which; page = page; ok = e.ok }; bytes = bytes_given e.which e.ok bs })) (sym handed_is)
 
-  pub after_is : ◌≡◌ {A = Drive} (record { sizes = flying.sizes; disk = after_take (drive_in store flying (Some e) faults).disk })
+  pub after_is : ◌≡◌ {A = MemDiskView} (record { sizes = flying.sizes; disk = after_take (drive_in store flying (Some e) faults).disk })
       (drive_in store flying' None faults')
   after_is =
-      let D : Disk → Drive = λ d. record { sizes = flying.sizes; disk = d } in
-      let F : ℕ → Drive =
-      λ n. record { sizes = flying.sizes; disk = record { blocks = store.blocks; flights = without e.which flying.flights; finished = None; faults = n } } in
-      ap D gives.1 ∙ ap F (sym counted) ∙ ap (λ (f : Flying). drive_in store f None faults') (sym landed)
+      let D : Disk → MemDiskView = λ d. record { sizes = flying.sizes; disk = d } in
+      let F : ℕ → MemDiskView =
+      λ n. record {
+        sizes = flying.sizes;
+        disk = record {
+          blocks = store.blocks;
+          flights = without_flight e.which flying.flights;
+          finished = None;
+          faults =
+              n;
+        };
+      } in
+      ap D gives.1 ∙ ap F (sym counted) ∙ ap (λ (f : FlightsView). drive_in store f None faults') (sym landed)
 
 -- ---- an operation finishes
 
@@ -121,9 +132,9 @@ pub spoils :
     (record { blocks = settled_by store.blocks o ok; page_bytes = store.page_bytes })
 spoils store o page bytes ok is long failed =
     let F : List (List ℕ) → Blocks = λ bs. record { blocks = bs; page_bytes = store.page_bytes } in
-    let spoilt_is : replicate store.page_bytes 255 ≡ spoilt bytes = splat_is_map bytes store.page_bytes 255 long in
+    let spoilt_is : replicate store.page_bytes 255 ≡ spoil bytes = splat_is_map bytes store.page_bytes 255 long in
     ap F
-    (ap (λ l. set store.blocks page.0 l) (spoilt_is ∙ sym (cond-false ok bytes (spoilt bytes) failed))
+    (ap (λ l. set store.blocks page.0 l) (spoilt_is ∙ sym (cond-false ok bytes (spoil bytes) failed))
     ∙ ap (λ (x : Option Flight). settled_by store.blocks x ok) (sym is))
 
 pub settles_read :
@@ -145,7 +156,8 @@ stays_of :
 stays_of d w ok None flight some = absurd (false≢true some)
 stays_of d w ok (Some f) flight some = (refl, refl)
 
-pub stays : (store : Blocks) (flying : Flying) (ended : Option Ended) (faults : ℕ) (w : DiskWhich) (ok : Bool) → Holds store flying ended faults → IsSome ended
+pub stays : (store : Blocks) (flying : FlightsView) (ended : Option Ended) (faults : ℕ) (w : DiskWhich) (ok : Bool) → Holds store flying ended faults
+    → IsSome ended
     → (can_finish (drive_in store flying ended faults).disk w ≡ false)
     × (finish (drive_in store flying ended faults).disk w ok ≡ (drive_in store flying ended faults).disk)
 stays store flying None faults w ok h some = absurd (false≢true some)
@@ -158,7 +170,7 @@ is_none_of None lacks = refl
 is_none_of (Some f) lacks = absurd (false≢true (sym lacks))
 
 pub none_finishes :
-    (store : Blocks) (flying : Flying) (ended : Option Ended) (faults : ℕ) (w : DiskWhich) (ok : Bool) → is_some ended ≡ false
+    (store : Blocks) (flying : FlightsView) (ended : Option Ended) (faults : ℕ) (w : DiskWhich) (ok : Bool) → is_some ended ≡ false
     → is_some (find (is_flight_of w) flying.flights) ≡ false
     → (can_finish (drive_in store flying ended faults).disk w ≡ false)
     × (finish (drive_in store flying ended faults).disk w ok ≡ (drive_in store flying ended faults).disk)

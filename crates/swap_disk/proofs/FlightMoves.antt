@@ -8,7 +8,7 @@ use Rattle.swap_base.specs.declared.DiskWhich.TheVariants as which
 use Rattle.swap_base.specs.Sizes.{Sizes, pages_of}
 use Rattle.swap_places.specs.Line.{Line, stands, AreOnce, EntersOne, LeavesOne}
 use Rattle.swap_places.specs.Line as line
-use Rattle.swap_disk.specs.Disk.{Flight, Write, Read, without}
+use Rattle.swap_disk.specs.Disk.{Flight, Write, Read, without_flight}
 use Rattle.swap_disk.specs.Flights.{bytes_at, page_read, flight_at, flights_in, pages_among, IsPage, AreKept}
 use Rattle.swap_disk.proofs.Numbers.{at_write, at_caller, without_is, page_enters, read_enters, page_stands, page_leaves, read_leaves, length-without, map_same}
 
@@ -16,14 +16,14 @@ use Rattle.swap_disk.proofs.Numbers.{at_write, at_caller, without_is, page_enter
 behind : EntersOne → (numbers : List ℕ) (k j : ℕ) → k ≢ j → stands (numbers ++ k ∷ []) j ≡ stands numbers j
 behind enters numbers k j ne = enters numbers k j ∙ cond-false (k == j) true (stands numbers j) (ne_eqb k j ne)
 
-still : LeavesOne → (numbers : List ℕ) (k j : ℕ) → AreOnce numbers → stands (line.without k numbers) j ≡ true → (k ≢ j) × (stands numbers j ≡ true)
+still : LeavesOne → (numbers : List ℕ) (k j : ℕ) → AreOnce numbers → stands (line.without_number k numbers) j ≡ true → (k ≢ j) × (stands numbers j ≡ true)
 still leaves numbers k j once in' =
     ⊎_elim
     (λ (e : k ≡ j). absurd (false≢true (sym (leaves numbers k j once ∙ cond-true (k == j) false (stands numbers j) (eq-eqb k j e)) ∙ in')))
     (λ (ne : k ≢ j). (ne, sym (leaves numbers k j once ∙ cond-false (k == j) false (stands numbers j) (ne_eqb k j ne)) ∙ in'))
     (cases_eq k j)
 
-gone : LeavesOne → (numbers : List ℕ) (k : ℕ) → AreOnce numbers → stands (line.without k numbers) k ≡ false
+gone : LeavesOne → (numbers : List ℕ) (k : ℕ) → AreOnce numbers → stands (line.without_number k numbers) k ≡ false
 gone leaves numbers k once = leaves numbers k k once ∙ cond-true (k == k) false (stands numbers k) (eq-eqb k k refl)
 
 below_apart : (a p c : ℕ) → a < p → a ≢ p + c
@@ -163,7 +163,7 @@ module _ (leaves : LeavesOne) (s : Sizes) (order writes order' writes' : Line) (
     (h : AreKept s order writes reading kept spare) (once : AreOnce order.numbers) (once' : AreOnce writes.numbers) (within : page.0 < pages_of s)
     (in' : stands order.numbers page.0 ≡ true)
     (took : get_or kept page.0 None ≡ Some bytes) (pushed : spare' ≡ spare ++ bytes ∷ [])
-    (left : order'.numbers ≡ line.without page.0 order.numbers) (left' : writes'.numbers ≡ line.without page.0 writes.numbers)
+    (left : order'.numbers ≡ line.without_number page.0 order.numbers) (left' : writes'.numbers ≡ line.without_number page.0 writes.numbers)
     (kept_is : kept' ≡ set kept page.0 None) where
   pub stands_too : stands writes.numbers page.0 ≡ true
   stands_too = ap (λ l. stands l page.0) h.writes_are ∙ page_stands s reading kept order.numbers page.0 within ∙ in'
@@ -189,7 +189,8 @@ module _ (leaves : LeavesOne) (s : Sizes) (order writes order' writes' : Line) (
     order_bound = bound ∙ h.order_bound;
     writes_bound = bound' ∙ h.writes_bound;
     writes_are =
-        left' ∙ ap (λ l. line.without page.0 l) h.writes_are ∙ page_leaves s reading kept order.numbers page.0 within ∙ ap (λ l. pages_among s l) (sym left);
+        left' ∙ ap (λ l. line.without_number page.0 l) h.writes_are ∙ page_leaves s reading kept order.numbers page.0 within
+        ∙ ap (λ l. pages_among s l) (sym left);
     reading_len = h.reading_len;
     kept_len = ap length kept_is ∙ length-set kept page.0 None ∙ h.kept_len;
     room = omega (arith, h.room, ap length pushed, length_push spare bytes, ap length left', length-without writes.numbers page.0 stands_too);
@@ -200,12 +201,12 @@ module _ (leaves : LeavesOne) (s : Sizes) (order writes order' writes' : Line) (
         h.reads_fit caller (still leaves order.numbers page.0 (pages_of s + caller) once (sym (ap (λ l. stands l (pages_of s + caller)) left) ∙ there)).1;
   }
 
-  pub write_landed : flights_in s reading kept' order'.numbers ≡ without (which.Write page) (flights_in s reading kept order.numbers)
+  pub write_landed : flights_in s reading kept' order'.numbers ≡ without_flight (which.Write page) (flights_in s reading kept order.numbers)
   write_landed =
       let same : (x : ℕ) → x ≢ page.0 → flight_at s reading kept' x ≡ flight_at s reading kept x =
       λ x ne. ap (λ l. flight_at s reading l x) kept_is ∙ write_other s reading kept page.0 None x ne in
       ap (λ l. flights_in s reading kept' l) left
-      ∙ map_same (λ n. flight_at s reading kept' n) (λ n. flight_at s reading kept n) (line.without page.0 order.numbers) page.0 same
+      ∙ map_same (λ n. flight_at s reading kept' n) (λ n. flight_at s reading kept n) (line.without_number page.0 order.numbers) page.0 same
       (gone leaves order.numbers page.0 once)
       ∙ sym (without_is s reading kept (which.Write page) order.numbers (lt-ltb page.0 (pages_of s) within))
 
@@ -214,7 +215,7 @@ module _ (leaves : LeavesOne) (s : Sizes) (order writes order' writes' : Line) (
 module _ (leaves : LeavesOne) (s : Sizes) (order writes order' : Line) (reading : List Page) (kept : List (Option (List ℕ))) (spare : List (List ℕ))
     (caller : Caller)
     (h : AreKept s order writes reading kept spare) (once : AreOnce order.numbers) (known : caller.0 < s.callers)
-    (left : order'.numbers ≡ line.without (pages_of s + caller.0) order.numbers) where
+    (left : order'.numbers ≡ line.without_number (pages_of s + caller.0) order.numbers) where
   pub still_reading : order'.bound ≡ order.bound → AreKept s order' writes reading kept spare
   still_reading bound = record {
     order_bound = bound ∙ h.order_bound;
@@ -230,5 +231,5 @@ module _ (leaves : LeavesOne) (s : Sizes) (order writes order' : Line) (reading 
         h.reads_fit c (still leaves order.numbers (pages_of s + caller.0) (pages_of s + c) once (sym (ap (λ l. stands l (pages_of s + c)) left) ∙ there)).1;
   }
 
-  pub read_landed : flights_in s reading kept order'.numbers ≡ without (which.Read caller) (flights_in s reading kept order.numbers)
+  pub read_landed : flights_in s reading kept order'.numbers ≡ without_flight (which.Read caller) (flights_in s reading kept order.numbers)
   read_landed = ap (λ l. flights_in s reading kept l) left ∙ sym (without_is s reading kept (which.Read caller) order.numbers (lt-ltb caller.0 s.callers known))

@@ -10,9 +10,9 @@ use Rattle.swap_base.specs.declared.DiskWhich.TheVariants as which
 use Rattle.swap_base.specs.Sizes.{Sizes, pages_of}
 use Rattle.swap_places.specs.Line.{Line, stands, AreBelow}
 use Rattle.swap_places.specs.Line as line
-use Rattle.swap_disk.specs.Disk.{Flight, Write, Read, which_of, is_flight_of, without}
+use Rattle.swap_disk.specs.Disk.{Flight, Write, Read, which_of, is_flight_of, without_flight}
 use Rattle.swap_disk.specs.Port.{writes_in, oldest_in, oldest_write_in, is_write}
-use Rattle.swap_disk.specs.Flights.{Flying, AreKept, number_of, is_known, which_at, bytes_at, page_read, flight_at, flights_in, pages_among}
+use Rattle.swap_disk.specs.Flights.{FlightsView, AreKept, number_of, is_known, which_at, bytes_at, page_read, flight_at, flights_in, pages_among}
 
 flip : (a b : ℕ) → (a == b) ≡ (b == a)
 flip a b = ⊎_elim (λ (e : a ≡ b). eq-eqb a b e ∙ sym (eq-eqb b a (sym e))) (λ (ne : a ≢ b). ne_eqb a b ne ∙ sym (ne_eqb b a (λ e. ne (sym e)))) (cases_eq a b)
@@ -146,17 +146,18 @@ module _ (s : Sizes) (reading : List Page) (kept : List (Option (List ℕ))) whe
       sym (some_if (stands numbers (number_of s w)) (at (number_of s w))) ∙ sym (ap (λ (o : Option Flight). is_some o) (found w numbers known))
       ∙ ap (λ (o : Option Flight). is_some o) free
 
-  pub without_is : (w : DiskWhich) (numbers : List ℕ) → is_known s w ≡ true → without w (flights numbers) ≡ flights (line.without (number_of s w) numbers)
+  pub without_is : (w : DiskWhich) (numbers : List ℕ) → is_known s w ≡ true
+      → without_flight w (flights numbers) ≡ flights (line.without_number (number_of s w) numbers)
   without_is w [] known = refl
   without_is w (x ∷ xs) known =
       ⊎_elim
       (λ (e : x ≡ number_of s w).
-      cond-true (is_flight_of w (at x)) (flights xs) (at x ∷ without w (flights xs)) (same_number w x known ∙ eq-eqb x (number_of s w) e)
-      ∙ ap flights (sym (cond-true (x == number_of s w) xs (x ∷ line.without (number_of s w) xs) (eq-eqb x (number_of s w) e))))
+      cond-true (is_flight_of w (at x)) (flights xs) (at x ∷ without_flight w (flights xs)) (same_number w x known ∙ eq-eqb x (number_of s w) e)
+      ∙ ap flights (sym (cond-true (x == number_of s w) xs (x ∷ line.without_number (number_of s w) xs) (eq-eqb x (number_of s w) e))))
       (λ (ne : x ≢ number_of s w).
-      cond-false (is_flight_of w (at x)) (flights xs) (at x ∷ without w (flights xs)) (same_number w x known ∙ ne_eqb x (number_of s w) ne)
+      cond-false (is_flight_of w (at x)) (flights xs) (at x ∷ without_flight w (flights xs)) (same_number w x known ∙ ne_eqb x (number_of s w) ne)
       ∙ ap (λ l. at x ∷ l) (without_is w xs known)
-      ∙ ap flights (sym (cond-false (x == number_of s w) xs (x ∷ line.without (number_of s w) xs) (ne_eqb x (number_of s w) ne))))
+      ∙ ap flights (sym (cond-false (x == number_of s w) xs (x ∷ line.without_number (number_of s w) xs) (ne_eqb x (number_of s w) ne))))
       (cases_eq x (number_of s w))
 
   -- ---- the oldest operation, and the writes
@@ -222,30 +223,30 @@ module _ (s : Sizes) (reading : List Page) (kept : List (Option (List ℕ))) whe
       ∙ ap (λ b. b || stands xs k) (sym (ne_eqb x k (λ e. apart k x (pages_of s) lt ge (sym e)))))
       (cases_lt x (pages_of s))
 
-  leaves_first : (x k : ℕ) (xs : List ℕ) → x ≡ k → line.without k (x ∷ xs) ≡ xs
-  leaves_first x k xs e = cond-true (x == k) xs (x ∷ line.without k xs) (eq-eqb x k e)
+  leaves_first : (x k : ℕ) (xs : List ℕ) → x ≡ k → line.without_number k (x ∷ xs) ≡ xs
+  leaves_first x k xs e = cond-true (x == k) xs (x ∷ line.without_number k xs) (eq-eqb x k e)
 
-  leaves_later : (x k : ℕ) (xs : List ℕ) → x ≢ k → line.without k (x ∷ xs) ≡ x ∷ line.without k xs
-  leaves_later x k xs ne = cond-false (x == k) xs (x ∷ line.without k xs) (ne_eqb x k ne)
+  leaves_later : (x k : ℕ) (xs : List ℕ) → x ≢ k → line.without_number k (x ∷ xs) ≡ x ∷ line.without_number k xs
+  leaves_later x k xs ne = cond-false (x == k) xs (x ∷ line.without_number k xs) (ne_eqb x k ne)
 
-  pub page_leaves : (numbers : List ℕ) (k : ℕ) → k < pages_of s → line.without k (pages_among s numbers) ≡ pages_among s (line.without k numbers)
+  pub page_leaves : (numbers : List ℕ) (k : ℕ) → k < pages_of s → line.without_number k (pages_among s numbers) ≡ pages_among s (line.without_number k numbers)
   page_leaves [] k lt = refl
   page_leaves (x ∷ xs) k lt =
       ⊎_elim
       (λ (below : x < pages_of s).
-      ap (λ l. line.without k l) (keeps_page x xs below)
+      ap (λ l. line.without_number k l) (keeps_page x xs below)
       ∙ ⊎_elim
       (λ (e : x ≡ k). leaves_first x k (pages_among s xs) e ∙ ap (λ l. pages_among s l) (sym (leaves_first x k xs e)))
       (λ (ne : x ≢ k).
-      leaves_later x k (pages_among s xs) ne ∙ ap (λ l. x ∷ l) (page_leaves xs k lt) ∙ sym (keeps_page x (line.without k xs) below)
+      leaves_later x k (pages_among s xs) ne ∙ ap (λ l. x ∷ l) (page_leaves xs k lt) ∙ sym (keeps_page x (line.without_number k xs) below)
       ∙ ap (λ l. pages_among s l) (sym (leaves_later x k xs ne)))
       (cases_eq x k))
       (λ (ge : pages_of s ≤ x).
-      ap (λ l. line.without k l) (drops_read x xs ge) ∙ page_leaves xs k lt ∙ sym (drops_read x (line.without k xs) ge)
+      ap (λ l. line.without_number k l) (drops_read x xs ge) ∙ page_leaves xs k lt ∙ sym (drops_read x (line.without_number k xs) ge)
       ∙ ap (λ l. pages_among s l) (sym (leaves_later x k xs (λ e. apart k x (pages_of s) lt ge (sym e)))))
       (cases_lt x (pages_of s))
 
-  pub read_leaves : (numbers : List ℕ) (k : ℕ) → pages_of s ≤ k → pages_among s (line.without k numbers) ≡ pages_among s numbers
+  pub read_leaves : (numbers : List ℕ) (k : ℕ) → pages_of s ≤ k → pages_among s (line.without_number k numbers) ≡ pages_among s numbers
   read_leaves [] k le = refl
   read_leaves (x ∷ xs) k le =
       ⊎_elim
@@ -253,21 +254,21 @@ module _ (s : Sizes) (reading : List Page) (kept : List (Option (List ℕ))) whe
       (λ (ne : x ≢ k).
       ap (λ l. pages_among s l) (leaves_later x k xs ne)
       ∙ ⊎_elim
-      (λ (below : x < pages_of s). keeps_page x (line.without k xs) below ∙ ap (λ l. x ∷ l) (read_leaves xs k le) ∙ sym (keeps_page x xs below))
-      (λ (ge : pages_of s ≤ x). drops_read x (line.without k xs) ge ∙ read_leaves xs k le ∙ sym (drops_read x xs ge))
+      (λ (below : x < pages_of s). keeps_page x (line.without_number k xs) below ∙ ap (λ l. x ∷ l) (read_leaves xs k le) ∙ sym (keeps_page x xs below))
+      (λ (ge : pages_of s ≤ x). drops_read x (line.without_number k xs) ge ∙ read_leaves xs k le ∙ sym (drops_read x xs ge))
       (cases_lt x (pages_of s)))
       (cases_eq x k)
 
 -- a line with a number is one longer than without
-pub length-without : (numbers : List ℕ) (k : ℕ) → stands numbers k ≡ true → length numbers ≡ length (line.without k numbers) + 1
+pub length-without : (numbers : List ℕ) (k : ℕ) → stands numbers k ≡ true → length numbers ≡ length (line.without_number k numbers) + 1
 length-without [] k in' = absurd (false≢true in')
 length-without (x ∷ xs) k in' =
     ⊎_elim
-    (λ (e : x ≡ k). omega (arith, ap length (cond-true (x == k) xs (x ∷ line.without k xs) (eq-eqb x k e))))
+    (λ (e : x ≡ k). omega (arith, ap length (cond-true (x == k) xs (x ∷ line.without_number k xs) (eq-eqb x k e))))
     (λ (ne : x ≢ k).
     omega (
       arith,
-      ap length (cond-false (x == k) xs (x ∷ line.without k xs) (ne_eqb x k ne)),
+      ap length (cond-false (x == k) xs (x ∷ line.without_number k xs) (ne_eqb x k ne)),
       length-without xs k (sym (ap (λ b. b || stands xs k) (ne_eqb x k ne)) ∙ in'),
     ))
     (cases_eq x k)
@@ -283,21 +284,21 @@ map_same f g (x ∷ xs) k same out =
 
 -- ---- the same of operations in flight as they are seen
 
-module _ (s : Sizes) (reading : List Page) (kept : List (Option (List ℕ))) (order : Line) (now : Flying)
-    (v : ◌≡◌ {A = Flying} (record { sizes = s; flights = flights_in s reading kept order.numbers }) now)
+module _ (s : Sizes) (reading : List Page) (kept : List (Option (List ℕ))) (order : Line) (now : FlightsView)
+    (v : ◌≡◌ {A = FlightsView} (record { sizes = s; flights = flights_in s reading kept order.numbers }) now)
     (bound : order.bound ≡ pages_of s + s.callers) (below : AreBelow order.bound order.numbers) (w : DiskWhich) where
   pub seen_in : IsSome (find (is_flight_of w) now.flights) → (is_known s w ≡ true) × (stands order.numbers (number_of s w) ≡ true)
   seen_in some =
       in_line s reading kept w order.numbers (subst (λ b. AreBelow b order.numbers) bound below)
-      (subst (λ (f : Flying). IsSome (find (is_flight_of w) f.flights)) (sym v) some)
+      (subst (λ (f : FlightsView). IsSome (find (is_flight_of w) f.flights)) (sym v) some)
 
   pub seen_at : IsSome (find (is_flight_of w) now.flights) → find (is_flight_of w) now.flights ≡ Some (flight_at s reading kept (number_of s w))
   seen_at some =
       let in' : (is_known s w ≡ true) × (stands order.numbers (number_of s w) ≡ true) = seen_in some in
-      ap (λ (f : Flying). find (is_flight_of w) f.flights) (sym v) ∙ found_at s reading kept w order.numbers in'.0 in'.1
+      ap (λ (f : FlightsView). find (is_flight_of w) f.flights) (sym v) ∙ found_at s reading kept w order.numbers in'.0 in'.1
 
   pub seen_out : is_known s w ≡ true → find (is_flight_of w) now.flights ≡ None → stands order.numbers (number_of s w) ≡ false
-  seen_out known free = out_of_line s reading kept w order.numbers known (ap (λ (f : Flying). find (is_flight_of w) f.flights) v ∙ free)
+  seen_out known free = out_of_line s reading kept w order.numbers known (ap (λ (f : FlightsView). find (is_flight_of w) f.flights) v ∙ free)
 
 -- a write in flight: its page is one of the disk's, and stands in both lines
 pub record IsWriting (s : Sizes) (order writes : Line) (page : Page) : Type 0 where
@@ -306,8 +307,8 @@ pub record IsWriting (s : Sizes) (order writes : Line) (page : Page) : Type 0 wh
   pub waits : stands writes.numbers page.0 ≡ true
 
 pub writing :
-    (s : Sizes) (order writes : Line) (reading : List Page) (kept : List (Option (List ℕ))) (spare : List (List ℕ)) (now : Flying) (page : Page)
-    → AreKept s order writes reading kept spare → ◌≡◌ {A = Flying} (record { sizes = s; flights = flights_in s reading kept order.numbers }) now
+    (s : Sizes) (order writes : Line) (reading : List Page) (kept : List (Option (List ℕ))) (spare : List (List ℕ)) (now : FlightsView) (page : Page)
+    → AreKept s order writes reading kept spare → ◌≡◌ {A = FlightsView} (record { sizes = s; flights = flights_in s reading kept order.numbers }) now
     → AreBelow order.bound order.numbers → IsSome (find (is_flight_of (which.Write page)) now.flights) → IsWriting s order writes page
 writing s order writes reading kept spare now page keeps seen below some =
     let in' = seen_in s reading kept order now seen keeps.order_bound below (which.Write page) some in

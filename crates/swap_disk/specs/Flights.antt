@@ -7,12 +7,12 @@ use Rattle.swap_base.specs.declared.DiskWhich.TheVariants as which
 use Rattle.swap_base.specs.Sizes.{Sizes, pages_of}
 use Rattle.swap_places.specs.Line.{Line, stands}
 use Rattle.swap_disk.specs.declared.mem_disk.Ended.{Ended}
-use Rattle.swap_disk.specs.Disk.{Flight, Write, Read, is_flight_of, Finished, settled}
+use Rattle.swap_disk.specs.Disk.{Flight, Write, Read, is_flight_of, Finished, blocks_after}
 use Rattle.swap_store.specs.Blocks.{Blocks}
-use Rattle.swap_disk.specs.Drive.{Drive}
+use Rattle.swap_disk.specs.MemDiskView.{MemDiskView}
 
 -- the operations in flight in the order of their start, with the sizes of their disk
-pub record Flying : Type 0 where
+pub record FlightsView : Type 0 where
   pub sizes : Sizes
   pub flights : List Flight
 
@@ -83,7 +83,7 @@ abbrev pub ended_in : List Flight → Option Ended → Option Finished
 ended_in flights None = None
 ended_in flights (Some e) = ended_as e.ok (find (is_flight_of e.which) flights)
 
-abbrev pub drive_in : Blocks → Flying → Option Ended → ℕ → Drive
+abbrev pub drive_in : Blocks → FlightsView → Option Ended → ℕ → MemDiskView
 drive_in store flying ended faults =
     record {
       sizes = flying.sizes;
@@ -103,15 +103,15 @@ Stands flights (Some e) = IsSome (find (is_flight_of e.which) flights)
 -- the blocks after the operation that was found finished
 abbrev pub settled_by : List (List ℕ) → Option Flight → Bool → List (List ℕ)
 settled_by blocks None ok = blocks
-settled_by blocks (Some flight) ok = settled blocks flight ok
+settled_by blocks (Some flight) ok = blocks_after blocks flight ok
 
 -- what a buffer holds after an operation: the block of a read that is ok
-abbrev pub handed : Blocks → DiskWhich → Page → Bool → List ℕ → List ℕ
-handed store (which.Write other) page ok buf = buf
-handed store (which.Read caller) page ok buf = if ok then slice_index_or store.blocks page.0 [] else buf
+abbrev pub buffer_after : Blocks → DiskWhich → Page → Bool → List ℕ → List ℕ
+buffer_after store (which.Write other) page ok buf = buf
+buffer_after store (which.Read caller) page ok buf = if ok then slice_index_or store.blocks page.0 [] else buf
 
 -- what has finished is in flight
-pub record Holds (store : Blocks) (flying : Flying) (ended : Option Ended) (faults : ℕ) : Type 0 where
+pub record Holds (store : Blocks) (flying : FlightsView) (ended : Option Ended) (faults : ℕ) : Type 0 where
   pub page_bytes : store.page_bytes ≡ flying.sizes.page_bytes
   pub pages : length store.blocks ≡ pages_of flying.sizes
   pub stands : Stands flying.flights ended

@@ -1,6 +1,6 @@
 ghost use Rattle.std.specs.Prelude.{◌≡◌, ℕ, ◌+◌, ◌<◌, ◌++◌, ◌∷◌, [], true, length, find, option_map, is_some, Some, IfOk, IsSome, replicate, vec_capacity, ◌≤◌};
 ghost use Rattle.swap_base.specs.Sizes.{pages_of};
-ghost use Rattle.swap_disk.specs.Disk.{Write, Read, is_flight_of, page_of, without};
+ghost use Rattle.swap_disk.specs.Disk.{Write, Read, is_flight_of, page_of, without_flight};
 ghost use Rattle.swap_disk.specs.Port.{IsFree, writes_in, oldest_in, oldest_write_in};
 ghost use Rattle.swap_disk.specs.Flights.{number_of, is_known, which_at};
 
@@ -61,9 +61,9 @@ pub(crate) struct Flights {
 
 impl Model for Flights {
     ghost use Rattle.std.specs.Prelude.{◌≤◌, vec_capacity};
-    ghost use Rattle.swap_disk.specs.Flights.{Flying, flights_in, AreKept};
+    ghost use Rattle.swap_disk.specs.Flights.{FlightsView, flights_in, AreKept};
 
-    ghost Value = { Flying };
+    ghost Value = { FlightsView };
 
     ghost view = { λ f.
         record {
@@ -228,7 +228,7 @@ impl Flights {
     /// An operation in flight is over.
     pub(crate) fn land(&mut self, which: DiskWhich)
         requires { IsSome (find (is_flight_of which) self.old.flights) }
-        ensures { self.new ≡ record self.old { flights = without which self.old.flights } }
+        ensures { self.new ≡ record self.old { flights = without_flight which self.old.flights } }
     {
         match which {
             DiskWhich::Write(page) => self.land_write(page),
@@ -240,7 +240,7 @@ impl Flights {
     fn land_write(&mut self, page: Page)
         requires { IsSome (find (is_flight_of (DiskWhich.Write page)) self.old.flights) }
         ensures { self.new
-            ≡ record self.old { flights = without (DiskWhich.Write page) self.old.flights } }
+            ≡ record self.old { flights = without_flight (DiskWhich.Write page) self.old.flights } }
     {
         is_a_line();
         self.order.keeps();
@@ -254,7 +254,7 @@ impl Flights {
     fn land_read(&mut self, caller: Caller)
         requires { IsSome (find (is_flight_of (DiskWhich.Read caller)) self.old.flights) }
         ensures { self.new
-            ≡ record self.old { flights = without (DiskWhich.Read caller) self.old.flights } }
+            ≡ record self.old { flights = without_flight (DiskWhich.Read caller) self.old.flights } }
     {
         is_a_line();
         self.order.keeps();

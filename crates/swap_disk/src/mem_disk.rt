@@ -1,8 +1,8 @@
 ghost use Rattle.std.specs.Prelude.{◌≡◌, ℕ, ◌<◌, length, find, IsSome, IfOk, if◌then◌else◌};
 ghost use Rattle.swap_base.specs.Sizes.{pages_of};
 ghost use Rattle.swap_disk.specs.Disk.{is_flight_of, one_more};
-ghost use Rattle.swap_disk.specs.Flights.{settled_by, handed};
-ghost use Rattle.swap_disk.specs.Drive.{new_drive};
+ghost use Rattle.swap_disk.specs.Flights.{settled_by, buffer_after};
+ghost use Rattle.swap_disk.specs.MemDiskView.{new_drive};
 ghost use Rattle.swap_disk.specs.Port.{writes_in, oldest_write_in};
 
 use crate::flight::Flights;
@@ -29,10 +29,10 @@ pub struct MemDisk {
 }
 
 impl Model for MemDisk {
-    ghost use Rattle.swap_disk.specs.Drive.{Drive};
+    ghost use Rattle.swap_disk.specs.MemDiskView.{MemDiskView};
     ghost use Rattle.swap_disk.specs.Flights.{drive_in, Holds};
 
-    ghost Value = { Drive };
+    ghost Value = { MemDiskView };
 
     ghost view = { λ m. drive_in m.blocks m.flights m.ended m.faults };
 
@@ -64,7 +64,7 @@ fn settle(blocks: &mut Blocks, flights: &Flights, which: DiskWhich, ok: bool)
 fn hand_over(blocks: &Blocks, ended: Ended, page: Page, buf: &mut [u8])
     requires page { page.0 < length blocks.now.blocks }
     requires buf { length buf.old ≡ blocks.now.page_bytes }
-    ensures { buf.new ≡ handed blocks.now ended.which page ended.ok buf.old }
+    ensures { buf.new ≡ buffer_after blocks.now ended.which page ended.ok buf.old }
 {
     if let DiskWhich::Read(_) = ended.which {
         if ended.ok {
@@ -116,7 +116,7 @@ impl MemDisk {
 }
 
 impl DiskPort for MemDisk {
-    ghost use Rattle.swap_disk.specs.Drive.{port_of, Moves};
+    ghost use Rattle.swap_disk.specs.MemDiskView.{port_of, Moves};
     ghost use Rattle.swap_disk.specs.lemmas.Follows.{follows as drive_follows};
 
     ghost means = { port_of };

@@ -4,8 +4,8 @@ use Rattle.swap_wire.specs.Input.{Input}
 use Rattle.swap_wire.specs.declared.Event.{Event}
 use Rattle.swap_wire.specs.declared.Event.TheVariants as event
 use Rattle.swap_wire.specs.declared.Seen.{Seen}
-use Rattle.swap_disk.specs.Drive as drive
-use Rattle.swap_disk.specs.Drive.{Drive}
+use Rattle.swap_disk.specs.MemDiskView as drive
+use Rattle.swap_disk.specs.MemDiskView.{MemDiskView}
 use Rattle.swap_link.specs.Harbor as harbor
 use Rattle.swap_link.specs.Harbor.{Harbor}
 use Rattle.swap_table.specs.Ports.{run}
@@ -13,8 +13,8 @@ use Rattle.swap_table.specs.Device.{Device}
 use Rattle.swap_table.specs.Happens.{happens}
 use Rattle.swap_world.specs.World.{World, Next, IsEvent, next, next_by, next_of, reach}
 use Rattle.swap_world.specs.Laws.{StepsAreNext}
-use Rattle.swap_world.specs.Runs.{WorldOf, is_new_call}
-use Rattle.swap_drill.specs.Drill.{after, plain}
+use Rattle.swap_world.specs.Runs.{WorldView, is_new_call}
+use Rattle.swap_drill.specs.Drill.{after, plain_input}
 use Rattle.swap_drill.specs.Steps.{world_in}
 
 -- one list after another
@@ -60,12 +60,12 @@ next-plain w page e none = go e (happens-plain w.device page e none)
 
 -- an event that is no call
 pub after_plain : (w : World) (page : List ℕ) (e : Event) (w' : World) (s : Seen) → is_new_call e ≡ 0
-    → next w (record { event = e; page = page }) ≡ record { world = w'; seen = s } → w' ≡ after w (plain e ∷ [])
+    → next w (record { event = e; page = page }) ≡ record { world = w'; seen = s } → w' ≡ after w (plain_input e ∷ [])
 after_plain w page e w' s none is =
-    sym (ap (λ (n : Next). n.world) is) ∙ ap (λ (n : Next). n.world) (next-plain w page e none) ∙ sym (after-one w (plain e))
+    sym (ap (λ (n : Next). n.world) is) ∙ ap (λ (n : Next). n.world) (next-plain w page e none) ∙ sym (after-one w (plain_input e))
 
 -- an event of the code is the next of the function
-pub steps_to : StepsAreNext → (now now' : WorldOf Drive Harbor) (i : Input) (s : Seen)
+pub steps_to : StepsAreNext → (now now' : WorldView MemDiskView Harbor) (i : Input) (s : Seen)
     → IsEvent drive.Moves harbor.Moves now.core.device now.core.disk now.core.fabric i s now'.core.device now'.core.disk now'.core.fabric
     → next (world_in now) i ≡ record { world = world_in now'; seen = s }
 steps_to steps now now' i s step = steps now.core.device now'.core.device now.core.disk now'.core.disk now.core.fabric now'.core.fabric i s step

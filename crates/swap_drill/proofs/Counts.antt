@@ -15,7 +15,7 @@ use Rattle.swap_disk.specs.Port.{writes_in, oldest_write_in}
 use Rattle.swap_table.proofs.Lists.{count_by-cons, one_if}
 use Rattle.swap_world.specs.World.{World, next, reach, seens}
 use Rattle.swap_trace.specs.declared.draws.Draw.{Draw}
-use Rattle.swap_drill.specs.Drill.{after, plain, turn, turns, waits, call, call_event, calling, following, step, seen_of_call, all_heard, write_ends, oldest_write_ends, rounds_at, hosts_at, crashes_at, is_round_step}
+use Rattle.swap_drill.specs.Drill.{after, plain_input, turn, turns, waits, call, call_event, calling, following, step, seen_of_call, all_heard, write_ends, oldest_write_ends, rounds_at, hosts_at, crashes_at, is_round_step}
 use Rattle.swap_drill.specs.Summary.{told, is_call, is_busy, busy_in, is_round, rounds_in}
 
 seens-append : (w : World) (xs ys : List Input) → seens w (xs ++ ys) ≡ seens w xs ++ seens (reach w xs) ys
@@ -104,14 +104,14 @@ seldom-others i word =
     (others_if (i % 10_000 == 9_999) _ ((refl, refl), ((refl, refl), tt)))
 
 -- a Round is no call
-round-busy : (w : World) (b : Bool) (word : ℕ) → busy_in (told w (cond b (plain (event.Round word) ∷ []) [])) ≡ 0
+round-busy : (w : World) (b : Bool) (word : ℕ) → busy_in (told w (cond b (plain_input (event.Round word) ∷ []) [])) ≡ 0
 round-busy w true word =
-    let c = busy-cons w (plain (event.Round word)) [] in
-    let rest = busy-others (next w (plain (event.Round word))).world [] tt in
+    let c = busy-cons w (plain_input (event.Round word)) [] in
+    let rest = busy-others (next w (plain_input (event.Round word))).world [] tt in
     omega (arith, c, rest)
 round-busy w false word = busy-others w [] tt
 
-round-rounds : (b : Bool) (word : ℕ) → rounds_in (cond b (plain (event.Round word) ∷ []) []) ≡ one_if b
+round-rounds : (b : Bool) (word : ℕ) → rounds_in (cond b (plain_input (event.Round word) ∷ []) []) ≡ one_if b
 round-rounds true word = refl
 round-rounds false word = refl
 
@@ -156,10 +156,10 @@ unfolding calling
 calling-busy draw w =
     let own = turns 4 draw.caller w in
     let v = after w own in
-    let a = busy-append w own (call draw ∷ plain event.Start ∷ []) in
+    let a = busy-append w own (call draw ∷ plain_input event.Start ∷ []) in
     let a0 = busy-others w own (turns-others 4 draw.caller w) in
-    let b = busy-cons v (call draw) (plain event.Start ∷ []) in
-    let b0 = busy-others (next v (call draw)).world (plain event.Start ∷ []) ((refl, refl), tt) in
+    let b = busy-cons v (call draw) (plain_input event.Start ∷ []) in
+    let b0 = busy-others (next v (call draw)).world (plain_input event.Start ∷ []) ((refl, refl), tt) in
     let is = ap (λ b. one_if (b && is_busy (next v (call draw)).seen)) (is_call-call draw.kind draw.caller draw.page) in
     omega (arith, a, a0, b, b0, is)
 
@@ -167,11 +167,11 @@ calling-rounds : (draw : Draw) (w : World) → rounds_in (calling draw w) ≡ 0
 unfolding calling
 calling-rounds draw w =
     let own = turns 4 draw.caller w in
-    let a = rounds-append own (call draw ∷ plain event.Start ∷ []) in
+    let a = rounds-append own (call draw ∷ plain_input event.Start ∷ []) in
     let a0 = rounds-others own (turns-others 4 draw.caller w) in
-    let b = count_by-cons (λ (i : Input). is_round i.event) (call draw) (plain event.Start ∷ []) in
+    let b = count_by-cons (λ (i : Input). is_round i.event) (call draw) (plain_input event.Start ∷ []) in
     let is = ap one_if (is_round-call draw.kind draw.caller draw.page) in
-    let start = rounds-others (plain event.Start ∷ []) ((refl, refl), tt) in
+    let start = rounds-others (plain_input event.Start ∷ []) ((refl, refl), tt) in
     omega (arith, a, a0, b, is, start)
 
 -- one step: its call may be busy, and it may make a Round

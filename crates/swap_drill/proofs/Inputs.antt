@@ -17,9 +17,9 @@ use Rattle.swap_world.specs.Runs.{IsInput}
 use Rattle.swap_world.specs.Laws.{AreInputs}
 use Rattle.swap_world.proofs.Memory.{starts_sound, reach_sound}
 use Rattle.swap_trace.specs.declared.draws.Draw.{Draw}
-use Rattle.swap_trace.specs.Draws.{draw_of, draws, seeded}
+use Rattle.swap_trace.specs.Draws.{draw_of, draws, generator_of}
 use Rattle.swap_trace.specs.Laws.{DrawsAreInRange}
-use Rattle.swap_drill.specs.Drill.{after, drill_start, drill_sizes, drill_lenders, connects, turn, turns, waits, call_event, call_page, plain, calling, following, step, steps, drill_events, all_heard, write_ends, oldest_write_ends, rounds_at, hosts_at, crashes_at, now_and_then, is_round_step, lender}
+use Rattle.swap_drill.specs.Drill.{after, drill_start, drill_sizes, drill_lenders, connects, turn, turns, waits, call_event, call_page, plain_input, calling, following, step, steps, drill_events, all_heard, write_ends, oldest_write_ends, rounds_at, hosts_at, crashes_at, now_and_then, is_round_step, lender}
 use Rattle.swap_drill.proofs.Afters.{after-append}
 use Rattle.swap_drill.proofs.Writes.{oldest_within}
 
@@ -41,7 +41,7 @@ connects-fine : AreFine connects
 connects-fine = ((omega arith, tt), ((omega arith, tt), ((omega arith, tt), tt)))
 
 turn-fine : (c : Caller) → c.0 < 4 → AreFine (turn c)
-turn-fine c h = ((h, tt), fine-append all_heard (plain (event.Finish c) ∷ []) heard-fine ((h, tt), tt))
+turn-fine c h = ((h, tt), fine-append all_heard (plain_input (event.Finish c) ∷ []) heard-fine ((h, tt), tt))
 
 turns-fine : (n : ℕ) (c : Caller) (w : World) → c.0 < 4 → AreFine (turns n c w)
 unfolding turns
@@ -61,10 +61,10 @@ calling-fine draw w hc hp =
 
 seldom-fine : (i word : ℕ) → AreFine (now_and_then i word)
 seldom-fine i word =
-    fine-append (rounds_at i word) _ (fine_if (is_round_step i) (plain (event.Round word) ∷ []) ((tt, tt), tt))
+    fine-append (rounds_at i word) _ (fine_if (is_round_step i) (plain_input (event.Round word) ∷ []) ((tt, tt), tt))
     (fine-append (hosts_at i word) (crashes_at i)
-    (fine_if (i % 500 == 499) (plain (event.Host (lender (i / 500 % 3)) (word % 12) word) ∷ []) ((omega arith, tt), tt))
-    (fine_if (i % 10_000 == 9_999) (plain (event.Crash (lender (i / 10_000 % 3))) ∷ plain (event.Connect (lender (i / 10_000 % 3))) ∷ [])
+    (fine_if (i % 500 == 499) (plain_input (event.Host (lender (i / 500 % 3)) (word % 12) word) ∷ []) ((omega arith, tt), tt))
+    (fine_if (i % 10_000 == 9_999) (plain_input (event.Crash (lender (i / 10_000 % 3))) ∷ plain_input (event.Connect (lender (i / 10_000 % 3))) ∷ [])
     ((omega arith, tt), ((omega arith, tt), tt))))
 
 -- a world of the drill: the write in flight that was started first is of a page that there is
@@ -117,7 +117,7 @@ steps-fine range (suc n) i g before fine =
 
 pub events-fine : DrawsAreInRange → (number calls : ℕ) → AreInputs drill_sizes drill_lenders (drill_events number calls)
 unfolding drill_events
-events-fine range number calls = fine-append connects _ connects-fine (steps-fine range calls 0 (seeded number) connects connects-fine)
+events-fine range number calls = fine-append connects _ connects-fine (steps-fine range calls 0 (generator_of number) connects connects-fine)
 
 pub reached : (is : List Input) → after drill_start is ≡ reach (start drill_sizes drill_lenders) is
 unfolding after drill_start

@@ -7,7 +7,7 @@ use Rattle.swap_wire.specs.Input.{Input}
 use Rattle.swap_table.proofs.Lists.{one_if}
 use Rattle.swap_world.specs.World.{World}
 use Rattle.swap_trace.specs.declared.draws.Draw.{Draw}
-use Rattle.swap_trace.specs.Draws.{draw_of, draws, seeded}
+use Rattle.swap_trace.specs.Draws.{draw_of, draws, generator_of}
 use Rattle.swap_drill.specs.Drill.{after, connects, drill_start, drill_events, drill_world, is_round_step, seen_of_call, step, steps}
 use Rattle.swap_drill.specs.Summary.{told, is_busy, busy_in, rounds_in, busy_of, rounds_of, IsUnderWay}
 use Rattle.swap_drill.proofs.Afters.{after-append, after-nil}
@@ -21,17 +21,17 @@ steps-cons : (i : ℕ) (draw : Draw) (later : List Draw) (w : World) → steps i
 unfolding steps
 steps-cons i draw later w = refl
 
-events-are : (number calls : ℕ) → drill_events number calls ≡ connects ++ steps 0 (draws calls (seeded number)) (after drill_start connects)
+events-are : (number calls : ℕ) → drill_events number calls ≡ connects ++ steps 0 (draws calls (generator_of number)) (after drill_start connects)
 unfolding drill_events
 events-are number calls = refl
 
 -- after the links were made
 pub first_step :
-    (number calls : ℕ) (left : List Draw) (w : World) → left ≡ draws calls (seeded number) → w ≡ after drill_start connects
+    (number calls : ℕ) (left : List Draw) (w : World) → left ≡ draws calls (generator_of number) → w ≡ after drill_start connects
     → IsUnderWay number calls 0 left w 0 0
 first_step number calls left w drawn start =
     let v : World = after drill_start connects in
-    let rest : List Input = steps 0 (draws calls (seeded number)) v in
+    let rest : List Input = steps 0 (draws calls (generator_of number)) v in
     let all : drill_events number calls ≡ connects ++ rest = events-are number calls in
     let b = busy-append drill_start connects rest in
     let b0 = busy-others drill_start connects ((refl, refl), ((refl, refl), ((refl, refl), tt))) in
@@ -40,7 +40,7 @@ first_step number calls left w drawn start =
     let r0 = rounds-others connects ((refl, refl), ((refl, refl), ((refl, refl), tt))) in
     let r1 = ap rounds_in all in
     subst (λ l. IsUnderWay number calls 0 l w 0 0) (sym drawn)
-    (subst (λ x. IsUnderWay number calls 0 (draws calls (seeded number)) x 0 0) (sym start)
+    (subst (λ x. IsUnderWay number calls 0 (draws calls (generator_of number)) x 0 0) (sym start)
     (record {
       world = sym (ap (λ l. after drill_start l) all ∙ after-append drill_start connects rest);
       refused = omega (arith, b, b0, b1);

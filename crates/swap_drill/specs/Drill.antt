@@ -19,7 +19,7 @@ use Rattle.swap_disk.specs.Disk.{Flight}
 use Rattle.swap_disk.specs.Port.{writes_in, oldest_write_in}
 use Rattle.swap_world.specs.World.{World, start, next, reach}
 use Rattle.swap_trace.specs.declared.draws.Draw.{Draw}
-use Rattle.swap_trace.specs.Draws.{draws, seeded}
+use Rattle.swap_trace.specs.Draws.{draws, generator_of}
 
 -- 64 slabs of 16 pages of 64 bytes, a queue of 32 copies, 4 callers, 8 requests on a link, and hot from 20 on
 abbrev pub drill_sizes : Sizes
@@ -49,26 +49,28 @@ unfoldable pub after : World → List Input → World
 after w inputs = reach w inputs
 
 -- an event that hands in no page
-abbrev pub plain : Event → Input
-plain e = record { event = e; page = [] }
+abbrev pub plain_input : Event → Input
+plain_input e = record { event = e; page = [] }
 
 abbrev pub lender : ℕ → Lender
 lender n = record { 0 = n }
 
 -- the links to the three lenders are made
 abbrev pub connects : List Input
-connects = plain (event.Connect (lender 0)) ∷ plain (event.Connect (lender 1)) ∷ plain (event.Connect (lender 2)) ∷ []
+connects =
+    plain_input (event.Connect (lender 0)) ∷ plain_input (event.Connect (lender 1)) ∷ plain_input
+    (event.Connect (lender 2)) ∷ []
 
 -- a lender takes a message, and one is taken of its link
-abbrev pub heard : ℕ → List Input
-heard n = plain (event.Give (lender n)) ∷ plain (event.Take (lender n)) ∷ []
+abbrev pub give_and_take : ℕ → List Input
+give_and_take n = plain_input (event.Give (lender n)) ∷ plain_input (event.Take (lender n)) ∷ []
 
 abbrev pub all_heard : List Input
-all_heard = heard 0 ++ (heard 1 ++ heard 2)
+all_heard = give_and_take 0 ++ (give_and_take 1 ++ give_and_take 2)
 
 -- a caller that waits: its read comes from the disk, the lenders are heard, and its call goes on
 abbrev pub turn : Caller → List Input
-turn c = plain (event.Disk (which.Read c) true) ∷ (all_heard ++ (plain (event.Finish c) ∷ []))
+turn c = plain_input (event.Disk (which.Read c) true) ∷ (all_heard ++ (plain_input (event.Finish c) ∷ []))
 
 -- a caller that isn't idle waits
 abbrev pub waits : World → Caller → Bool
@@ -94,7 +96,7 @@ call draw = record { event = call_event draw.kind draw.caller draw.page; page = 
 -- where more than three writes are in flight, the one that was started first comes to its end
 abbrev pub write_ends : Option Page → List Input
 write_ends None = []
-write_ends (Some p) = plain (event.Disk (which.Write p) true) ∷ []
+write_ends (Some p) = plain_input (event.Disk (which.Write p) true) ∷ []
 
 abbrev pub oldest_write_ends : List Flight → List Input
 oldest_write_ends flights = if nat_le 4 (writes_in flights) then write_ends (oldest_write_in flights) else []
@@ -104,22 +106,23 @@ abbrev pub is_round_step : ℕ → Bool
 is_round_step i = i % 128 == 127
 
 abbrev pub rounds_at : ℕ → ℕ → List Input
-rounds_at i word = if is_round_step i then plain (event.Round word) ∷ [] else []
+rounds_at i word = if is_round_step i then plain_input (event.Round word) ∷ [] else []
 
 abbrev pub hosts_at : ℕ → ℕ → List Input
-hosts_at i word = if i % 500 == 499 then plain (event.Host (lender (i / 500 % 3)) (word % 12) word) ∷ [] else []
+hosts_at i word = if i % 500 == 499 then plain_input (event.Host (lender (i / 500 % 3)) (word % 12) word) ∷ [] else []
 
 abbrev pub crashes_at : ℕ → List Input
 crashes_at i =
     if i % 10_000 == 9_999
-    then plain (event.Crash (lender (i / 10_000 % 3))) ∷ plain (event.Connect (lender (i / 10_000 % 3))) ∷ [] else []
+    then plain_input (event.Crash (lender (i / 10_000 % 3))) ∷ plain_input (event.Connect (lender (i / 10_000 % 3))) ∷
+    [] else []
 
 abbrev pub now_and_then : ℕ → ℕ → List Input
 now_and_then i word = rounds_at i word ++ (hosts_at i word ++ crashes_at i)
 
 -- the caller's turns, its call, and a copy that leaves for the disk
 unfoldable pub calling : Draw → World → List Input
-calling draw w = turns 4 draw.caller w ++ (call draw ∷ plain event.Start ∷ [])
+calling draw w = turns 4 draw.caller w ++ (call draw ∷ plain_input event.Start ∷ [])
 
 -- what is seen of the drawn call
 abbrev pub seen_of_call : Draw → World → Seen
@@ -140,7 +143,7 @@ steps i (draw ∷ later) w = step i draw w ++ steps (i + 1) later (after w (step
 
 -- the events of a drill of so many calls
 unfoldable pub drill_events : ℕ → ℕ → List Input
-drill_events number calls = connects ++ steps 0 (draws calls (seeded number)) (after drill_start connects)
+drill_events number calls = connects ++ steps 0 (draws calls (generator_of number)) (after drill_start connects)
 
 abbrev pub drill_world : ℕ → ℕ → World
 drill_world number calls = after drill_start (drill_events number calls)

@@ -3,8 +3,8 @@ use Rattle.std.specs.Prelude.{◌≡◌}
 use Rattle.swap_drill.specs.declared.summary.DrillSummary.{DrillSummary}
 use Rattle.swap_drill.specs.Summary.{summary_of}
 
-abbrev nothing : DrillSummary
-nothing =
+abbrev no_summary : DrillSummary
+no_summary =
     record {
       entries = 0;
       outs = 0;
@@ -23,6 +23,6 @@ nothing =
 -- no calls, and the first calls of a number: a page-in of a page that was never written, and then a page-out
 abbrev pub DrillRows : Type 0
 DrillRows =
-    (summary_of 7 0 ≡ nothing)
-    × (summary_of 7 1 ≡ record nothing { entries = 1; ins = 1; zero = 1 })
-    × (summary_of 7 2 ≡ record nothing { entries = 2; outs = 1; ins = 1; zero = 1 })
+    (summary_of 7 0 ≡ no_summary)
+    × (summary_of 7 1 ≡ record no_summary { entries = 1; ins = 1; zero = 1 })
+    × (summary_of 7 2 ≡ record no_summary { entries = 2; outs = 1; ins = 1; zero = 1 })

@@ -10,7 +10,7 @@ use Rattle.swap_wire.specs.declared.Seen.TheVariants as seen
 use Rattle.swap_record.specs.declared.Op.{Op}
 use Rattle.swap_record.specs.declared.Op.TheVariants as op
 use Rattle.swap_record.specs.History.{History, Row}
-use Rattle.swap_slabs.specs.Slabs.{mapped}
+use Rattle.swap_slabs.specs.Slabs.{mapped_count}
 use Rattle.swap_world.specs.World.{World, seens, history}
 use Rattle.swap_world.specs.Runs.{busy_callers}
 use Rattle.swap_trace.specs.declared.draws.Draw.{Draw}
@@ -76,10 +76,10 @@ counted_from t origin.Disk = record t { ins = t.ins + 1; disk = t.disk + 1 }
 counted_from t (origin.Lender l) = record t { ins = t.ins + 1; lender = t.lender + 1 }
 
 -- one more entry
-abbrev pub counted : Tally → Op → Tally
-counted t op.PageOut = record t { outs = t.outs + 1 }
-counted t (op.PageIn named from) = counted_from t from
-counted t (op.Failed kind since at) = record t { faults = t.faults + 1 }
+abbrev pub count_op : Tally → Op → Tally
+count_op t op.PageOut = record t { outs = t.outs + 1 }
+count_op t (op.PageIn named from) = counted_from t from
+count_op t (op.Failed kind since at) = record t { faults = t.faults + 1 }
 
 -- no count is at the end of its type
 pub record HasRoomToCount (t : Tally) : Type 0 where
@@ -130,7 +130,7 @@ summary_in w busy rounds =
       busy = busy;
       waiting = busy_callers w.device;
       rounds = rounds;
-      mapped = mapped w.device.remote.slabs;
+      mapped = mapped_count w.device.remote.slabs;
     }
 
 abbrev pub busy_of : ℕ → ℕ → ℕ

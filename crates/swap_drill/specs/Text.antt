@@ -1,7 +1,7 @@
 -- The lines of a drill's summary.
 use Rattle.std.specs.Prelude.{ℕ, List, [], ◌∷◌, flat_map, codes}
 use Rattle.std.specs.Fmt.{decimal}
-use Rattle.swap_script.specs.Lines.{spaced, ended}
+use Rattle.swap_script.specs.Lines.{with_spaces, with_line_end}
 use Rattle.swap_drill.specs.declared.summary.DrillSummary.{DrillSummary}
 use Rattle.swap_drill.specs.Summary.{summary_of}
 
@@ -28,7 +28,7 @@ abbrev pub end_words : DrillSummary → List (List ℕ)
 end_words s = codes "end" ∷ decimal s.entries ∷ []
 
 abbrev pub line_of : List (List ℕ) → List ℕ
-line_of words = ended (spaced words)
+line_of words = with_line_end (with_spaces words)
 
 -- six lines, each ended by a line feed
 abbrev pub summary_text : ℕ → ℕ → DrillSummary → List ℕ

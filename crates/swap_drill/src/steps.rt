@@ -3,7 +3,7 @@ ghost use Rattle.std.specs.Prelude.{◌≡◌, ◌+◌, ◌<◌, ◌≤◌, ◌�
 ghost use Rattle.swap_wire.specs.Input.{IsInRange};
 ghost use Rattle.swap_world.specs.World.{next};
 ghost use Rattle.swap_world.specs.Runs.{is_new_call};
-ghost use Rattle.swap_drill.specs.Drill.{after, call, calling, connects, crashes_at, drill_sizes, all_heard, following, heard, hosts_at, is_round_step, oldest_write_ends, plain, rounds_at, seen_of_call, step, turn, turns, waits};
+ghost use Rattle.swap_drill.specs.Drill.{after, call, calling, connects, crashes_at, drill_sizes, all_heard, following, give_and_take, hosts_at, is_round_step, oldest_write_ends, plain_input, rounds_at, seen_of_call, step, turn, turns, waits};
 ghost use Rattle.swap_drill.specs.Steps.{world_in, IsReady, Spends};
 
 use swap_base::{CallKind, Caller, DiskWhich, Lender};
@@ -39,7 +39,7 @@ fn make(world: &mut World<MemDisk, Harbor>, event: Event, page: &mut [u8])
     requires ready { IsReady 0 1 world.old }
     requires range { IsInRange drill_sizes 3 event }
     requires page { length page.old ≡ PAGE_BYTES }
-    ensures reach { world_in world.new ≡ after (world_in world.old) (plain event ∷ []) }
+    ensures reach { world_in world.new ≡ after (world_in world.old) (plain_input event ∷ []) }
     ensures spends { Spends 0 1 world.old world.new }
 {
     happen(world, event, page);
@@ -50,7 +50,7 @@ fn hear(world: &mut World<MemDisk, Harbor>, lender: Lender, page: &mut [u8])
     requires lender { lender.0 < 3 }
     requires ready { IsReady 0 2 world.old }
     requires page { length page.old ≡ PAGE_BYTES }
-    ensures reach { world_in world.new ≡ after (world_in world.old) (heard lender.0) }
+    ensures reach { world_in world.new ≡ after (world_in world.old) (give_and_take lender.0) }
     ensures spends { Spends 0 2 world.old world.new }
 {
     make(world, Event::Give { lender }, page);

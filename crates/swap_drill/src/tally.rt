@@ -1,6 +1,6 @@
 //! The entries of a history, counted by kind and by where a page came from.
 ghost use Rattle.std.specs.Prelude.{◌≡◌};
-ghost use Rattle.swap_drill.specs.Summary.{counted, counted_from, tally_of, HasRoomToCount};
+ghost use Rattle.swap_drill.specs.Summary.{count_op, counted_from, tally_of, HasRoomToCount};
 
 use swap_base::{EntryNo, Origin};
 use swap_record::{Op, Record};
@@ -60,7 +60,7 @@ fn counted_from(tally: Tally, origin: Origin) -> Tally
 // One more entry.
 fn counted(tally: Tally, op: Op) -> Tally
     requires { HasRoomToCount tally }
-    ensures { result ≡ counted tally op }
+    ensures { result ≡ count_op tally op }
 {
     match op {
         Op::PageOut => Tally {

@@ -54,11 +54,11 @@ impl<T: Drop> Model for End<T> {
     ghost use Rattle.std.specs.Prelude.{List};
     ghost use Rattle.std.specs.Arc.{arc_value};
     ghost use Rattle.crossbeam_queue.specs.Passes.{IsPassOf};
-    ghost use Rattle.swap_ends.specs.Ends.{moved};
+    ghost use Rattle.swap_ends.specs.Ends.{items_moved};
 
     ghost Value = { List T };
 
-    ghost view = { λ e. moved e.pass };
+    ghost view = { λ e. items_moved e.pass };
 
     ghost invariant = { λ e. IsPassOf (arc_value e.ring) e.pass };
 }

@@ -6,7 +6,7 @@ use Rattle.std.proofs.lemmas.Nat.{and_le_l}
 use Rattle.std.proofs.lemmas.Bool.{ne_eqb, eq-eqb}
 use Rattle.swap_choice.specs.Slots.{has, size}
 use Rattle.swap_choice.specs.Least.{IsLeast, least_of}
-use Rattle.swap_evict.specs.Rounds.{Round, standing, IsOpen, IsEvicted, waiting, ready}
+use Rattle.swap_evict.specs.Rounds.{Round, standing_slots, IsOpen, IsEvicted, waiting_slots, slots_to_evict}
 
 both_bits : (x y : ℕ) → x < 2 → y < 2 → eqb (min x y) 1 ≡ (eqb x 1 && eqb y 1)
 both_bits zero y p q = ap (λ b. eqb b 1) (let e : min 0 y ≡ 0 = omega arith in e)
@@ -54,19 +54,19 @@ open_from r a p q some =
 
 pub evicted_from :
     (r : Round) (evicted count : ℕ) → r.answered < 2 ^ 64 → r.gone < 2 ^ 64 → bit_and (bit_and r.asked (bit_not w64 r.answered)) (bit_not w64 r.gone) ≡ 0
-    → count ≡ min r.count (size (standing r)) → IsLeast r.values (standing r) count evicted → IsEvicted r evicted
+    → count ≡ min r.count (size (standing_slots r)) → IsLeast r.values (standing_slots r) count evicted → IsEvicted r evicted
 evicted_from r evicted count p q none is least = record {
   closed = λ slot within. sym (has-waiting r.asked r.answered r.gone slot p q within) ∙ no_slot _ slot none;
-  least = subst (λ n. IsLeast r.values (standing r) n evicted) is least;
+  least = subst (λ n. IsLeast r.values (standing_slots r) n evicted) is least;
 }
 
-pub none_ready : (r : Round) → (waiting r ≡ 0 → ⊥) → None ≡ ready r
+pub none_ready : (r : Round) → (waiting_slots r ≡ 0 → ⊥) → None ≡ slots_to_evict r
 none_ready r some =
-    sym (ap (λ b. cond b (Some (least_of r.values (standing r) (min r.count (size (standing r))))) None) (ne_eqb (waiting r) 0 some))
+    sym (ap (λ b. cond b (Some (least_of r.values (standing_slots r) (min r.count (size (standing_slots r))))) None) (ne_eqb (waiting_slots r) 0 some))
 
 pub some_ready :
-    (r : Round) (evicted count : ℕ) → waiting r ≡ 0 → count ≡ min r.count (size (standing r)) → evicted ≡ least_of r.values (standing r) count
-    → Some evicted ≡ ready r
+    (r : Round) (evicted count : ℕ) → waiting_slots r ≡ 0 → count ≡ min r.count (size (standing_slots r)) → evicted ≡ least_of r.values (standing_slots r) count
+    → Some evicted ≡ slots_to_evict r
 some_ready r evicted count none is least =
-    ap Some (least ∙ ap (λ n. least_of r.values (standing r) n) is)
-    ∙ sym (ap (λ b. cond b (Some (least_of r.values (standing r) (min r.count (size (standing r))))) None) (eq-eqb (waiting r) 0 none))
+    ap Some (least ∙ ap (λ n. least_of r.values (standing_slots r) n) is)
+    ∙ sym (ap (λ b. cond b (Some (least_of r.values (standing_slots r) (min r.count (size (standing_slots r))))) None) (eq-eqb (waiting_slots r) 0 none))

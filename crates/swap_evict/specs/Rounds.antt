@@ -12,8 +12,8 @@ pub record Round : Type 0 where
   pub gone : ℕ
   pub values : List ℕ
 
-abbrev pub opened : ℕ → ℕ → Round
-opened asked count = record { asked = asked; count = count; answered = 0; gone = 0; values = replicate 64 0 }
+abbrev pub round_at_start : ℕ → ℕ → Round
+round_at_start asked count = record { asked = asked; count = count; answered = 0; gone = 0; values = replicate 64 0 }
 
 abbrev pub answer : ℕ → ℕ → Round → Round
 answer slot value r = record r { answered = bit_or r.answered (2 ^ slot); values = slice_set r.values slot value }
@@ -26,16 +26,17 @@ abbrev pub waits_for : Round → ℕ → Bool
 waits_for r slot = has r.asked slot && not (has r.answered slot) && not (has r.gone slot)
 
 -- the asked slots that answered and aren't gone
-abbrev pub standing : Round → ℕ
-standing r = bit_and (bit_and r.asked r.answered) (bit_not w64 r.gone)
+abbrev pub standing_slots : Round → ℕ
+standing_slots r = bit_and (bit_and r.asked r.answered) (bit_not w64 r.gone)
 
 -- the slots whose answers are waited for
-abbrev pub waiting : Round → ℕ
-waiting r = bit_and (bit_and r.asked (bit_not w64 r.answered)) (bit_not w64 r.gone)
+abbrev pub waiting_slots : Round → ℕ
+waiting_slots r = bit_and (bit_and r.asked (bit_not w64 r.answered)) (bit_not w64 r.gone)
 
 -- the slots to evict, or none while an answer is waited for
-abbrev pub ready : Round → Option ℕ
-ready r = if waiting r == 0 then Some (least_of r.values (standing r) (min r.count (size (standing r)))) else None
+abbrev pub slots_to_evict : Round → Option ℕ
+slots_to_evict r = if waiting_slots r == 0 then Some (least_of r.values (standing_slots r)
+    (min r.count (size (standing_slots r)))) else None
 
 -- the answer of some slot is waited for
 abbrev pub IsOpen : Round → Type 0
@@ -44,4 +45,4 @@ IsOpen r = (slot : ℕ) × (slot < 64) × IsTrue (waits_for r slot)
 -- no answer is waited for, and these are the least by (value, slot) of the slots that stand, as many as are wanted
 pub record IsEvicted (r : Round) (evicted : ℕ) : Type 0 where
   pub closed : (slot : ℕ) → slot < 64 → waits_for r slot ≡ false
-  pub least : IsLeast r.values (standing r) (min r.count (size (standing r))) evicted
+  pub least : IsLeast r.values (standing_slots r) (min r.count (size (standing_slots r))) evicted

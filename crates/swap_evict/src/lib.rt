@@ -3,7 +3,7 @@
 #![tactic(auto)]
 
 ghost use Rattle.std.specs.Prelude.{◌≡◌, ◌<◌, IsTrue, MatchOption};
-ghost use Rattle.swap_evict.specs.Rounds.{opened, answer, leave, waits_for, ready, IsOpen, IsEvicted};
+ghost use Rattle.swap_evict.specs.Rounds.{round_at_start, answer, leave, waits_for, slots_to_evict, IsOpen, IsEvicted};
 
 use std::marker::Model;
 use swap_choice::{has_slot, least, slot_count, with_slot};
@@ -39,7 +39,7 @@ impl Model for EvictRound {
 impl EvictRound {
     /// A round that asks these slots, to evict `count` of them.
     pub fn make(asked: u64, count: u32) -> EvictRound
-        ensures { result ≡ opened asked count }
+        ensures { result ≡ round_at_start asked count }
     {
         EvictRound {
             asked,
@@ -78,7 +78,7 @@ impl EvictRound {
     /// The slots to evict: the least active of those that answered and aren't gone. None exactly
     /// where an answer is waited for.
     pub fn ready(&self) -> Option<u64>
-        ensures value { result ≡ ready self.now }
+        ensures value { result ≡ slots_to_evict self.now }
         ensures evicted { MatchOption result (IsOpen self.now)
             (λ evicted. IsEvicted self.now evicted) }
     {

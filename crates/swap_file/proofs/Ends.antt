@@ -4,7 +4,7 @@ use Rattle.std.proofs.lemmas.Bool.{cases_Bool, cond-true, cond-false, ltb-false}
 use Rattle.std.specs.List.{position_or_len}
 use Rattle.std.proofs.lemmas.List.Quantifiers.{position-Some}
 use Rattle.swap_base.specs.declared.DiskWhich.{DiskWhich}
-use Rattle.swap_disk.specs.Disk.{is_flight_of, without}
+use Rattle.swap_disk.specs.Disk.{is_flight_of, without_flight}
 use Rattle.swap_file.specs.declared.flights.Flying.{Flying}
 use Rattle.swap_file.specs.Flights.{flight_of, is_flying, flights_of}
 
@@ -20,12 +20,12 @@ module _ (w : DiskWhich) where
 
   without_at :
       (rs : List Flying) (i : ℕ) (d : Flying) → i < length rs → is_flying w (get_or rs i d) ≡ true → ((k : ℕ) → k < i → is_flying w (get_or rs k d) ≡ false)
-      → flights_of (remove rs i) ≡ without w (flights_of rs)
+      → flights_of (remove rs i) ≡ without_flight w (flights_of rs)
   without_at [] i d lt here before = absurd (omega arith)
-  without_at (r ∷ rs) zero d lt here before = sym (cond-true (is_flying w r) (flights_of rs) (flight_of r ∷ without w (flights_of rs)) here)
+  without_at (r ∷ rs) zero d lt here before = sym (cond-true (is_flying w r) (flights_of rs) (flight_of r ∷ without_flight w (flights_of rs)) here)
   without_at (r ∷ rs) (suc i) d lt here before =
       ap (λ fs. flight_of r ∷ fs) (without_at rs i d (omega arith) here (λ k lt'. before (suc k) (omega arith)))
-      ∙ sym (cond-false (is_flying w r) (flights_of rs) (flight_of r ∷ without w (flights_of rs)) (before 0 (omega arith)))
+      ∙ sym (cond-false (is_flying w r) (flights_of rs) (flight_of r ∷ without_flight w (flights_of rs)) (before 0 (omega arith)))
 
   none_found : (rs : List Flying) → length rs ≤ position_or_len (is_flying w) rs → find (is_flight_of w) (flights_of rs) ≡ None
   none_found [] le = refl
@@ -52,7 +52,7 @@ module _ (w : DiskWhich) where
   -- the operation at the place where it is found, and what is left
   pub leaves :
       (rs : List Flying) (i : ℕ) (r : Flying) (rs' : List Flying) → position (is_flying w) rs ≡ Some i → r ≡ get_or rs i r → rs' ≡ remove rs i
-      → (find (is_flight_of w) (flights_of rs) ≡ Some (flight_of r)) × (flights_of rs' ≡ without w (flights_of rs))
+      → (find (is_flight_of w) (flights_of rs) ≡ Some (flight_of r)) × (flights_of rs' ≡ without_flight w (flights_of rs))
   leaves rs i r rs' found read gone =
       let at = position-Some (is_flying w) rs i r found in
       (find_at rs i r at.0 at.1 at.2 ∙ ap (λ x. Some (flight_of x)) (sym read), ap flights_of gone ∙ without_at rs i r at.0 at.1 at.2)

@@ -6,9 +6,9 @@ use Rattle.std.proofs.lemmas.List.Sums.{sum_by-cons, sum_by-append}
 use Rattle.swap_base.specs.declared.Caller.{Caller}
 use Rattle.swap_base.specs.declared.DiskWhich.{DiskWhich}
 use Rattle.swap_base.specs.declared.DiskWhich.TheVariants as which
-use Rattle.swap_disk.specs.Disk.{Flight, Write, Read, is_flight_of, without}
+use Rattle.swap_disk.specs.Disk.{Flight, Write, Read, is_flight_of, without_flight}
 use Rattle.swap_disk.specs.Port.{writes_in, is_write}
-use Rattle.swap_file.specs.Flights.{Roster, MayStart, started, IsKnown, Holds}
+use Rattle.swap_file.specs.Flights.{FlightsView, MayStart, start_after, IsKnown, Holds}
 
 abbrev one : Bool → ℕ
 one b = cond b 1 0
@@ -83,7 +83,7 @@ all_below n (f ∷ fs) known =
       all_below n fs known.1,
     )
 
-pub bounded : (r : Roster) → Holds r → length r.flights ≤ r.queue + r.callers
+pub bounded : (r : FlightsView) → Holds r → length r.flights ≤ r.queue + r.callers
 bounded r h = omega (arith, all_kinds r.flights, all_below r.callers r.flights h.known, few_below r.flights h.single r.callers, h.writes)
 
 -- ---- an operation starts
@@ -147,15 +147,15 @@ known_of : (fs : List Flight) (f : Flight) (queue callers : ℕ) → MayStart (r
 known_of fs (Write page bytes) queue callers may = tt
 known_of fs (Read c page) queue callers may = may.1
 
-pub holds_started : (r : Roster) (f : Flight) → MayStart r f → Holds r → Holds (started r f)
+pub holds_started : (r : FlightsView) (f : Flight) → MayStart r f → Holds r → Holds (start_after r f)
 holds_started r f may h = record {
   writes = writes_last r.flights f r.queue r.callers may h.writes;
   single = single_last r.flights f r.queue r.callers may h.single;
   known = known_last r.callers r.flights f h.known (known_of r.flights f r.queue r.callers may);
 }
 
-pub has_room : (r : Roster) (f : Flight) → MayStart r f → Holds r → length r.flights < r.queue + r.callers
-has_room r f may h = omega (arith, bounded (started r f) (holds_started r f may h), longer r.flights f)
+pub has_room : (r : FlightsView) (f : Flight) → MayStart r f → Holds r → length r.flights < r.queue + r.callers
+has_room r f may h = omega (arith, bounded (start_after r f) (holds_started r f may h), longer r.flights f)
   where
     longer : (fs : List Flight) (f : Flight) → length (fs ++ f ∷ []) ≡ length fs + 1
     longer [] f = refl
@@ -163,19 +163,19 @@ has_room r f may h = omega (arith, bounded (started r f) (holds_started r f may 
 
 -- ---- an operation leaves
 
-fewer : (p : Flight → Bool) (w : DiskWhich) (fs : List Flight) → count_by p (without w fs) ≤ count_by p fs
+fewer : (p : Flight → Bool) (w : DiskWhich) (fs : List Flight) → count_by p (without_flight w fs) ≤ count_by p fs
 fewer p w [] = omega arith
 fewer p w (f ∷ fs) =
     ⊎_elim
     (λ (t : is_flight_of w f ≡ true).
-    omega (arith, sum_by-cons (λ (f : Flight). one (p f)) f fs, ap (count_by p) (cond-true (is_flight_of w f) fs (f ∷ without w fs) t)))
+    omega (arith, sum_by-cons (λ (f : Flight). one (p f)) f fs, ap (count_by p) (cond-true (is_flight_of w f) fs (f ∷ without_flight w fs) t)))
     (λ (t : is_flight_of w f ≡ false).
     omega (
       arith,
       sum_by-cons (λ (f : Flight). one (p f)) f fs,
-      sum_by-cons (λ (f : Flight). one (p f)) f (without w fs),
+      sum_by-cons (λ (f : Flight). one (p f)) f (without_flight w fs),
       fewer p w fs,
-      ap (count_by p) (cond-false (is_flight_of w f) fs (f ∷ without w fs) t),
+      ap (count_by p) (cond-false (is_flight_of w f) fs (f ∷ without_flight w fs) t),
     ))
     (cases_Bool (is_flight_of w f))
 
@@ -185,11 +185,11 @@ known_by :
 known_by n f fs ws true all left = all.1
 known_by n f fs ws false all left = (all.0, left)
 
-known_without : (n : ℕ) (w : DiskWhich) (fs : List Flight) → AllByRecursion (IsKnown n) fs → AllByRecursion (IsKnown n) (without w fs)
+known_without : (n : ℕ) (w : DiskWhich) (fs : List Flight) → AllByRecursion (IsKnown n) fs → AllByRecursion (IsKnown n) (without_flight w fs)
 known_without n w [] all = tt
-known_without n w (f ∷ fs) all = known_by n f fs (without w fs) (is_flight_of w f) all (known_without n w fs all.1)
+known_without n w (f ∷ fs) all = known_by n f fs (without_flight w fs) (is_flight_of w f) all (known_without n w fs all.1)
 
-pub holds_without : (r : Roster) (w : DiskWhich) → Holds r → Holds (record r { flights = without w r.flights })
+pub holds_without : (r : FlightsView) (w : DiskWhich) → Holds r → Holds (record r { flights = without_flight w r.flights })
 holds_without r w h = record {
   writes = omega (arith, fewer is_write w r.flights, h.writes);
   single = λ caller. omega (arith, fewer (is_flight_of (which.Read caller)) w r.flights, h.single caller);

@@ -1,6 +1,6 @@
 ghost use Rattle.std.specs.Prelude.{◌≡◌, [], position, IfOk, IfSome};
 ghost use Rattle.swap_disk.specs.Disk.{which_of, page_of, same_which};
-ghost use Rattle.swap_file.specs.Flights.{flight_of, is_flying, Leaves, MayStart, started};
+ghost use Rattle.swap_file.specs.Flights.{flight_of, is_flying, Leaves, MayStart, start_after};
 
 use std::alloc::Global;
 use std::marker::Model;
@@ -64,9 +64,9 @@ pub(crate) struct Flights {
 
 impl Model for Flights {
     ghost use Rattle.std.specs.Prelude.{◌+◌, ◌≤◌, vec_capacity};
-    ghost use Rattle.swap_file.specs.Flights.{Roster, Holds, flights_of};
+    ghost use Rattle.swap_file.specs.Flights.{FlightsView, Holds, flights_of};
 
-    ghost Value = { Roster };
+    ghost Value = { FlightsView };
 
     ghost view = { λ f.
         record { flights = flights_of f.list.items; queue = f.queue; callers = f.callers } };
@@ -94,7 +94,7 @@ impl Flights {
 
     pub(crate) fn start(&mut self, flying: Flying)
         requires { MayStart self.old (flight_of flying) }
-        ensures { self.new ≡ started self.old (flight_of flying) }
+        ensures { self.new ≡ start_after self.old (flight_of flying) }
     {
         self.list.push_reserved(flying);
     }

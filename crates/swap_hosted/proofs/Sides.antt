@@ -17,13 +17,13 @@ use Rattle.swap_run.specs.Clause.{Stream, Failed}
 use Rattle.swap_run.specs.declared.Ending.{Ending}
 use Rattle.swap_run.proofs.ReadText.{read_whole_is, read_length}
 use Rattle.swap_over.specs.Ends.{OverEnds}
-use Rattle.swap_disk.specs.Drive.{Drive, new_drive}
-use Rattle.swap_hosted.specs.Hosted.{Deals, Unasked, OverHarbor, OverNet, OverMemory, OverFile, LinksEnd, WasRefused, DiskEnds, TextEnds, HostedEnds, ReadTraceOver, HostedCompletes, Played, reached, memory_disk, memory_links, firsts}
+use Rattle.swap_disk.specs.MemDiskView.{MemDiskView, new_drive}
+use Rattle.swap_hosted.specs.Hosted.{Deals, Unasked, OverHarbor, OverNet, OverMemory, OverFile, LinksEnd, WasRefused, DiskEnds, TextEnds, HostedEnds, ReadTraceOver, HostedCompletes, Played, address_count, memory_disk, memory_links, first_of_pair}
 
 module _ {D : Type 0} (disk : DiskMeaning D) where
   pub over_memory_links :
       (t : Script) (number : ℕ) (given : D) (h : Harbor) (out : Stream) (end : Ending) (ports : Option (D × Harbor)) (back : Option D)
-      → h ≡ new_harbor t.sizes t.lenders → OverEnds disk memory_links t number given h out end ports → back ≡ firsts ports
+      → h ≡ new_harbor t.sizes t.lenders → OverEnds disk memory_links t number given h out end ports → back ≡ first_of_pair ports
       → OverHarbor disk t number given out end back
   over_memory_links t number given h out end ports back is ends firsts_are =
       let P : Harbor → Type 0 = λ x. OverEnds disk memory_links t number given x out end ports in
@@ -89,10 +89,10 @@ module _ {F : Type 0} (net : FabricMeaning F) (t : Script) (number : ℕ) (out :
       subst P same (rose_wider disk given addresses nets rose wider end back more over)
 
   pub over_drive :
-      (nets : Deals (List Address) F) (rose : Type 0) (given : Drive) (tcp : Option (List Address)) (end : Ending) (back : Option Drive)
+      (nets : Deals (List Address) F) (rose : Type 0) (given : MemDiskView) (tcp : Option (List Address)) (end : Ending) (back : Option MemDiskView)
       → given ≡ new_drive t.sizes → LinksEnd net t number out nets rose memory_disk given tcp end back → OverMemory net t number out tcp nets rose end
   over_drive nets rose given tcp end back is links =
-      let P : Drive → Type 0 = λ k. LinksEnd net t number out nets rose memory_disk k tcp end back in
+      let P : MemDiskView → Type 0 = λ k. LinksEnd net t number out nets rose memory_disk k tcp end back in
       OverMemory.played back (subst P is links)
 
   pub file_back :
@@ -209,14 +209,14 @@ module _ {D F : Type 0} (disk : DiskMeaning D) (net : FabricMeaning F) (o : Play
   -- a text that was read whole, and how its playing ended
   pub hosted_ends :
       (source : Stream) (text : List ℕ) (end : Ending) → WasReadWhole source.before source.now text → length text ≤ TEXT_LIMIT
-      → TextEnds disk net o out disks nets rose (trace (reached o) text) end → HostedEnds disk net o out disks nets rose source end
-  hosted_ends source text end read within h = go (trace (reached o) text) end refl h
+      → TextEnds disk net o out disks nets rose (trace (address_count o) text) end → HostedEnds disk net o out disks nets rose source end
+  hosted_ends source text end read within h = go (trace (address_count o) text) end refl h
     where
-      reads : (t : Script) → trace (reached o) text ≡ Ok t → ReadTraceOver (reached o) source t
+      reads : (t : Script) → trace (address_count o) text ≡ Ok t → ReadTraceOver (address_count o) source t
       reads t e = record { text = text; was_read = read; within = within; is_trace = e }
 
       go :
-          (r : Result Script ScriptRefused) (end : Ending) → trace (reached o) text ≡ r → TextEnds disk net o out disks nets rose r end
+          (r : Result Script ScriptRefused) (end : Ending) → trace (address_count o) text ≡ r → TextEnds disk net o out disks nets rose r end
           → HostedEnds disk net o out disks nets rose source end
       go (Ok t) ending.Done e h = record { trace_is = t; read = reads t e; ends = h }
       go (Ok t) ending.Faulted e h = record { trace_is = t; read = reads t e; ends = h }
@@ -254,8 +254,9 @@ completes {D} {F} disk net o source out disks nets before after end text t h tol
     go ending.ReadFailed h = absurd (no_fault h.0.failed)
     go ending.WriteFailed h = absurd (no_write (disk_so disk net o out disks nets (Rose before after) h.trace_is o.disk ending.WriteFailed h.ends))
     go (ending.Refused refused) h =
-        let P : List ℕ → Type 0 = λ x. trace (reached o) x ≡ Err refused in
-        absurd (not_both (reached o) text t refused is (subst P (sym (read_whole_is source.before source.now text h.0.text told h.0.was_read)) h.0.is_refused))
+        let P : List ℕ → Type 0 = λ x. trace (address_count o) x ≡ Err refused in
+        absurd (not_both (address_count o) text t refused is (subst P (sym (read_whole_is source.before source.now text h.0.text told h.0.was_read))
+        h.0.is_refused))
     go ending.NoMemory h = inr (inr refl)
     go ending.NotLegal h = absurd h
     go ending.HostFailed h = absurd (no_rise (disk_so disk net o out disks nets (Rose before after) h.trace_is o.disk ending.HostFailed h.ends))

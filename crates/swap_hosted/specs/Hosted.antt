@@ -2,8 +2,8 @@
 use Rattle.std.specs.Prelude.{◌≡◌, ◌≤◌, ◌⊎◌, ℕ, List, length, Option, None, Some, Result, Ok, Err}
 use Rattle.std.specs.Option.{option_map}
 use Rattle.swap_io.specs.Causes.{WasReadWhole, Rose}
-use Rattle.swap_disk.specs.Drive as drive
-use Rattle.swap_disk.specs.Drive.{Drive, new_drive, port_of}
+use Rattle.swap_disk.specs.MemDiskView as drive
+use Rattle.swap_disk.specs.MemDiskView.{MemDiskView, new_drive, port_of}
 use Rattle.swap_disk.specs.declared.port.DiskPort.{Ghosts as DiskMeaning}
 use Rattle.swap_wire.specs.declared.fabric.Fabric.{Ghosts as FabricMeaning}
 use Rattle.swap_link.specs.Harbor as harbor
@@ -23,7 +23,7 @@ use Rattle.swap_options.specs.Play.{Play}
 use Rattle.swap_over.specs.Ends.{OverEnds}
 
 -- the disk and the lenders in memory, as ports
-abbrev pub memory_disk : DiskMeaning Drive
+abbrev pub memory_disk : DiskMeaning MemDiskView
 memory_disk = record { means = port_of; moves = drive.Moves }
 
 abbrev pub memory_links : FabricMeaning Harbor
@@ -69,17 +69,18 @@ abbrev pub WasRefused : {N P : Type 0} → N → Deals N P → Type 0 → Ending
 WasRefused name d rose end = (d.now ≡ gave_none name d.before)
     × ((end ≡ ending.NoMemory) ⊎ ((end ≡ ending.HostFailed) × rose))
 
-abbrev pub firsts : {D F : Type 0} → Option (D × F) → Option D
-firsts back = option_map (λ b. b.0) back
+abbrev pub first_of_pair : {D F : Type 0} → Option (D × F) → Option D
+first_of_pair back = option_map (λ b. b.0) back
 
-abbrev pub seconds : {D F : Type 0} → Option (D × F) → Option F
-seconds back = option_map (λ b. b.1) back
+abbrev pub second_of_pair : {D F : Type 0} → Option (D × F) → Option F
+second_of_pair back = option_map (λ b. b.1) back
 
 -- a trace over this disk and lenders in memory; or there was no memory for them
 pub data OverHarbor {D : Type 0} (disk : DiskMeaning D) (t : Script) (number : ℕ) (given : D) (out : Stream)
     (end : Ending) (back : Option D) : Type 0 where
   played : (ports : Option (D × Harbor)) → OverEnds disk memory_links t number given
-      (new_harbor t.sizes t.lenders) out end ports → back ≡ firsts ports → OverHarbor disk t number given out end back
+      (new_harbor t.sizes t.lenders) out end ports → back ≡ first_of_pair ports
+      → OverHarbor disk t number given out end back
   unmade : end ≡ ending.NoMemory → back ≡ Some given → TookNothing out → OverHarbor disk t number given out end back
 
 -- a trace over this disk and lenders at these addresses, which the host gave; or it gave none
@@ -87,7 +88,7 @@ pub data OverNet {D F : Type 0} (disk : DiskMeaning D) (net : FabricMeaning F) (
     (out : Stream) (addresses : List Address) (nets : Deals (List Address) F) (rose : Type 0) (end : Ending)
     (back : Option D) : Type 0 where
   played : (links : F) (ports : Option (D × F)) → OverEnds disk net t number given links out end ports
-      → back ≡ firsts ports → CameBack addresses links (seconds ports) nets
+      → back ≡ first_of_pair ports → CameBack addresses links (second_of_pair ports) nets
       → OverNet disk net t number given out addresses nets rose end back
   withheld : WasRefused addresses nets rose end → back ≡ Some given → TookNothing out
       → OverNet disk net t number given out addresses nets rose end back
@@ -104,7 +105,8 @@ module _ {F : Type 0} (net : FabricMeaning F) (t : Script) (number : ℕ) (out :
 -- over a disk in memory; or there was no memory for it
 pub data OverMemory {F : Type 0} (net : FabricMeaning F) (t : Script) (number : ℕ) (out : Stream)
     (tcp : Option (List Address)) (nets : Deals (List Address) F) (rose : Type 0) (end : Ending) : Type 0 where
-  played : (back : Option Drive) → LinksEnd net t number out nets rose memory_disk (new_drive t.sizes) tcp end back
+  played : (back : Option MemDiskView) → LinksEnd net t number out nets rose memory_disk (new_drive t.sizes) tcp end
+      back
       → OverMemory net t number out tcp nets rose end
   unmade : end ≡ ending.NoMemory → TookNothing out → Unasked nets → OverMemory net t number out tcp nets rose end
 
@@ -132,8 +134,8 @@ pub record ReadNoTraceOver (tcp : Option ℕ) (source : Stream) (refused : Scrip
   pub is_refused : trace tcp text ≡ Err refused
 
 -- how many addresses are given
-abbrev pub reached : Play → Option ℕ
-reached o = option_map (λ addresses. length addresses) o.tcp
+abbrev pub address_count : Play → Option ℕ
+address_count o = option_map (λ addresses. length addresses) o.tcp
 
 -- what a trace's options leave of it: a disk at a path where one is given, else in memory
 module _ {D F : Type 0} (disk : DiskMeaning D) (net : FabricMeaning F) (o : Play) (out : Stream)
@@ -149,7 +151,7 @@ module _ {D F : Type 0} (disk : DiskMeaning D) (net : FabricMeaning F) (o : Play
   -- a text that was read as a trace and played, by how that ended
   pub record Played (source : Stream) (end : Ending) : Type 0 where
     pub trace_is : Script
-    pub read : ReadTraceOver (reached o) source trace_is
+    pub read : ReadTraceOver (address_count o) source trace_is
     pub ends : DiskEnds trace_is o.disk end
 
   -- what holds where a call ends so; memory may have been wanted before there was a trace
@@ -159,7 +161,7 @@ module _ {D F : Type 0} (disk : DiskMeaning D) (net : FabricMeaning F) (o : Play
   HostedEnds source ending.Usage = ⊥
   HostedEnds source ending.ReadFailed = ReadBrokeOff source × Untouched
   HostedEnds source ending.WriteFailed = Played source ending.WriteFailed
-  HostedEnds source (ending.Refused refused) = ReadNoTraceOver (reached o) source refused × Untouched
+  HostedEnds source (ending.Refused refused) = ReadNoTraceOver (address_count o) source refused × Untouched
   HostedEnds source ending.NoMemory = Untouched ⊎ Played source ending.NoMemory
   HostedEnds source ending.NotLegal = ⊥
   HostedEnds source ending.HostFailed = Played source ending.HostFailed
@@ -179,6 +181,6 @@ HostedCompletes {D} {F} disk net =
     (o : Play) (source out : Stream) (disks : Deals (List ℕ) D) (nets : Deals (List Address) F) (before after : ℕ)
     (end : Ending) (text : List ℕ) (t : Script)
     → HostedEnds disk net o out disks nets (Rose before after) source end → source.before ≡ Some text
-    → length text ≤ TEXT_LIMIT → trace (reached o) text ≡ Ok t
+    → length text ≤ TEXT_LIMIT → trace (address_count o) text ≡ Ok t
     → ¬ Failed source → ¬ Failed out → ¬ (Rose before after) → (end ≡ ending.Done)
     ⊎ ((end ≡ ending.Faulted) ⊎ (end ≡ ending.NoMemory))

@@ -2,10 +2,10 @@
 ghost use Rattle.std.specs.Prelude.{◌≡◌, ◌≤◌, IfSome, length};
 ghost use Rattle.std.specs.Option.{option_map};
 ghost use Rattle.swap_trace.specs.Traces.{trace as trace_of};
-ghost use Rattle.swap_options.specs.Play.{asked};
+ghost use Rattle.swap_options.specs.Play.{play_asked};
 ghost use Rattle.swap_play.specs.Playing.{IsTrace};
 ghost use Rattle.swap_show.specs.Clause.{read_of, written_to};
-ghost use Rattle.swap_hosted.specs.Hosted.{DiskEnds, HostRose, HostedEnds, TextEnds, disks_of, nets_of, reached};
+ghost use Rattle.swap_hosted.specs.Hosted.{DiskEnds, HostRose, HostedEnds, TextEnds, disks_of, nets_of, address_count};
 
 use crate::ports::{over_file, over_memory};
 use std::alloc::Global;
@@ -21,7 +21,7 @@ use swap_trace::{Trace, read_trace};
 
 // The addresses that options give.
 fn addresses_of<'o>(options: &'o PlayOptions<'_>) -> Option<&'o [Address]>
-    ensures { option_map (λ list. list.now) result ≡ (asked options.now).tcp }
+    ensures { option_map (λ list. list.now) result ≡ (play_asked options.now).tcp }
 {
     match &options.tcp {
         Some(list) => Some(list.as_slice()),
@@ -47,10 +47,10 @@ where
     G: Gate,
     R: Threads + Wait + Sync,
     requires trace { IsTrace trace.now }
-    ensures ends { DiskEnds H.Disk.DiskPort H.Net.Fabric (asked options.now)
+    ensures ends { DiskEnds H.Disk.DiskPort H.Net.Fabric (play_asked options.now)
         (written_to K.Sink out.old out.new) (disks_of H.Host host.old host.new)
         (nets_of H.Host host.old host.new) (HostRose H.Host host.old host.new) trace.now
-        (asked options.now).disk result }
+        (play_asked options.now).disk result }
     ensures later { K.faults out.old ≤ K.faults out.new }
     ensures host { H.faults host.old ≤ H.faults host.new }
     ensures doors { H.doors host.new ≡ H.doors host.old }
@@ -81,10 +81,10 @@ where
     R: Threads + Wait + Sync,
     requires text { length text.now ≤ TEXT_LIMIT }
     requires lenders { IfSome options.now.tcp (λ list. length list.items ≤ 8) }
-    ensures ends { TextEnds H.Disk.DiskPort H.Net.Fabric (asked options.now)
+    ensures ends { TextEnds H.Disk.DiskPort H.Net.Fabric (play_asked options.now)
         (written_to K.Sink out.old out.new) (disks_of H.Host host.old host.new)
         (nets_of H.Host host.old host.new) (HostRose H.Host host.old host.new)
-        (trace_of (reached (asked options.now)) text.now) result }
+        (trace_of (address_count (play_asked options.now)) text.now) result }
     ensures later { K.faults out.old ≤ K.faults out.new }
     ensures host { H.faults host.old ≤ H.faults host.new }
     ensures doors { H.doors host.new ≡ H.doors host.old }
@@ -125,7 +125,7 @@ where
     G: Gate,
     R: Threads + Wait + Sync,
     requires lenders { IfSome options.now.tcp (λ list. length list.items ≤ 8) }
-    ensures ends { HostedEnds H.Disk.DiskPort H.Net.Fabric (asked options.now)
+    ensures ends { HostedEnds H.Disk.DiskPort H.Net.Fabric (play_asked options.now)
         (written_to K.Sink out.old out.new) (disks_of H.Host host.old host.new)
         (nets_of H.Host host.old host.new) (HostRose H.Host host.old host.new)
         (read_of S.Source source.old source.new) result }

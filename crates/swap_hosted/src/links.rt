@@ -3,7 +3,7 @@ ghost use Rattle.std.specs.Prelude.{◌≡◌, ◌≤◌, length};
 ghost use Rattle.swap_table.specs.Fits.{IsBlank};
 ghost use Rattle.swap_play.specs.Playing.{IsTrace};
 ghost use Rattle.swap_show.specs.Clause.{written_to};
-ghost use Rattle.swap_hosted.specs.Hosted.{HostRose, OverHarbor, OverNet, firsts, nets_of};
+ghost use Rattle.swap_hosted.specs.Hosted.{HostRose, OverHarbor, OverNet, first_of_pair, nets_of};
 
 use std::alloc::Global;
 use std::sync::Wait;
@@ -19,7 +19,7 @@ use swap_trace::Trace;
 
 // The first of two that come back.
 fn first_of<D: Drop, F: Drop>(back: Option<(D, F)>) -> Option<D>
-    ensures { result ≡ firsts back }
+    ensures { result ≡ first_of_pair back }
 {
     match back {
         Some((first, _)) => Some(first),

@@ -6,7 +6,7 @@ use Rattle.swap_wire.specs.declared.Seen.{Seen}
 use Rattle.swap_wire.specs.Fabric.{FabricCall, FabricAnswer, FabricOf}
 use Rattle.swap_disk.specs.Port.{Port, DiskCall, DiskAnswer}
 use Rattle.swap_slabs.specs.declared.TheConstants.{MOST_LENDERS}
-use Rattle.swap_table.specs.Device.{Device, new}
+use Rattle.swap_table.specs.Device.{Device, device_at_start}
 use Rattle.swap_table.specs.Fits.{IsBlank}
 use Rattle.swap_world.specs.Laws.{Holds}
 use Rattle.swap_world.specs.Runs.{IsRun}
@@ -20,7 +20,7 @@ abbrev pub HoldsOver : {D F : Type 0} → (D → Port) → (D → (c : DiskCall)
 HoldsOver {D} {F} means disk_moves of moves answers =
     (s : Sizes) (n : ℕ) (first : D) (first_fabric : F) (made : List (Input × Seen)) (d : Device) (k : D) (f : F)
     → IsBlank s (means first) → of first_fabric ≡ record { sizes = s; lenders = n } → n ≤ MOST_LENDERS
-    → IsRun disk_moves moves (new s n) first first_fabric made d k f
+    → IsRun disk_moves moves (device_at_start s n) first first_fabric made d k f
     → Holds (is_some (means first).blocks) answers s made d
 
 -- a fabric that promises nothing of pages takes any for an answer

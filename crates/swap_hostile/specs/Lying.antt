@@ -27,10 +27,10 @@ abbrev pub lie : Lying → Parcel
 lie f = parcel_of f.says (replicate f.harbor.sizes.page_bytes 255)
 
 -- what is told of what came
-abbrev pub told : Lying → Handed → Handed
-told f (Brought p) = if f.came == f.at then Brought (lie f) else Brought p
-told f NothingCame = NothingCame
-told f LinkLost = LinkLost
+abbrev pub lie_told : Lying → Handed → Handed
+lie_told f (Brought p) = if f.came == f.at then Brought (lie f) else Brought p
+lie_told f NothingCame = NothingCame
+lie_told f LinkLost = LinkLost
 
 -- how many have come then
 abbrev pub came_with : Lying → Handed → ℕ
@@ -39,9 +39,9 @@ came_with f NothingCame = f.came
 came_with f LinkLost = f.came
 
 -- what it answers where the lenders behind it answered so, and the count after it
-abbrev pub answered : Lying → (c : FabricCall) → FabricAnswer c → FabricAnswer c
-answered f (Take lender) answer = told f answer
-answered f c answer = answer
+abbrev pub lie_answer : Lying → (c : FabricCall) → FabricAnswer c → FabricAnswer c
+lie_answer f (Take lender) answer = lie_told f answer
+lie_answer f c answer = answer
 
 abbrev pub came_after : Lying → (c : FabricCall) → FabricAnswer c → ℕ
 came_after f (Take lender) answer = came_with f answer
@@ -50,7 +50,7 @@ came_after f c answer = f.came
 -- what it answers to a call, and the fabric after it: the call is made of the lenders behind it
 abbrev pub ask : Lying → (c : FabricCall) → FabricAnswer c × Lying
 ask f c = (
-  answered f c (harbor.ask f.harbor c).0,
+  lie_answer f c (harbor.ask f.harbor c).0,
   record f { harbor = (harbor.ask f.harbor c).1; came = came_after f c (harbor.ask f.harbor c).0 },
 )
 

@@ -5,13 +5,13 @@ use Rattle.swap_base.specs.Sizes.{Sizes}
 use Rattle.swap_base.specs.declared.DiskWhich.{DiskWhich}
 use Rattle.swap_disk.specs.Disk.{Flight, Write, Read, Taken, one_more}
 use Rattle.swap_disk.specs.Port.{Port, DiskCall, DiskAnswer, StartWrite, StartRead, TakeDone, LetFinish, oldest_in}
-use Rattle.swap_disk.specs.Drive as drive
-use Rattle.swap_disk.specs.Drive.{Drive, IsDrive, new_drive}
+use Rattle.swap_disk.specs.MemDiskView as drive
+use Rattle.swap_disk.specs.MemDiskView.{MemDiskView, IsDrive, new_drive}
 
 -- the disk in memory behind it, the operations that fail by their numbers from 0 in the order of their ends, and how
 -- many have ended
 pub record Silent : Type 0 where
-  pub drive : Drive
+  pub drive : MemDiskView
   pub failing : List ℕ
   pub ended : ℕ
 
@@ -21,12 +21,12 @@ unwritten (Write page bytes) = Write page []
 unwritten (Read caller page) = Read caller page
 
 -- a port, but for its contents
-abbrev pub hidden : Port → Port
-hidden p =
+abbrev pub hide_contents : Port → Port
+hide_contents p =
     record { sizes = p.sizes; flights = map unwritten p.flights; blocks = None; finished = None; faults = p.faults }
 
 abbrev pub port_of : Silent → Port
-port_of d = hidden (drive.port_of d.drive)
+port_of d = hide_contents (drive.port_of d.drive)
 
 -- as it is made
 abbrev pub new_silent : Sizes → List ℕ → Silent
@@ -37,7 +37,7 @@ abbrev pub is_well : Silent → Bool
 is_well d = not (is_listed d.failing d.ended)
 
 -- the disk behind it where this operation has ended
-abbrev pub ended_drive : Silent → DiskWhich → Drive
+abbrev pub ended_drive : Silent → DiskWhich → MemDiskView
 ended_drive d w = (drive.ask d.drive (LetFinish w (is_well d))).1
 
 -- what a take gives where this operation is the oldest, and the disk after it

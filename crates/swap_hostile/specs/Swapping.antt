@@ -5,18 +5,18 @@ use Rattle.swap_disk.specs.Port.{DiskCall, DiskAnswer, StartWrite, StartRead, Ta
 use Rattle.swap_hostile.specs.Silent.{Silent, Moves as SilentMoves}
 
 -- a byte turned over: no byte stays as it is
-abbrev pub turned : ℕ → ℕ
-turned byte = 255 - byte
+abbrev pub turn_byte : ℕ → ℕ
+turn_byte byte = 255 - byte
 
 -- what is taken in place of what was stored
-abbrev pub swapped : Option Taken → Option Taken
-swapped None = None
-swapped (Some taken) = Some (record { done = taken.done; bytes = map turned taken.bytes })
+abbrev pub swap_taken : Option Taken → Option Taken
+swap_taken None = None
+swap_taken (Some taken) = Some (record { done = taken.done; bytes = map turn_byte taken.bytes })
 
 -- from a disk, a call and its answer to the disk after it: it does what a silent disk does, and what a take gives is
 -- swapped
 abbrev pub Moves : Silent → (c : DiskCall) → DiskAnswer c → Silent → Type 0
-Moves d TakeDone answer e = (given : Option Taken) × SilentMoves d TakeDone given e × (answer ≡ swapped given)
+Moves d TakeDone answer e = (given : Option Taken) × SilentMoves d TakeDone given e × (answer ≡ swap_taken given)
 Moves d (StartWrite page bytes) answer e = SilentMoves d (StartWrite page bytes) answer e
 Moves d (StartRead caller page) answer e = SilentMoves d (StartRead caller page) answer e
 Moves d (LetFinish w ok) answer e = SilentMoves d (LetFinish w ok) answer e

@@ -18,7 +18,7 @@ pub struct SilentDisk {
 }
 
 impl Model for SilentDisk {
-    ghost use Rattle.swap_disk.specs.Drive.{IsDrive};
+    ghost use Rattle.swap_disk.specs.MemDiskView.{IsDrive};
     ghost use Rattle.swap_hostile.specs.Silent.{Silent};
 
     ghost Value = { Silent };

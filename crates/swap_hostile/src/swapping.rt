@@ -1,6 +1,6 @@
 ghost use Rattle.std.specs.Prelude.{◌≡◌, IfOk, [], map};
 ghost use Rattle.swap_hostile.specs.Silent.{new_silent};
-ghost use Rattle.swap_hostile.specs.Swapping.{turned};
+ghost use Rattle.swap_hostile.specs.Swapping.{turn_byte};
 
 use crate::SilentDisk;
 use std::alloc::Global;
@@ -25,7 +25,7 @@ impl Model for SwappingDisk {
 
 // Turns each byte over.
 fn turn_over(bytes: &mut [u8])
-    ensures { bytes.new ≡ map turned bytes.old }
+    ensures { bytes.new ≡ map turn_byte bytes.old }
 {
     for i in 0..bytes.len() {
         bytes[i] = 255 - bytes[i];

@@ -11,7 +11,7 @@ use Rattle.std.proofs.lemmas.Bool.Decides.{nat_tests}
 use Rattle.std.proofs.lemmas.Slice.Eq.{bytes_eq-Decides}
 use Rattle.std.proofs.lemmas.List.{length-take, length-take-le, take_all}
 use Rattle.swap_base.specs.Sizes.{page_lengths}
-use Rattle.swap_io.specs.Words.{value, number, hex, is_hex_digit, hex_value, pairs, piece_of, lengths, is_piece, repeated, filled, pattern, shortest_piece, shortest}
+use Rattle.swap_io.specs.Words.{value, number, hex, is_hex_digit, hex_value, pairs, piece_of, lengths, is_piece, repeat_piece, fill_page, pattern, shortest_piece, shortest}
 use Rattle.swap_io.specs.ReadBack.{AreBytes}
 use Rattle.swap_io.proofs.Numbers.{own, accepted, cond_true}
 use Rattle.swap_io.proofs.Pieces.{list_all-at}
@@ -82,11 +82,11 @@ positive_length n is = ltb-true 0 n (list_all-at (λ m. nat_lt 0 m) lengths n is
 record Fills (page piece : List ℕ) : Type 0 where
   listed : list_any (λ m. eqb (length piece) m) lengths ≡ true
   short : length piece ≤ length page
-  whole : repeated (length page) piece ≡ page
+  whole : repeat_piece (length page) piece ≡ page
   bytes : AreBytes piece
 
 abbrev find_from : List ℕ → List ℕ → Option (List ℕ)
-find_from page ns = find (λ piece. bytes_eq (repeated (length page) piece) page) (map (λ n. take n page) ns)
+find_from page ns = find (λ piece. bytes_eq (repeat_piece (length page) piece) page) (map (λ n. take n page) ns)
 
 taken_length :
     (page : List ℕ) (n : ℕ) → list_any (λ m. eqb (length page) m) lengths ≡ true → list_any (λ m. eqb n m) lengths ≡ true
@@ -98,7 +98,7 @@ taken_length page n whole listed =
     ]
 
 fills_case :
-    (page : List ℕ) (n : ℕ) (b : Bool) (later : Option (List ℕ)) → bytes_eq (repeated (length page) (take n page)) page ≡ b
+    (page : List ℕ) (n : ℕ) (b : Bool) (later : Option (List ℕ)) → bytes_eq (repeat_piece (length page) (take n page)) page ≡ b
     → list_any (λ m. eqb (length page) m) lengths ≡ true → list_any (λ m. eqb n m) lengths ≡ true → AreBytes page → Fills page (unwrap_or later page)
     → Fills page (unwrap_or (cond b (Some (take n page)) later) page)
 fills_case page n true later is whole listed are rest = record {
@@ -117,7 +117,7 @@ fills_from page [] whole all are = record {
   listed = whole;
   short = omega arith;
   whole =
-      ap (λ p. repeated (length page) p) (sym (take_all (length page) page (omega arith)))
+      ap (λ p. repeat_piece (length page) p) (sym (take_all (length page) page (omega arith)))
       ∙ (bytes_eq-Decides _ _).0 (sym (repeats_whole page (length page) (omega arith)));
   bytes = are;
 }
@@ -130,6 +130,6 @@ page_again page is_page are =
     let fills = fills_from page lengths (page_length (length page) is_page) refl are in
     let piece : List ℕ = shortest_piece page in
     let some : 0 < length piece = positive_length (length piece) fills.listed in
-    ap (λ o. filled (length page) o) (piece_again piece fills.bytes some)
-    ∙ cond_true (is_piece (length page) piece) (Some (repeated (length page) piece)) None (and_from _ _ fills.listed (le-leb _ _ fills.short))
+    ap (λ o. fill_page (length page) o) (piece_again piece fills.bytes some)
+    ∙ cond_true (is_piece (length page) piece) (Some (repeat_piece (length page) piece)) None (and_from _ _ fills.listed (le-leb _ _ fills.short))
     ∙ ap (λ p. Some p) fills.whole

@@ -7,7 +7,7 @@ use Rattle.std.proofs.lemmas.Bool.Decides.{same_from_decides}
 use Rattle.std.proofs.Math.Nat.{div_self}
 use Rattle.std.proofs.lemmas.List.{append_assoc, append-nil, length-drop, length-take-le, nil_from_length, take-append-drop, take-take, take_all, take_at, drop_at, drop-take}
 use Rattle.std.proofs.lemmas.Slice.Eq.{bytes_eq-Decides}
-use Rattle.swap_io.specs.Words.{times, repeated}
+use Rattle.swap_io.specs.Words.{times, repeat_piece}
 use Rattle.swap_io.proofs.Pieces.{length-times}
 
 drop-take-at : (n k j : ℕ) (xs : List ℕ) → k ≡ n + j → drop n (take k xs) ≡ take j (drop n xs)
@@ -46,28 +46,28 @@ not_true : (b : Bool) → (b ≡ true → ⊥) → false ≡ b
 not_true true h = absurd (h refl)
 not_true false h = refl
 
-repeated_whole : (size : ℕ) (page : List ℕ) → length page ≡ size → repeated size page ≡ page
+repeated_whole : (size : ℕ) (page : List ℕ) → length page ≡ size → repeat_piece size page ≡ page
 repeated_whole size [] len = times-nil (size / length {A = ℕ} [])
 repeated_whole size (b ∷ rest) len =
     let once : size / length (b ∷ rest) ≡ 1 = ap (λ n. n / length (b ∷ rest)) (sym len) ∙ div_self (omega arith) in
     ap (λ n. times n (b ∷ rest)) once ∙ append-nil (b ∷ rest)
 
 -- a page repeats itself
-pub repeats_whole : (page : List ℕ) (len : ℕ) → length page ≤ len → true ≡ bytes_eq (repeated (length page) (take len page)) page
+pub repeats_whole : (page : List ℕ) (len : ℕ) → length page ≤ len → true ≡ bytes_eq (repeat_piece (length page) (take len page)) page
 repeats_whole page len long =
-    sym ((bytes_eq-Decides _ _).1 (ap (λ r. repeated (length page) r) (take_all len page long) ∙ repeated_whole (length page) page refl))
+    sym ((bytes_eq-Decides _ _).1 (ap (λ r. repeat_piece (length page) r) (take_all len page long) ∙ repeated_whole (length page) page refl))
 
 repeats_same :
-    (page : List ℕ) (len : ℕ) → len < length page → bytes_eq (repeated (length page) (take len page)) page ≡ true → (length page / len * len ≡ length page)
+    (page : List ℕ) (len : ℕ) → len < length page → bytes_eq (repeat_piece (length page) (take len page)) page ≡ true → (length page / len * len ≡ length page)
 repeats_same page len short same =
     let whole : length page / length (take len page) * length (take len page) ≡ length page =
     sym (length-times (length page / length (take len page)) (take len page))
-    ∙ ap length ((bytes_eq-Decides (repeated (length page) (take len page)) page).0 same) in
+    ∙ ap length ((bytes_eq-Decides (repeat_piece (length page) (take len page)) page).0 same) in
     rw (length-take-le len page (omega arith)) at whole
 
 -- no piece fills a page whose length it doesn't divide
 pub repeats_not :
-    (page : List ℕ) (len : ℕ) → len < length page → (len ≡ 0) ⊎ (length page % len ≡ 0 → ⊥) → false ≡ bytes_eq (repeated (length page) (take len page)) page
+    (page : List ℕ) (len : ℕ) → len < length page → (len ≡ 0) ⊎ (length page % len ≡ 0 → ⊥) → false ≡ bytes_eq (repeat_piece (length page) (take len page)) page
 repeats_not page len short not =
     not_true _ (λ same. let whole = repeats_same page len short same in elim not [
       | inl none ↦ omega arith
@@ -88,12 +88,12 @@ positive_factor (suc n) m size e some = omega arith
 -- and one whose length divides it does where the page is the same as itself one piece on
 pub repeats_shift :
     (page : List ℕ) (len : ℕ) → 0 < len → len < length page → length page % len ≡ 0
-    → bytes_eq (drop len page) (take (length page - len) page) ≡ bytes_eq (repeated (length page) (take len page)) page
+    → bytes_eq (drop len page) (take (length page - len) page) ≡ bytes_eq (repeat_piece (length page) (take len page)) page
 repeats_shift page len some short whole =
     let front : length (take len page) ≡ len = length-take-le len page (omega arith) in
     let size : length page ≡ length page / len * len = omega (arith, div-add-mod' (length page) len) in
     let positive : 0 < length page / len = positive_factor (length page / len) len (length page) size (omega arith) in
-    let unfold_count : repeated (length page) (take len page) ≡ times (length page / len) (take len page) =
+    let unfold_count : repeat_piece (length page) (take len page) ≡ times (length page / len) (take len page) =
     ap (λ k. times (length page / k) (take len page)) front in
     same_from_decides {P = drop len page ≡ take (length page - len) page} _ _ (bytes_eq-Decides _ _) (
       λ same. shift_from_times (length page / len) len page size positive front (sym unfold_count ∙ (bytes_eq-Decides _ _).0 same),

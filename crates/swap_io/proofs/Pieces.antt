@@ -5,7 +5,7 @@ use Rattle.std.proofs.lemmas.Bool.{and_parts, and_from, cases_lt, or_cases, eqb-
 use Rattle.std.proofs.Math.Nat.{mod-eq_of_lt, mod-eq-sub-mod}
 use Rattle.std.proofs.lemmas.List.{length-append, get_or_append_left, get_or-append_right, ext_get_or}
 use Rattle.swap_base.specs.Sizes.{page_lengths}
-use Rattle.swap_io.specs.Words.{is_hex_digit, hex_value, piece_of, pairs, times, lengths, is_piece, repeated, filled, pattern}
+use Rattle.swap_io.specs.Words.{is_hex_digit, hex_value, piece_of, pairs, times, lengths, is_piece, repeat_piece, fill_page, pattern}
 use Rattle.swap_io.proofs.Numbers.{cond_true, cond_false}
 
 pub is_some-cond : {X : Type 0} (b : Bool) (x : X) → is_some (cond b (Some x) None) ≡ b
@@ -88,13 +88,13 @@ pub is_some-piece_of : (word : List ℕ) (r : Bool) → r ≡ list_all is_hex_di
 is_some-piece_of word r all some even =
     all ∙ sym (both_hold (list_all is_hex_digit word) _ _ (eq-eqb _ _ even) (lt-ltb _ _ some)) ∙ sym (is_some-cond _ (pairs word))
 
-filled_none : (size : ℕ) (b : Bool) (piece : List ℕ) → is_some (cond b (Some piece) None) ≡ false → filled size (cond b (Some piece) None) ≡ None
+filled_none : (size : ℕ) (b : Bool) (piece : List ℕ) → is_some (cond b (Some piece) None) ≡ false → fill_page size (cond b (Some piece) None) ≡ None
 filled_none size true piece h = cc
 filled_none size false piece h = refl
 
 filled_some :
     (size : ℕ) (b : Bool) (piece : List ℕ) → is_some (cond b (Some piece) None) ≡ true
-    → filled size (cond b (Some piece) None) ≡ cond (is_piece size piece) (Some (repeated size piece)) None
+    → fill_page size (cond b (Some piece) None) ≡ cond (is_piece size piece) (Some (repeat_piece size piece)) None
 filled_some size true piece h = refl
 filled_some size false piece h = cc
 
@@ -104,7 +104,8 @@ refused_word size word none = filled_none size _ (pairs word) none
 
 -- what a word of hex stands for
 pub pattern-hex :
-    (size : ℕ) (word : List ℕ) → is_some (piece_of word) ≡ true → pattern size word ≡ cond (is_piece size (pairs word)) (Some (repeated size (pairs word))) None
+    (size : ℕ) (word : List ℕ) → is_some (piece_of word) ≡ true
+    → pattern size word ≡ cond (is_piece size (pairs word)) (Some (repeat_piece size (pairs word))) None
 pattern-hex size word some = filled_some size _ (pairs word) some
 
 -- a word whose piece has another length, or is longer than the page
@@ -112,14 +113,14 @@ pub refused_length :
     (size : ℕ) (word : List ℕ) → is_some (piece_of word) ≡ true → list_any (λ n. eqb n (length word / 2)) lengths ≡ false → pattern size word ≡ None
 refused_length size word some other =
     pattern-hex size word some
-    ∙ cond_false (is_piece size (pairs word)) (Some (repeated size (pairs word))) None
+    ∙ cond_false (is_piece size (pairs word)) (Some (repeat_piece size (pairs word))) None
     (λ piece. let listed = (and_parts (list_any (λ n. eqb (length (pairs word)) n) lengths) (leb (length (pairs word)) size) piece).0 in
     both_ways _ other (list_any_comm (length word / 2) lengths ∙ ap (λ k. list_any (λ n. eqb k n) lengths) (sym (length-pairs word)) ∙ listed))
 
 pub refused_long : (size : ℕ) (word : List ℕ) → is_some (piece_of word) ≡ true → size < length word / 2 → pattern size word ≡ None
 refused_long size word some long =
     pattern-hex size word some
-    ∙ cond_false (is_piece size (pairs word)) (Some (repeated size (pairs word))) None
+    ∙ cond_false (is_piece size (pairs word)) (Some (repeat_piece size (pairs word))) None
     (λ piece. let short =
     leb-true (length (pairs word)) size (and_parts (list_any (λ n. eqb (length (pairs word)) n) lengths) (leb (length (pairs word)) size) piece).1 in
     omega (arith, length-pairs word))
@@ -127,10 +128,10 @@ refused_long size word some long =
 -- a page that a piece fills, byte by byte
 pub repeated_page :
     (piece page : List ℕ) → list_any (λ n. eqb (length page) n) page_lengths ≡ true → list_any (λ n. eqb (length piece) n) lengths ≡ true
-    → length piece ≤ length page → ((k : ℕ) → k < length page → get_or page k 0 ≡ get_or piece (k % length piece) 0) → page ≡ repeated (length page) piece
+    → length piece ≤ length page → ((k : ℕ) → k < length page → get_or page k 0 ≡ get_or piece (k % length piece) 0) → page ≡ repeat_piece (length page) piece
 repeated_page piece page is_page is_len small bytes =
     let whole : length page / length piece * length piece ≡ length page = divides (length page) (length piece) is_page is_len small in
-    ext_get_or 0 page (repeated (length page) piece) (sym whole ∙ sym (length-times (length page / length piece) piece))
+    ext_get_or 0 page (repeat_piece (length page) piece) (sym whole ∙ sym (length-times (length page / length piece) piece))
     (λ k within. bytes k within ∙ sym (get_or-times (length page / length piece) piece k (omega (arith, whole))))
 
 -- the page that a word of hex fills
@@ -142,10 +143,11 @@ filled_page word page some is_page listed small bytes =
     let len = length-pairs word in
     let is_len : list_any (λ n. eqb (length (pairs word)) n) lengths ≡ true =
     ap (λ k. list_any (λ n. eqb k n) lengths) len ∙ sym (list_any_comm (length word / 2) lengths) ∙ listed in
-    let same : page ≡ repeated (length page) (pairs word) =
+    let same : page ≡ repeat_piece (length page) (pairs word) =
     repeated_page (pairs word) page is_page is_len (omega arith) (λ k within. bytes k within ∙ ap (λ m. get_or (pairs word) (k % m) 0) (sym len)) in
     ap Some same
-    ∙ sym (cond_true (is_piece (length page) (pairs word)) (Some (repeated (length page) (pairs word))) None (and_from _ _ is_len (le-leb _ _ (omega arith))))
+    ∙ sym (cond_true (is_piece (length page) (pairs word)) (Some (repeat_piece (length page) (pairs word))) None
+    (and_from _ _ is_len (le-leb _ _ (omega arith))))
     ∙ sym (pattern-hex (length page) word some)
 
 pub filled_page-sized :

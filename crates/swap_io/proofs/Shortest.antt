@@ -5,7 +5,7 @@ use Rattle.std.specs.List.{find}
 use Rattle.std.specs.Option.{unwrap_or, option_map}
 use Rattle.std.specs.Fmt.{digit_glyph}
 use Rattle.std.proofs.lemmas.List.{take_more, flat_map_more, take_min, length-append, length-take, length-take-le, take_all}
-use Rattle.swap_io.specs.Words.{lengths, repeated, shortest_piece, shortest, hex}
+use Rattle.swap_io.specs.Words.{lengths, repeat_piece, shortest_piece, shortest, hex}
 
 map-cond :
     {X Y : Type 0} (f : X → Y) (b : Bool) (x : X) (o : Option X) (r : Option Y) → r ≡ option_map f o → cond b (Some (f x)) r ≡ option_map f (cond b (Some x) o)
@@ -19,18 +19,18 @@ find-map p f (x ∷ xs) = map-cond f (p (f x)) x (find (λ y. p (f y)) xs) (find
 -- the shortest piece by the first length that fits
 found :
     (page : List ℕ)
-    → shortest_piece page ≡ unwrap_or (option_map (λ n. take n page) (find (λ n. bytes_eq (repeated (length page) (take n page)) page) lengths)) page
+    → shortest_piece page ≡ unwrap_or (option_map (λ n. take n page) (find (λ n. bytes_eq (repeat_piece (length page) (take n page)) page) lengths)) page
 found page =
-    ap (λ o. unwrap_or o page) (find-map (λ piece. bytes_eq (repeated (length page) piece) page) (λ n. take n page) lengths)
+    ap (λ o. unwrap_or o page) (find-map (λ piece. bytes_eq (repeat_piece (length page) piece) page) (λ n. take n page) lengths)
 
 pub piece_found :
-    (page : List ℕ) (r : Option ℕ) (n : ℕ) → r ≡ find (λ k. bytes_eq (repeated (length page) (take k page)) page) lengths → r ≡ Some n
+    (page : List ℕ) (r : Option ℕ) (n : ℕ) → r ≡ find (λ k. bytes_eq (repeat_piece (length page) (take k page)) page) lengths → r ≡ Some n
     → take (min n (length page)) page ≡ shortest_piece page
 piece_found page r n e is =
     take_min n page ∙ ap (λ o. unwrap_or (option_map (λ k. take k page) o) page) (sym is ∙ e) ∙ sym (found page)
 
 pub piece_none :
-    (page : List ℕ) (r : Option ℕ) → r ≡ find (λ k. bytes_eq (repeated (length page) (take k page)) page) lengths → r ≡ None
+    (page : List ℕ) (r : Option ℕ) → r ≡ find (λ k. bytes_eq (repeat_piece (length page) (take k page)) page) lengths → r ≡ None
     → take (length page) page ≡ shortest_piece page
 piece_none page r e is =
     take_all (length page) page (omega arith) ∙ ap (λ o. unwrap_or (option_map (λ k. take k page) o) page) (sym is ∙ e) ∙ sym (found page)
@@ -52,4 +52,3 @@ hex_more line bytes i within =
 pub hex_room : (line bytes : List ℕ) (i room : ℕ) → i < length bytes → length line + length (hex bytes) ≤ room → length (line ++ hex (take i bytes)) + 2 ≤ room
 hex_room line bytes i room within fits =
     omega (arith, length-append line (hex (take i bytes)), length-hex (take i bytes), length-hex bytes, length-take-le i bytes (omega arith))
-

@@ -11,5 +11,5 @@ pub record Gathered : Type 0 where
   pub faults : ℕ
 
 -- what was taken in all
-abbrev pub gathered : Gathered → Option (List ℕ)
-gathered s = append_known s.handed s.held
+abbrev pub gathered_bytes : Gathered → Option (List ℕ)
+gathered_bytes s = append_known s.handed s.held

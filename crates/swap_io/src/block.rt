@@ -2,7 +2,7 @@ ghost use Rattle.std.specs.Prelude.{◌≡◌, ℕ, ◌<◌, ◌≤◌, [], leng
 ghost use Rattle.std.specs.Io.{WritesAtMost};
 ghost use Rattle.std.specs.Io.KnownBytes.{WriteAppends, Keeps, append_known};
 ghost use Rattle.swap_io.specs.Causes.{HasCause};
-ghost use Rattle.swap_io.specs.Gathered.{Gathered, gathered};
+ghost use Rattle.swap_io.specs.Gathered.{Gathered, gathered_bytes};
 
 use super::{Sink, WriteFailed};
 use std::alloc::Global;
@@ -84,7 +84,7 @@ impl<K: Sink + Drop> BlockSink<K> {
 
     /// Hands on all that is held. After an error the rest is held still.
     pub fn hand_on(&mut self) -> Result<(), WriteFailed>
-        ensures kept { Keeps (gathered self.old) (gathered self.new) }
+        ensures kept { Keeps (gathered_bytes self.old) (gathered_bytes self.new) }
         ensures whole { OnOk result ((self.new.held ≡ []) × (self.new.room ≡ 65_536)) }
         ensures cause { HasCause self.old.faults self.new.faults result }
     {
@@ -96,9 +96,9 @@ impl<K: Sink + Drop> BlockSink<K> {
 }
 
 impl<K: Sink + Drop> Sink for BlockSink<K> {
-    ghost use Rattle.swap_io.specs.Gathered.{gathered};
+    ghost use Rattle.swap_io.specs.Gathered.{gathered_bytes};
 
-    ghost taken = { gathered };
+    ghost taken = { gathered_bytes };
 
     ghost faults = { λ s. s.faults };
 

@@ -1,6 +1,6 @@
 ghost use Rattle.std.specs.Prelude.{◌≡◌, ℕ, ◌+◌, ◌-◌, ◌<◌, ◌≤◌, List, [], ◌++◌, length, take, decimal, bytes_eq, find, false, IfOk};
 ghost use Rattle.std.specs.Fmt.{digit_glyph};
-ghost use Rattle.swap_io.specs.Words.{lengths, repeated, shortest_piece, shortest};
+ghost use Rattle.swap_io.specs.Words.{lengths, repeat_piece, shortest_piece, shortest};
 
 use super::words::PIECE_LENGTHS;
 use std::alloc::Global;
@@ -102,7 +102,7 @@ fn shortest_len(page: &[u8]) -> usize
 fn first_period(page: &[u8]) -> Option<usize>
     ensures { result
         ≡ find
-        (λ len. bytes_eq (repeated (length page.now) (take len page.now)) page.now) lengths }
+        (λ len. bytes_eq (repeat_piece (length page.now) (take len page.now)) page.now) lengths }
 {
     PIECE_LENGTHS
         .iter()
@@ -112,7 +112,7 @@ fn first_period(page: &[u8]) -> Option<usize>
 
 /// Whether a page repeats its first `len` bytes.
 fn repeats(page: &[u8], len: usize) -> bool
-    ensures { result ≡ bytes_eq (repeated (length page.now) (take len page.now)) page.now }
+    ensures { result ≡ bytes_eq (repeat_piece (length page.now) (take len page.now)) page.now }
 {
     if len >= page.len() {
         return true;

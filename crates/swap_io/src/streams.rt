@@ -2,7 +2,7 @@ ghost use Rattle.std.specs.Prelude.{◌≡◌, ◌<◌, length, is_ok, if◌then
 ghost use Rattle.std.specs.Io.{ReadsAtMost, WritesAtMost};
 ghost use Rattle.std.specs.Io.KnownBytes.{ReadConsumes, WriteAppends};
 ghost use Rattle.swap_io.specs.Causes.{HasCause};
-ghost use Rattle.swap_io.specs.Memory.{raised};
+ghost use Rattle.swap_io.specs.Memory.{raise};
 
 use super::{ReadFailed, Sink, Source, WriteFailed};
 use std::io::{Read, Write};
@@ -43,7 +43,7 @@ impl<R: Read + Drop> Source for StdSource<R> {
         ensures cause { HasCause self.old.faults self.new.faults result }
         ensures unfailed { OnOk result (self.new.faults ≡ self.old.faults) }
         ensures count { self.new.faults
-            ≡ (if is_ok result then self.old.faults else raised self.old.faults) }
+            ≡ (if is_ok result then self.old.faults else raise self.old.faults) }
     {
         let Ok(n) = self.reader.read(buf) else {
             self.faults = self.faults.saturating_add(1);
@@ -88,7 +88,7 @@ impl<W: Write + Drop> Sink for StdSink<W> {
         ensures bytes { WriteAppends self.old.bytes self.new.bytes result bytes.now }
         ensures cause { HasCause self.old.faults self.new.faults result }
         ensures count { self.new.faults
-            ≡ (if is_ok result then self.old.faults else raised self.old.faults) }
+            ≡ (if is_ok result then self.old.faults else raise self.old.faults) }
     {
         let written = self.writer.write(bytes).unwrap_or(0);
         if written == 0 && !bytes.is_empty() {

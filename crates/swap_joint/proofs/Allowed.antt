@@ -16,7 +16,7 @@ use Rattle.swap_lender.specs.declared.SlotState.{SlotState}
 use Rattle.swap_lender.specs.declared.SlotState.TheVariants.{Held}
 use Rattle.swap_lender.specs.Lender as lender
 use Rattle.swap_lender.specs.Lender.{slot_in, has_greeted}
-use Rattle.swap_link.specs.Lane.{Lane, appended}
+use Rattle.swap_link.specs.Lane.{Lane, append_after}
 use Rattle.swap_joint.specs.Seats.{is_done}
 use Rattle.swap_joint.specs.Stored.{gives_back}
 use Rattle.swap_joint.specs.Allowed.{is_evict, is_ask, is_rate, is_refusal, is_hello, NamedOnce, BorrowsFree, NoHello, Greets, IsToLender, Allows}
@@ -143,7 +143,8 @@ take_front (p ∷ ps) q = ap (λ qs. p ∷ qs) (take_front ps q)
 -- what the device was about to say is under way, or lost where the list has ended
 pub allows_said :
     (s : Sizes) (states : List SlabState) (ring : List Request) (l : Lender) (table : lender.Lender) (n : Link) (come : List Parcel) (b : Lane) (q : Parcel)
-    → Allows s states ring l table n come b.ended (b.parcels ++ q ∷ []) → Allows s states ring l table n come (appended b q).ended (appended b q).parcels
+    → Allows s states ring l table n come b.ended (b.parcels ++ q ∷ [])
+    → Allows s states ring l table n come (append_after b q).ended (append_after b q).parcels
 allows_said s states ring l table n come b q h =
     let lost : Allows s states ring l table n come true b.parcels =
     subst (λ ps. Allows s states ring l table n come true ps) (take_front b.parcels q)

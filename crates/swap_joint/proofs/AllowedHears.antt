@@ -173,7 +173,7 @@ module _ (n : ℕ) (d : Device) (h g : Harbor) (l : Lender) (q : Parcel) (all : 
       (channel_of h l).to_lender.ended ((channel_of h l).to_lender.parcels ++ saying word)) in
       subst P (sym sizes) now)))
 
-  ring_now : (x : Request) (rest : List Request) → ring_of d.remote.links l ≡ x ∷ rest → ring_of (rings.answered d.remote.links l) l ≡ rest
+  ring_now : (x : Request) (rest : List Request) → ring_of d.remote.links l ≡ x ∷ rest → ring_of (rings.answered_after d.remote.links l) l ≡ rest
   ring_now x rest is = answered-ring d.remote.links l x rest (up_within d.remote.links l up) is
 
   awaited : (x : Request) (rest : List Request) → ring_of d.remote.links l ≡ x ∷ rest → IsAwaited d.sizes d.history d.calls d.remote.slabs l x
@@ -194,51 +194,57 @@ module _ (n : ℕ) (d : Device) (h g : Harbor) (l : Lender) (q : Parcel) (all : 
       (bits : List Bool) (cs : Calls) (p : Page) (j : Lease) (x : Request) (rest : List Request) → ring_of d.remote.links l ≡ x ∷ rest
       → ((t : Slab) → borrows_in t (x ∷ rest) ≡ borrows_in t rest) → has_lease l j (state_for d.sizes d.remote.slabs p) ≡ true
       → AllowedOwing n
-      (record d
-      { remote = record { bits = bits; slabs = slabs.settled d.remote.slabs (slab_for d.sizes p); links = rings.answered d.remote.links l }; calls = cs })
+      (record d {
+        remote = record { bits = bits; slabs = slabs.settled_after d.remote.slabs (slab_for d.sizes p); links = rings.answered_after d.remote.links l };
+        calls =
+            cs;
+      })
       g
       (words l (settled_word d p))
   settled_heard bits cs p j x rest is plain at =
       heard_via
-      (record d
-      { remote = record { bits = bits; slabs = slabs.settled d.remote.slabs (slab_for d.sizes p); links = rings.answered d.remote.links l }; calls = cs })
+      (record d {
+        remote = record { bits = bits; slabs = slabs.settled_after d.remote.slabs (slab_for d.sizes p); links = rings.answered_after d.remote.links l };
+        calls =
+            cs;
+      })
       (settled_word d p) refl
-      (λ m other. sees_parts m d (slabs.settled d.remote.slabs (slab_for d.sizes p)) bits (rings.answered d.remote.links l) cs
+      (λ m other. sees_parts m d (slabs.settled_after d.remote.slabs (slab_for d.sizes p)) bits (rings.answered_after d.remote.links l) cs
       (holds_apart m d.remote.slabs (slab_for d.sizes p) (slabs.after_settled (state_for d.sizes d.remote.slabs p))
       (λ k. elsewhere l m j k (state_for d.sizes d.remote.slabs p) other at)
       (λ k. settled_none m k (state_for d.sizes d.remote.slabs p) (elsewhere l m j k (state_for d.sizes d.remote.slabs p) other at)))
       (answered-other d.remote.links l m other))
       (both_unless (channel_of h l).lender_gone _ _ _
       (λ (st : Stored d.sizes d.history d.remote.slabs d.remote.bits l (channel_of h l) (served_of here.order)) (a : Old).
-      allows_settled d.sizes d.remote.slabs (ring_of d.remote.links l) (ring_of (rings.answered d.remote.links l) l) l (channel_of h l).lender
+      allows_settled d.sizes d.remote.slabs (ring_of d.remote.links l) (ring_of (rings.answered_after d.remote.links l) l) l (channel_of h l).lender
       (channel_of h l).number front.rest (channel_of h l).to_lender.ended (channel_of h l).to_lender.parcels (slab_for d.sizes p) j at
       (λ k e. (st.given k e).unleased) slot_greeted
       (λ t e. ap (borrows_in t) (ring_now x rest is) ∙ (sym (plain t) ∙ (sym (ap (borrows_in t) is) ∙ e))) (rest_of a)) here.stored old)
 
   pub heard_allowed : (x : Heard) → Hears d l q x → AllowedOwing n x.device g (words l x.word)
   heard_allowed x (roomy {t = t} {u = u} {free = free} {rest = rest} is says same) =
-      heard_via (record d { remote = remote.told d.remote l t free }) None refl
+      heard_via (record d { remote = remote.told_after d.remote l t free }) None refl
       (λ m other.
-      sees_parts m d (slabs.answered d.remote.slabs t l (reply.Free free)) d.remote.bits (rings.answered d.remote.links l) d.calls
+      sees_parts m d (slabs.answered_after d.remote.slabs t l (reply.Free free)) d.remote.bits (rings.answered_after d.remote.links l) d.calls
       (holds_answered m l d.remote.slabs t (reply.Free free)) (answered-other d.remote.links l m other))
       (unless-map (channel_of h l).lender_gone _ _
-      (λ (a : Old). silent (slabs.answered d.remote.slabs t l (reply.Free free)) (ring_of (rings.answered d.remote.links l) l)
-      (allows_on d.sizes d.remote.slabs (slabs.answered d.remote.slabs t l (reply.Free free)) (ring_of d.remote.links l)
-      (ring_of (rings.answered d.remote.links l) l) l (channel_of h l).lender (channel_of h l).number front.rest (channel_of h l).to_lender.ended
+      (λ (a : Old). silent (slabs.answered_after d.remote.slabs t l (reply.Free free)) (ring_of (rings.answered_after d.remote.links l) l)
+      (allows_on d.sizes d.remote.slabs (slabs.answered_after d.remote.slabs t l (reply.Free free)) (ring_of d.remote.links l)
+      (ring_of (rings.answered_after d.remote.links l) l) l (channel_of h l).lender (channel_of h l).number front.rest (channel_of h l).to_lender.ended
       (channel_of h l).to_lender.parcels (holds_answered l l d.remote.slabs t (reply.Free free))
       (λ v e. ap (borrows_in v) (ring_now (request.Query t) rest is) ∙ (sym (ap (borrows_in v) is) ∙ e)) (rest_of a))) old)
   heard_allowed x (lent {t = t} {u = u} {k = k} {rest = rest} is says same none) =
       let was = awaited (request.Borrow t) rest is in
       let inside : t.0 < length d.remote.slabs = subst (λ m. t.0 < m) (sym serves.slabs_len) was.0 in
-      heard_via (record d { remote = remote.lent d.remote l t k }) None refl
-      (λ m other. sees_parts m d (slabs.lent d.remote.slabs t k) d.remote.bits (rings.answered d.remote.links l) d.calls
+      heard_via (record d { remote = remote.lent_after d.remote l t k }) None refl
+      (λ m other. sees_parts m d (slabs.lent_after d.remote.slabs t k) d.remote.bits (rings.answered_after d.remote.links l) d.calls
       (holds_apart m d.remote.slabs t (slabs.after_lent (state_of d.remote.slabs t) k) (λ j. ap (has_lease m j) was.1)
       (λ j. ap (λ y. has_lease m j (slabs.after_lent y k)) was.1 ∙ elsewhere l m k j (Mapped l k 0) other (own l k)))
       (answered-other d.remote.links l m other))
       (both_unless (channel_of h l).lender_gone _ _ _
       (λ (st : Stored d.sizes d.history d.remote.slabs d.remote.bits l (channel_of h l) (served_of here.order)) (a : Old).
-      silent (slabs.lent d.remote.slabs t k) (ring_of (rings.answered d.remote.links l) l)
-      (subst (λ r. New (slabs.lent d.remote.slabs t k) r (channel_of h l).to_lender.parcels) (sym (ring_now (request.Borrow t) rest is))
+      silent (slabs.lent_after d.remote.slabs t k) (ring_of (rings.answered_after d.remote.links l) l)
+      (subst (λ r. New (slabs.lent_after d.remote.slabs t k) r (channel_of h l).to_lender.parcels) (sym (ring_now (request.Borrow t) rest is))
       (allows_lent d.sizes d.remote.slabs (ring_of d.remote.links l) rest l (channel_of h l).lender (channel_of h l).number front.rest
       (channel_of h l).to_lender.ended (channel_of h l).to_lender.parcels t k inside was.1 is
       (only_slot (channel_of h l) k t reached lodged
@@ -251,14 +257,14 @@ module _ (n : ℕ) (d : Device) (h g : Harbor) (l : Lender) (q : Parcel) (all : 
       own l k = ap (λ b. b && (k.0 == k.0)) (eq-eqb l.0 l.0 refl) ∙ eq-eqb k.0 k.0 refl
   heard_allowed x (refused {t = t} {u = u} {rest = rest} is says same) =
       let was = awaited (request.Borrow t) rest is in
-      heard_via (record d { remote = remote.refused d.remote l t }) None refl
+      heard_via (record d { remote = remote.refused_after d.remote l t }) None refl
       (λ m other.
-      sees_parts m d (slabs.refused d.remote.slabs t) d.remote.bits (rings.answered d.remote.links l) d.calls
+      sees_parts m d (slabs.refused_after d.remote.slabs t) d.remote.bits (rings.answered_after d.remote.links l) d.calls
       (holds_apart m d.remote.slabs t Local (λ j. ap (has_lease m j) was.1) (λ j. refl)) (answered-other d.remote.links l m other))
       (unless-map (channel_of h l).lender_gone _ _
       (λ (a : Old).
-      silent (slabs.refused d.remote.slabs t) (ring_of (rings.answered d.remote.links l) l)
-      (subst (λ r. New (slabs.refused d.remote.slabs t) r (channel_of h l).to_lender.parcels) (sym (ring_now (request.Borrow t) rest is))
+      silent (slabs.refused_after d.remote.slabs t) (ring_of (rings.answered_after d.remote.links l) l)
+      (subst (λ r. New (slabs.refused_after d.remote.slabs t) r (channel_of h l).to_lender.parcels) (sym (ring_now (request.Borrow t) rest is))
       (allows_refused d.sizes d.remote.slabs (ring_of d.remote.links l) rest l (channel_of h l).lender (channel_of h l).number front.rest
       (channel_of h l).to_lender.ended (channel_of h l).to_lender.parcels t was.1 is
       (λ i m j e held.
@@ -275,7 +281,7 @@ module _ (n : ℕ) (d : Device) (h g : Harbor) (l : Lender) (q : Parcel) (all : 
       go true = settled_heard (with_number d.remote.bits p.0) d.calls p at.0 (request.Write p e) rest is (λ t. refl) leased
       go false = settled_heard d.remote.bits d.calls p at.0 (request.Write p e) rest is (λ t. refl) leased
   heard_allowed x (brought {c = b} {p = p} {at = at} {rest = rest} is says named) =
-      settled_heard d.remote.bits (calls.came d.calls b q.page) p at.0 (request.Read b p) rest is (λ t. refl)
+      settled_heard d.remote.bits (calls.came_after d.calls b q.page) p at.0 (request.Read b p) rest is (λ t. refl)
       (and_parts (has_lease l at.0 (state_for d.sizes d.remote.slabs p)) _ named).0
   heard_allowed x (asked_rate {t = t} {k = k} says at) =
       heard_via d (Some (parcel_of (msg.Rates k (rates.value_of d.rates t)) [])) refl (λ m other. itself m d)
@@ -294,8 +300,8 @@ module _ (n : ℕ) (d : Device) (h g : Harbor) (l : Lender) (q : Parcel) (all : 
   heard_allowed x (told_to_go {t = t} {k = k} says at) =
       let m : MappedBy d.remote.slabs l k t = mapped_by_is d.remote.slabs l k t at in
       let owned : has_lease l k (state_of d.remote.slabs t) ≡ true = ap (has_lease l k) m.is ∙ own l k in
-      heard_via (record d { remote = remote.evicted d.sizes d.remote t }) (done_word (slabs.evicted_lease (state_of d.remote.slabs t))) refl
-      (λ o other. sees_parts o d (slabs.evicted d.remote.slabs t) (remote.evicted d.sizes d.remote t).bits d.remote.links d.calls
+      heard_via (record d { remote = remote.evicted_after d.sizes d.remote t }) (done_word (slabs.evicted_lease (state_of d.remote.slabs t))) refl
+      (λ o other. sees_parts o d (slabs.evicted_after d.remote.slabs t) (remote.evicted_after d.sizes d.remote t).bits d.remote.links d.calls
       (holds_apart o d.remote.slabs t (slabs.after_evict (state_of d.remote.slabs t)) (λ j. elsewhere l o k j (state_of d.remote.slabs t) other owned)
       (λ j. evicted_none o j (state_of d.remote.slabs t) (elsewhere l o k j (state_of d.remote.slabs t) other owned)))
       refl)

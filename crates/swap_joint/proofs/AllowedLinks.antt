@@ -20,15 +20,15 @@ use Rattle.swap_rings.specs.Rings.{LinkState, is_up, ring_of}
 use Rattle.swap_rings.specs.declared.Request.{Request}
 use Rattle.swap_rings.specs.declared.Request.TheVariants as request
 use Rattle.swap_remote.specs.Remote.{Remote}
-use Rattle.swap_table.specs.Device.{Device, lost}
+use Rattle.swap_table.specs.Device.{Device, lost_after}
 use Rattle.swap_table.specs.Moves.{words}
 use Rattle.swap_table.specs.Serves.{IsAwaited, AreInOrder}
 use Rattle.swap_table.proofs.Links.{link-other}
 use Rattle.swap_lender.specs.Lender as lender
 use Rattle.swap_lender.specs.Lender.{slot_in, has_greeted}
 use Rattle.swap_link.specs.Fits.{IsSound}
-use Rattle.swap_link.specs.Lane.{Lane, appended}
-use Rattle.swap_link.specs.Channel.{Channel, severed, crashed, on_channel}
+use Rattle.swap_link.specs.Lane.{Lane, append_after}
+use Rattle.swap_link.specs.Channel.{Channel, cut_after, crash_after, on_channel}
 use Rattle.swap_link.specs.Harbor as harbor
 use Rattle.swap_link.specs.Harbor.{Harbor, channel_of, lender_of}
 use Rattle.swap_link.specs.lemmas.HarborLaws.{called, other_channel}
@@ -162,7 +162,7 @@ owing n d h l None rest here = combined n d h l rest here
 owing n d h l (Some q) rest here = (rest, here)
 
 -- a link is lost
-pub sees_lost : (l m : Lender) (d : Device) → (l.0 ≡ m.0 → ⊥) → Sees l d (lost d m)
+pub sees_lost : (l m : Lender) (d : Device) → (l.0 ≡ m.0 → ⊥) → Sees l d (lost_after d m)
 sees_lost l m d other = record {
   holds = holds_lost l m d.remote.slabs other;
   ring = ap (λ (k : LinkState). k.ring) (link-other d.remote.links m l rings.down other);
@@ -170,27 +170,28 @@ sees_lost l m d other = record {
   sizes = refl;
 }
 
-pub after_loss : (n : ℕ) (d : Device) (h : Harbor) (m : Lender) → AllAllowedBut m n d h → AllAllowed n (lost d m) h
+pub after_loss : (n : ℕ) (d : Device) (h : Harbor) (m : Lender) → AllAllowedBut m n d h → AllAllowed n (lost_after d m) h
 after_loss n d h m all l within up = elim (cases_eq l.0 m.0) [
   | inl e ↦
-      absurd (both_ways (is_up (lost d m).remote.links l) (subst (λ k. is_up (lost d m).remote.links (record { 0 = k }) ≡ false) (sym e) (lost_down d m)) up)
-  | inr other ↦ allowed_on l d (lost d m) (channel_of h l) [] (sees_lost l m d other) (all l within other (sym (sees_lost l m d other).up ∙ up))
+      absurd (both_ways (is_up (lost_after d m).remote.links l) (subst (λ k. is_up (lost_after d m).remote.links (record { 0 = k })
+      ≡ false) (sym e) (lost_down d m)) up)
+  | inr other ↦ allowed_on l d (lost_after d m) (channel_of h l) [] (sees_lost l m d other) (all l within other (sym (sees_lost l m d other).up ∙ up))
 ]
 
 pub down :
     (n : ℕ) (d : Device) (f g : Harbor) (c : FabricCall) (r : FabricAnswer c) → harbor.Moves f c r g → AllAllowedBut (lender_of c) n d f
-    → AllAllowed n (lost d (lender_of c)) g
+    → AllAllowed n (lost_after d (lender_of c)) g
 down n d f g c r moved all = after_loss n d g (lender_of c) (others n d d f g c r moved (λ l other. itself l d) all)
 
 -- the far side moves
-pub allowed_cut : (d : Device) (l : Lender) (c : Channel) (a b : ℕ) → Allowed d l c [] → Allowed d l (severed c a b).1 []
+pub allowed_cut : (d : Device) (l : Lender) (c : Channel) (a b : ℕ) → Allowed d l c [] → Allowed d l (cut_after c a b).1 []
 allowed_cut d l c a b h =
-    from_bare d l (severed c a b).1
+    from_bare d l (cut_after c a b).1
     (unless-map c.lender_gone _ _
     (allows_cut d.sizes d.remote.slabs (ring_of d.remote.links l) l c.lender c.number c.to_device.parcels c.to_lender.ended c.to_lender.parcels a b)
     (to_bare d l c h))
 
-pub allowed_crashed : (d : Device) (l : Lender) (c : Channel) → Allowed d l (crashed c) []
+pub allowed_crashed : (d : Device) (l : Lender) (c : Channel) → Allowed d l (crash_after c) []
 allowed_crashed d l c =
     cond_both c.lender_gone _ _ (λ (x : Channel). Allowed d l x []) (λ left. unless c.lender_gone _ (λ stands. absurd (both_ways c.lender_gone stands left)))
     (λ _. tt)
@@ -200,7 +201,7 @@ allowed_crashed d l c =
 lane_more :
     (s : Sizes) (states : List SlabState) (ring : List Request) (l : Lender) (table : lender.Lender) (n : Link) (come : List Parcel) (a : Lane) (q : Parcel)
     → (a.ended ≡ false → MayAdd states ring l table n come a.ended a.parcels q) → Allows s states ring l table n come a.ended a.parcels
-    → Allows s states ring l table n come (appended a q).ended (appended a q).parcels
+    → Allows s states ring l table n come (append_after a q).ended (append_after a q).parcels
 lane_more s states ring l table n come a q may h =
     by_append (λ z. Allows s states ring l table n come z.ended z.parcels) a q (λ _. h)
     (λ e. allows_more s states ring l table n come a.ended a.parcels q (may e) h) (λ _. allows_ended s states ring l table n come a.ended a.parcels h)
@@ -258,14 +259,14 @@ allowed_sent d e l c q sizes holds rings_ is frees awaited h =
     (let P : Sizes → Type 0 =
     λ s.
     Unless c.lender_gone
-    (Allows s e.remote.slabs (ring_of e.remote.links l) l c.lender c.number c.to_device.parcels (appended c.to_lender q).ended
-    (appended c.to_lender q).parcels) in
+    (Allows s e.remote.slabs (ring_of e.remote.links l) l c.lender c.number c.to_device.parcels (append_after c.to_lender q).ended
+    (append_after c.to_lender q).parcels) in
     subst P (sym sizes) (unless-map c.lender_gone _ _ more (to_bare d l c h)))
   where
     more :
         Allows d.sizes d.remote.slabs (ring_of d.remote.links l) l c.lender c.number c.to_device.parcels c.to_lender.ended c.to_lender.parcels
-        → Allows d.sizes e.remote.slabs (ring_of e.remote.links l) l c.lender c.number c.to_device.parcels (appended c.to_lender q).ended
-        (appended c.to_lender q).parcels
+        → Allows d.sizes e.remote.slabs (ring_of e.remote.links l) l c.lender c.number c.to_device.parcels (append_after c.to_lender q).ended
+        (append_after c.to_lender q).parcels
     more a =
         lane_more d.sizes e.remote.slabs (ring_of e.remote.links l) l c.lender c.number c.to_device.parcels c.to_lender q
         (λ open_. record {

@@ -31,7 +31,7 @@ use Rattle.swap_rings.specs.declared.Request.TheVariants as request
 use Rattle.swap_remote.specs.Remote as remote
 use Rattle.swap_remote.specs.Remote.{slab_for}
 use Rattle.swap_table.specs.Device as device
-use Rattle.swap_table.specs.Device.{Device, lost, raised, next_link, hello}
+use Rattle.swap_table.specs.Device.{Device, lost_after, raised_after, next_link, hello}
 use Rattle.swap_table.specs.Serves.{SlabFits}
 use Rattle.swap_table.specs.Goes.{stay, by_disk, by_fabric, EachKeepsWhere}
 use Rattle.swap_table.specs.Moves.{Within, of_sizes, Speaker, Sends, write, read, borrow, query, query_too, IsFar, far_give, far_cut, far_crash, far_host, Move, enters, gives, faults, waits_for_room, rates_change, lets_go, gives_up, starts, waits_for_disk, takes, lets_finish, sends, finds_down, raises, speaks, speaks_to_nobody, hears, hears_nothing, loses, misunderstands, breaks_off, far}
@@ -43,7 +43,7 @@ use Rattle.swap_lender.specs.declared.SlotState.TheVariants.{Held}
 use Rattle.swap_lender.specs.Lender as lender
 use Rattle.swap_lender.specs.Lender.{slot_in, has_greeted}
 use Rattle.swap_lender.specs.Calls.{tenant}
-use Rattle.swap_link.specs.Channel.{Channel, given, connected}
+use Rattle.swap_link.specs.Channel.{Channel, give_after, connect_after}
 use Rattle.swap_link.specs.Harbor as harbor
 use Rattle.swap_link.specs.Harbor.{Harbor, channel_of}
 use Rattle.swap_joint.specs.Stored.{AllJoined}
@@ -112,7 +112,7 @@ sent_sizes W d l q e base (query_too within state not may) = refl
 
 more_borrows :
     (d : Device) (l : Lender) (x : Request) (t : Slab) → is_up d.remote.links l ≡ true → borrows_in t (ring_of d.remote.links l) ≡ true
-    → borrows_in t (ring_of (rings.sent d.remote.links l x) l) ≡ true
+    → borrows_in t (ring_of (rings.sent_after d.remote.links l x) l) ≡ true
 more_borrows d l x t up e = ap (borrows_in t) (ring_more d.remote.links l x up) ∙ borrows-more t (ring_of d.remote.links l) x e
 
 sent_borrows :
@@ -151,15 +151,15 @@ base_sees W d l m q e base (query within may) = itself m d
 base_sees W d l m q e base (query_too within state other may) = itself m d
 
 -- what came back from the disk
-wrote_sees : (m : Lender) (d : Device) (p : Page) (copy : Option Copy) (ok : Bool) → Sees m d (device.wrote d p copy ok).0
+wrote_sees : (m : Lender) (d : Device) (p : Page) (copy : Option Copy) (ok : Bool) → Sees m d (device.wrote_after d p copy ok).0
 wrote_sees m d p None ok = itself m d
-wrote_sees m d p (Some copy) true = sees_same m d (record d { queue = queue.done d.queue p }) refl refl
-wrote_sees m d p (Some copy) false = sees_same m d (record d { queue = queue.failed d.queue p; failed_writes = d.failed_writes + 1 }) refl refl
+wrote_sees m d p (Some copy) true = sees_same m d (record d { queue = queue.done_after d.queue p }) refl refl
+wrote_sees m d p (Some copy) false = sees_same m d (record d { queue = queue.failed_after d.queue p; failed_writes = d.failed_writes + 1 }) refl refl
 
-took_sees : (m : Lender) (d : Device) (w : DiskWhich) (p : Page) (ok : Bool) (bytes : List ℕ) → Sees m d (device.took d w p ok bytes).0
+took_sees : (m : Lender) (d : Device) (w : DiskWhich) (p : Page) (ok : Bool) (bytes : List ℕ) → Sees m d (device.took_after d w p ok bytes).0
 took_sees m d (which.Write q) p ok bytes = wrote_sees m d p (queue.flying d.queue p) ok
-took_sees m d (which.Read c) p true bytes = sees_same m d (device.took d (which.Read c) p true bytes).0 refl refl
-took_sees m d (which.Read c) p false bytes = sees_same m d (device.took d (which.Read c) p false bytes).0 refl refl
+took_sees m d (which.Read c) p true bytes = sees_same m d (device.took_after d (which.Read c) p true bytes).0 refl refl
+took_sees m d (which.Read c) p false bytes = sees_same m d (device.took_after d (which.Read c) p false bytes).0 refl refl
 
 back_sees : (m : Lender) (d : Device) (taken : Option Taken) → Sees m d (device.took_back d taken).0
 back_sees m d None = itself m d
@@ -209,7 +209,7 @@ none_drain n d f l serves off t k g is = elim (cases_lt t.0 (length d.remote.sla
     local_drains e = cc
 
 -- the lender takes the first message
-given_allowed : (d : Device) (l : Lender) (c : Channel) → LinkFacts d l c → Allowed d l c [] → Allowed d l (given c).1 []
+given_allowed : (d : Device) (l : Lender) (c : Channel) → LinkFacts d l c → Allowed d l c [] → Allowed d l (give_after c).1 []
 given_allowed d l c f h = allowed_given d l c f.sound f.untold f.lodged (λ stands. greeted_known d.sizes c stands f.known) f.joined f.ordered h
 
 module _ {D : Type 0} (disk : DiskMeaning D) (follows : FollowsItsMoves disk) (laws : Promises harbor_meaning) (T : Bool) (o : FabricOf)
@@ -286,8 +286,9 @@ module _ {D : Type 0} (disk : DiskMeaning D) (follows : FollowsItsMoves disk) (l
 
   pub each_allows : EachKeepsWhere disk.moves harbor.Moves (Move There) Before AllowedAt
   each_allows x asked y k k' f f' (enters {d = d} {c = c} {p = p} {bytes = bytes} outs) stay before all =
-      allowed_alone o.lenders d (device.enter d c p bytes) f (λ l. record { holds = holds_itself l d.remote.slabs; ring = refl; up = refl; sizes = refl }) all
-  each_allows x asked y k k' f f' (gives {d = d} {c = c} {p = p} {named = named} {from = from} {bytes = bytes} given) stay before all =
+      allowed_alone o.lenders d (device.enter_entry d c p bytes) f (λ l. record { holds = holds_itself l d.remote.slabs; ring = refl; up = refl; sizes = refl })
+      all
+  each_allows x asked y k k' f f' (gives {d = d} {c = c} {p = p} {named = named} {from = from} {bytes = bytes} give_after) stay before all =
       allowed_alone o.lenders d (device.give d c p named from bytes) f (λ l. sees_same l d (device.give d c p named from bytes) refl refl) all
   each_allows x asked y k k' f f' (faults {d = d} {c = c} {p = p} {k = kind} {since = since} {at = at} {bytes = bytes} fails) stay before all =
       allowed_alone o.lenders d (device.fault d c p kind since at bytes) f (λ l. sees_same l d (device.fault d c p kind since at bytes) refl refl) all
@@ -297,7 +298,7 @@ module _ {D : Type 0} (disk : DiskMeaning D) (follows : FollowsItsMoves disk) (l
       allowed_alone o.lenders d (record d { rates = rates }) f (λ l. sees_same l d (record d { rates = rates }) refl refl) all
   each_allows x asked y k k' f f' (lets_go {d = d} l within up) stay before all = after_loss o.lenders d f l (but l o.lenders d f all)
   each_allows x asked y k k' f f' (gives_up {d = d} l t off asks) stay before all =
-      allowed_alone o.lenders d (record d { remote = remote.gone d.remote l t }) f
+      allowed_alone o.lenders d (record d { remote = remote.gone_after d.remote l t }) f
       (λ m. record { holds = holds_answered m l d.remote.slabs t reply.Gone; ring = refl; up = refl; sizes = refl }) all
   each_allows x asked y k k' f f' (starts {d = d} el ec) (by_disk moved) before all =
       allowed_alone o.lenders d (record d { queue = queue.start d.queue }) f (λ l. sees_same l d (record d { queue = queue.start d.queue }) refl refl) all
@@ -312,17 +313,17 @@ module _ {D : Type 0} (disk : DiskMeaning D) (follows : FollowsItsMoves disk) (l
       down o.lenders base f f' (Send l q) sent_is.Down moved
       (but l o.lenders base f (allowed_alone o.lenders d base f (λ m. base_sees There d l m q e base one) all))
   each_allows x asked y k k' f f' (raises {d = d} {l = l} {r = r} within off) (by_fabric moved) before all = (
-    others o.lenders d (raised d l) f f' (Connect l (next_link d)) r moved
+    others o.lenders d (raised_after d l) f f' (Connect l (next_link d)) r moved
         (λ m other.
         record {
           holds = holds_itself m d.remote.slabs;
-          ring = ap (λ (x : LinkState). x.ring) (link-other d.remote.links l m rings.fresh other);
-          up = ap (λ (x : LinkState). x.up) (link-other d.remote.links l m rings.fresh other);
+          ring = ap (λ (x : LinkState). x.ring) (link-other d.remote.links l m rings.link_at_start other);
+          up = ap (λ (x : LinkState). x.up) (link-other d.remote.links l m rings.link_at_start other);
           sizes = refl;
         })
         (but l o.lenders d f all),
-    λ _ up. at_called (λ ch. Allowed (raised d l) l ch (hello d.sizes ∷ [])) f f' (Connect l (next_link d)) r moved
-        (allows_new d.sizes d.remote.slabs (ring_of (raised d l).remote.links l) l (connected (channel_of f l) (next_link d)).lender (next_link d)
+    λ _ up. at_called (λ ch. Allowed (raised_after d l) l ch (hello d.sizes ∷ [])) f f' (Connect l (next_link d)) r moved
+        (allows_new d.sizes d.remote.slabs (ring_of (raised_after d l).remote.links l) l (connect_after (channel_of f l) (next_link d)).lender (next_link d)
         (λ i m t j e held.
         connected_none (channel_of f l) (next_link d) (before.0.1.0.lodged l moved.0.range) i (record { link = m; slab = t; lease = j }) (ap tenant held))
         (none_drain o.lenders d f l (serves_at d k f before.0.0) off)

@@ -252,7 +252,7 @@ holds_apart l states t x was now =
     own : (l : Lender) (k : Lease) → ((l.0 == l.0) && (k.0 == k.0)) ≡ true
     own l k = and_from (l.0 == l.0) (k.0 == k.0) (eq-eqb l.0 l.0 refl) (eq-eqb k.0 k.0 refl)
 
-pub holds_begun : (l : Lender) (states : List SlabState) (t : Slab) → Holds l states (slabs.begun states t)
+pub holds_begun : (l : Lender) (states : List SlabState) (t : Slab) → Holds l states (slabs.begun_after states t)
 holds_begun l states t =
     holds_set l states t (slabs.after_begin (state_of states t)) (λ k f is. go (state_of states t) refl k f is) (λ k at. leased (state_of states t) k at)
   where
@@ -273,7 +273,7 @@ holds_begun l states t =
     leased (Mapped m j g) k at = at
     leased (Draining m j g) k at = at
 
-pub holds_answered : (l m : Lender) (states : List SlabState) (t : Slab) (r : Reply) → Holds l states (slabs.answered states t m r)
+pub holds_answered : (l m : Lender) (states : List SlabState) (t : Slab) (r : Reply) → Holds l states (slabs.answered_after states t m r)
 holds_answered l m states t r =
     holds_set l states t (slabs.after_answer (state_of states t) m r) (λ k f is. go (state_of states t) refl k f is) (λ k at. leased (state_of states t) k at)
   where
@@ -284,7 +284,7 @@ holds_answered l m states t r =
         (x : SlabState) → state_of states t ≡ x → (k : Lease) (f : ℕ) → slabs.after_answer x m r ≡ Draining l k f
         → (g : ℕ) × (state_of states t ≡ Draining l k g)
     go Local at k f is = cc
-    go (Asking pair) at k f is = absurd (no_drain (slabs.replied pair m r) k f is)
+    go (Asking pair) at k f is = absurd (no_drain (slabs.with_reply pair m r) k f is)
     go (Borrowing o) at k f is = cc
     go (Mapped o j g) at k f is = cc
     go (Draining o j g) at k f is = (f, at ∙ is)
@@ -296,7 +296,7 @@ holds_answered l m states t r =
     leased (Mapped o j g) k at = at
     leased (Draining o j g) k at = at
 
-pub holds_lost : (l m : Lender) (states : List SlabState) → (l.0 ≡ m.0 → ⊥) → Holds l states (slabs.lost states m)
+pub holds_lost : (l m : Lender) (states : List SlabState) → (l.0 ≡ m.0 → ⊥) → Holds l states (slabs.lost_after states m)
 holds_lost l m states other = record {
   drains = λ t k f is. (f, go (state_of states t) k f (sym (state-lost states m t.0) ∙ is));
   leased = λ t k at. leases_lost l m states other t k ∙ at;
@@ -317,7 +317,7 @@ elsewhere l m j k x other at = go (slabs.leased_of x) at
         other (sym (eqb-true p.0.0 m.0 (and_parts (p.0.0 == m.0) (p.1.0 == k.0) here).0) ∙ eqb-true p.0.0 l.0 (and_parts (p.0.0 == l.0) (p.1.0 == j.0) at).0))
 
 -- a slab that drains has no lease that it hadn't
-drained_none : (l m : Lender) (j k : Lease) (f : ℕ) → has_lease l k (Draining m j f) ≡ false → has_lease l k (slabs.drained m j f) ≡ false
+drained_none : (l m : Lender) (j k : Lease) (f : ℕ) → has_lease l k (Draining m j f) ≡ false → has_lease l k (slabs.drain_to m j f) ≡ false
 drained_none l m j k f none = cond_both (f == 0) Local (Draining m j f) (λ x. has_lease l k x ≡ false) (λ _. refl) (λ _. none)
 
 pub settled_none : (l : Lender) (k : Lease) (x : SlabState) → has_lease l k x ≡ false → has_lease l k (slabs.after_settled x) ≡ false

@@ -7,7 +7,7 @@ use Rattle.swap_wire.specs.Fabric.{Parcel, FabricOf, Give}
 use Rattle.swap_rings.specs.Rings.{is_up}
 use Rattle.swap_lender.specs.Table.{may_send}
 use Rattle.swap_table.specs.Device.{Device, of_device}
-use Rattle.swap_link.specs.Channel.{Channel, given, given_from}
+use Rattle.swap_link.specs.Channel.{Channel, give_after, given_from}
 use Rattle.swap_link.specs.Harbor as harbor
 use Rattle.swap_link.specs.Harbor.{Harbor, channel_of, of_harbor}
 use Rattle.swap_joint.specs.Lenders.{AreSound}
@@ -22,7 +22,7 @@ use Rattle.swap_joint.proofs.LeftGives.{left_at, left_may}
 -- a lender that may be sent what comes first ends nothing
 gave_fair :
     (c : Channel) → (c.lender_gone ≡ false → (q : Parcel) (ps : List Parcel) → c.to_lender.parcels ≡ q ∷ ps → may_send c.lender c.number q.msg ≡ true)
-    → ends_it (given c).0 ≡ false
+    → ends_it (give_after c).0 ≡ false
 gave_fair c may = cond_both c.lender_gone _ _ (λ (x : Gave × Channel). ends_it x.0 ≡ false) (λ _. refl) (λ stands. from stands c.to_lender.parcels refl)
   where
     from : c.lender_gone ≡ false → (ps : List Parcel) → c.to_lender.parcels ≡ ps → ends_it (given_from c ps).0 ≡ false

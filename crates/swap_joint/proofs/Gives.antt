@@ -27,12 +27,12 @@ use Rattle.swap_rings.specs.declared.Request.{Request}
 use Rattle.swap_rings.specs.declared.Request.TheVariants as request
 use Rattle.swap_lender.specs.declared.SlotState.{SlotState}
 use Rattle.swap_lender.specs.declared.SlotState.TheVariants.{Free, Held}
-use Rattle.swap_lender.specs.Lender.{Lender, slot_in, slot_of, has_greeted, first_where, is_free, lends, free, page_in, with_page, blank}
-use Rattle.swap_lender.specs.Table.{Turn, serve, hello, lend, due, may_send, opens, asked, to_evict, measured, host}
+use Rattle.swap_lender.specs.Lender.{Lender, slot_in, slot_of, has_greeted, first_where, is_free, lends, slots_free, page_in, with_page, blank_slab}
+use Rattle.swap_lender.specs.Table.{Turn, serve, hello, lend, slots_due, may_send, opens, asked_slots, to_evict, measure_after, host}
 use Rattle.swap_lender.specs.Calls.{tenant}
 use Rattle.swap_link.specs.Fits.{IsSound}
-use Rattle.swap_link.specs.Lane.{Lane, appended}
-use Rattle.swap_link.specs.Channel.{Channel, posted, forwarded, delivered, given, given_from}
+use Rattle.swap_link.specs.Lane.{Lane, append_after}
+use Rattle.swap_link.specs.Channel.{Channel, post_after, forward_after, deliver_after, give_after, given_from}
 use Rattle.swap_link.specs.Keeping.{Unless}
 use Rattle.swap_link.specs.lemmas.KeepLaws.{took-served, unless}
 use Rattle.swap_joint.specs.Seats.{is_done}
@@ -52,8 +52,8 @@ use Rattle.swap_joint.proofs.Served.{or_parts, allows_reply, allows_popped, allo
 use Rattle.swap_joint.proofs.Granted.{allows_done, allows_rate, allows_settled, allows_granted, allows_opened, asked_low}
 
 -- a reply goes on the lender's own link
-own_link : (n : Link) (b : Lane) (q : Parcel) → posted n b n q ≡ appended b q
-own_link n b q = cond-true (n.0 == n.0) (appended b q) b (eq-eqb n.0 n.0 refl)
+own_link : (n : Link) (b : Lane) (q : Parcel) → post_after n b n q ≡ append_after b q
+own_link n b q = cond-true (n.0 == n.0) (append_after b q) b (eq-eqb n.0 n.0 refl)
 
 -- a slot of which no test holds is free
 pub lowest_free : (slots : List SlotState) → slot_in slots (first_where is_free slots) ≡ Free
@@ -91,22 +91,22 @@ module _ (s : Sizes) (states : List SlabState) (ring : List Request) (l : Lender
     (wants : Wants states ring l table n b.parcels ended q ps) (h : Allows s states ring l table n b.parcels ended (q ∷ ps)) where
   pub serve_by :
       (m : Msg) (page : List ℕ) → q.msg ≡ m
-      → Allows s states ring l (serve table n m page).lender n (forwarded n b (serve table n m page).parcels).parcels ended ps
+      → Allows s states ring l (serve table n m page).lender n (forward_after n b (serve table n m page).parcels).parcels ended ps
   serve_by (msg.Hello version page_bytes pages_per_slab) page is =
       allows_greeted s states ring l table n b.parcels ended q ps (ap is_hello is) (λ k. ap (is_done k) is) wants.hello h
   serve_by (msg.Query t) page is =
-      let r : Parcel = parcel_of (msg.Room t (free table)) [] in
+      let r : Parcel = parcel_of (msg.Room t (slots_free table)) [] in
       subst (λ (z : Lane). Allows s states ring l table n z.parcels ended ps) (sym (own_link n b r))
       (allows_reply s states ring l table n b r ended ps ((λ k. refl), (λ k. refl), (λ u i m k e refused _. both_ways false refl refused))
       (allows_popped s states ring l table n b.parcels ended q ps (λ k. ap (is_done k) is) (ap is_hello is) h))
   serve_by (msg.Borrow t) page is =
       let popped = allows_popped s states ring l table n b.parcels ended q ps (λ k. ap (is_done k) is) (ap is_hello is) h in
       let want = wants.borrow t is in
-      cond_both (lends table) _ _ (λ (x : Turn). Allows s states ring l x.lender n (forwarded n b x.parcels).parcels ended ps)
+      cond_both (lends table) _ _ (λ (x : Turn). Allows s states ring l x.lender n (forward_after n b x.parcels).parcels ended ps)
       (λ _. let r : Parcel = parcel_of (msg.Lent t (record { 0 = table.next_lease })) [] in
       let now =
       allows_granted s states ring l table n b.parcels ended ps (first_where is_free table.slots) n t (record { 0 = table.next_lease })
-      (set table.contents (first_where is_free table.slots) (blank table.lending)) (table.next_lease + 1)
+      (set table.contents (first_where is_free table.slots) (blank_slab table.lending)) (table.next_lease + 1)
       (lowest_free table.slots) want.0 want.1 want.2 popped in
       subst (λ (z : Lane). Allows s states ring l (lend table n t (first_where is_free table.slots)).lender n z.parcels ended ps) (sym (own_link n b r))
       (allows_reply s states ring l (lend table n t (first_where is_free table.slots)).lender n b r ended ps
@@ -139,7 +139,7 @@ module _ (s : Sizes) (states : List SlabState) (ring : List Request) (l : Lender
       (allows_rate s states ring l table n b.parcels ended sound q ps j v w is h)
       in
       allows_settled s states ring l (record table { round = option_map (answer (slot_of table n j) v) table.round }) n b ended ps
-      (sound_round (option_map (answer (slot_of table n j) v) table.round)) (due (option_map (answer (slot_of table n j) v) table.round)) refl
+      (sound_round (option_map (answer (slot_of table n j) v) table.round)) (slots_due (option_map (answer (slot_of table n j) v) table.round)) refl
       (untold_answered table.round (slot_of table n j) v table.slots untold) noted
     where
       sound_round : (o : Option Round) → IsSound (record table { round = o })
@@ -299,13 +299,13 @@ stands_so false P p = p
 pub allowed_given :
     (d : Device) (l : LenderNo) (c : Channel) → IsSound c.lender → AsksUntold c.lender.round c.lender.slots → Lodges c
     → (c.lender_gone ≡ false → has_greeted (hello c.lender c.number).lender c.number ≡ true) → Joined d l c → AreInOrder (ring_of d.remote.links l)
-    → Allowed d l c [] → Allowed d l (given c).1 []
+    → Allowed d l c [] → Allowed d l (give_after c).1 []
 allowed_given d l c sound untold lodges greeted joined ordered h =
     cond_both c.lender_gone _ _ (λ (x : Gave × Channel). Allowed d l x.1 []) (λ _. h) (λ stands. from stands c.to_lender.parcels refl)
   where
     fine :
         c.lender_gone ≡ false → (q : Parcel) (ps : List Parcel) → c.to_lender.parcels ≡ q ∷ ps
-        → Allowed d l (delivered (record c { to_lender = record c.to_lender { parcels = ps } }) (serve c.lender c.number q.msg q.page)) []
+        → Allowed d l (deliver_after (record c { to_lender = record c.to_lender { parcels = ps } }) (serve c.lender c.number q.msg q.page)) []
     fine stands q ps front =
         let A : List Parcel → Type 0 =
         λ out. Allows d.sizes d.remote.slabs (ring_of d.remote.links l) l c.lender c.number c.to_device.parcels c.to_lender.ended out in
@@ -321,7 +321,7 @@ allowed_given d l c sound untold lodges greeted joined ordered h =
         (subst
         (λ out.
         Allows d.sizes d.remote.slabs (ring_of d.remote.links l) l (serve c.lender c.number q.msg q.page).lender c.number
-        (forwarded c.number c.to_device (serve c.lender c.number q.msg q.page).parcels).parcels c.to_lender.ended out)
+        (forward_after c.number c.to_device (serve c.lender c.number q.msg q.page).parcels).parcels c.to_lender.ended out)
         (sym (append-nil ps))
         (serve_by d.sizes d.remote.slabs (ring_of d.remote.links l) l c.lender c.number c.to_device c.to_lender.ended q ps sound
         (λ i m t k e is. (lodges i (record { link = m; slab = t; lease = k }) (ap tenant is)).1) untold wants now q.msg q.page refl))
@@ -331,36 +331,37 @@ allowed_given d l c sound untold lodges greeted joined ordered h =
     from stands (q ∷ ps) is =
         cond_both (may_send c.lender c.number q.msg) _ _ (λ (x : Gave × Channel). Allowed d l x.1 [])
         (λ may.
-        subst (λ (t : Turn). Allowed d l (delivered (record c { to_lender = record c.to_lender { parcels = ps } }) t) [])
+        subst (λ (t : Turn). Allowed d l (deliver_after (record c { to_lender = record c.to_lender { parcels = ps } }) t) [])
         (sym (took-served c.lender c.number q.msg q.page may)) (fine stands q ps is))
         (λ _. tt)
 
 -- the lender measures its host
 pub allowed_hosted :
     (d : Device) (l : LenderNo) (c : Channel) (used word : ℕ) → IsReached c.lender → IsSound c.lender → Allowed d l c []
-    → Allowed d l (delivered c (host c.lender used word)) []
+    → Allowed d l (deliver_after c (host c.lender used word)) []
 allowed_hosted d l c used word reached sound h = go c.lender_gone refl
   where
     hosted_ :
         c.lender_gone ≡ false
         → Allows d.sizes d.remote.slabs (ring_of d.remote.links l) l (host c.lender used word).lender c.number
-        (forwarded c.number c.to_device (host c.lender used word).parcels).parcels c.to_lender.ended (c.to_lender.parcels ++ [])
+        (forward_after c.number c.to_device (host c.lender used word).parcels).parcels c.to_lender.ended (c.to_lender.parcels ++ [])
     hosted_ stands =
         let now : Allows d.sizes d.remote.slabs (ring_of d.remote.links l) l c.lender c.number c.to_device.parcels c.to_lender.ended
         (c.to_lender.parcels ++ []) =
         opened_by c.lender_gone _ stands h in
-        let m : Lender = measured c.lender used in
-        cond_both (opens (measured c.lender used)) _ _
+        let m : Lender = measure_after c.lender used in
+        cond_both (opens (measure_after c.lender used)) _ _
         (λ (t : Turn). (host c.lender used word ≡ t)
-        → Allows d.sizes d.remote.slabs (ring_of d.remote.links l) l t.lender c.number (forwarded c.number c.to_device t.parcels).parcels c.to_lender.ended
+        → Allows d.sizes d.remote.slabs (ring_of d.remote.links l) l t.lender c.number (forward_after c.number c.to_device t.parcels).parcels c.to_lender.ended
         (c.to_lender.parcels ++ []))
         (λ opens_ is.
         allows_opened d.sizes d.remote.slabs (ring_of d.remote.links l) l c.lender c.number c.to_device c.to_lender.ended (c.to_lender.parcels ++ []) sound
-        (asked (measured c.lender used) word) (to_evict (measured c.lender used)) (measured c.lender used).usage
+        (asked_slots (measure_after c.lender used) word) (to_evict (measure_after c.lender used)) (measure_after c.lender used).usage
         (none_is c.lender.round (and_parts (is_none c.lender.round) _ opens_).0)
-        (λ i inside. (asked_low (measured c.lender used) word i inside, asks_stay c.lender used word reached (λ n r. (are_owned n r).round) is i inside)) now)
+        (λ i inside. (asked_low (measure_after c.lender used) word i inside, asks_stay c.lender used word reached (λ n r. (are_owned n r).round) is i inside))
+        now)
         (λ _ is.
-        allows_table d.sizes d.remote.slabs (ring_of d.remote.links l) l c.lender (measured c.lender used) c.number c.to_device.parcels c.to_lender.ended
+        allows_table d.sizes d.remote.slabs (ring_of d.remote.links l) l c.lender (measure_after c.lender used) c.number c.to_device.parcels c.to_lender.ended
         (c.to_lender.parcels ++ []) refl refl refl now)
         refl
       where
@@ -368,6 +369,6 @@ allowed_hosted d l c used word reached sound h = go c.lender_gone refl
         none_is None e = refl
         none_is (Some r) e = cc
 
-    go : (b : Bool) → c.lender_gone ≡ b → Allowed d l (delivered c (host c.lender used word)) []
+    go : (b : Bool) → c.lender_gone ≡ b → Allowed d l (deliver_after c (host c.lender used word)) []
     go true left = unless c.lender_gone _ (λ stands. absurd (both_ways c.lender_gone stands left))
     go false stands = stands_so c.lender_gone _ (hosted_ stands)

@@ -18,7 +18,7 @@ use Rattle.swap_choice.specs.Picks.{picks}
 use Rattle.swap_choice.proofs.PicksLemmas.{IsPermutation-picks}
 use Rattle.swap_choice.proofs.Ranks.{has-set_of, any-filter-out}
 use Rattle.swap_choice.proofs.Chosen.{has-zero}
-use Rattle.swap_evict.specs.Rounds.{Round, opened, answer, waits_for}
+use Rattle.swap_evict.specs.Rounds.{Round, round_at_start, answer, waits_for}
 use Rattle.swap_slabs.specs.Slabs.{has_lease, state_of}
 use Rattle.swap_slabs.specs.declared.SlabState.{SlabState}
 use Rattle.swap_slabs.specs.declared.SlabState.TheVariants.{Draining}
@@ -27,10 +27,10 @@ use Rattle.swap_lender.specs.declared.SlotState.{SlotState}
 use Rattle.swap_lender.specs.declared.SlotState.TheVariants.{Free, Held}
 use Rattle.swap_lender.specs.declared.Notice.TheVariants as notice
 use Rattle.swap_lender.specs.Lender.{Lender, slot_in, has_greeted, is_staying, is_evicting}
-use Rattle.swap_lender.specs.Table.{settle_with, due, marked, told, message_of, staying, to_ask, asked}
+use Rattle.swap_lender.specs.Table.{settle_with, slots_due, mark_slots, parcels_told, message_of, staying_slots, to_ask, asked_slots}
 use Rattle.swap_link.specs.Fits.{IsSound}
 use Rattle.swap_link.specs.Lane.{Lane}
-use Rattle.swap_link.specs.Channel.{forwarded}
+use Rattle.swap_link.specs.Channel.{forward_after}
 use Rattle.swap_joint.specs.Seats.{is_done}
 use Rattle.swap_joint.specs.Stored.{gives_back}
 use Rattle.swap_joint.specs.Turn.{AsksUntold}
@@ -274,8 +274,8 @@ module _ (s : Sizes) (states : List SlabState) (ring : List Request) (l : Lender
   closed :
       (set : ℕ) → ((i : ℕ) → has set i ≡ true → is_evicting (slot_in table.slots i) ≡ false) → ((k : Lease) → Waits table k → ⊥)
       → Allows s states ring l table n b.parcels ended out
-      → Allows s states ring l (record table { slots = marked set 0 table.slots; round = None }) n
-      (forwarded n b (told notice.Evict set 0 table.slots)).parcels ended out
+      → Allows s states ring l (record table { slots = mark_slots set 0 table.slots; round = None }) n
+      (forward_after n b (parcels_told notice.Evict set 0 table.slots)).parcels ended out
   closed set off waited h = record {
     told = λ k e. elim (told_named notice.Evict (is_evict k) n set 0 table.slots b e) [
       | inl was ↦ still k (h.told k was)
@@ -317,16 +317,16 @@ module _ (s : Sizes) (states : List SlabState) (ring : List Request) (l : Lender
       | inr new ↦ both_ways false refl new.passes
     ];
     free =
-        free_map table.slots (marked set 0 table.slots) (λ k. ⊥) (λ k. ⊥) out
+        free_map table.slots (mark_slots set 0 table.slots) (λ k. ⊥) (λ k. ⊥) out
         (λ u x y k e _ held. (was_marked set 0 table.slots x y u k e held, λ given. given)) h.free;
     greets = h.greets;
     kinds = h.kinds;
   }
     where
-      still : (k : Lease) → HasSlot table.slots k true → HasSlot (marked set 0 table.slots) k true
+      still : (k : Lease) → HasSlot table.slots k true → HasSlot (mark_slots set 0 table.slots) k true
       still k (x, y, u, held) = (x, y, u, kept_marked set 0 table.slots x y u k held)
 
-      now : (k : Lease) → IsNotified notice.Evict (is_evict k) set 0 table.slots → HasSlot (marked set 0 table.slots) k true
+      now : (k : Lease) → IsNotified notice.Evict (is_evict k) set 0 table.slots → HasSlot (mark_slots set 0 table.slots) k true
       now k new = (
         new.at,
         new.link,
@@ -337,12 +337,12 @@ module _ (s : Sizes) (states : List SlabState) (ring : List Request) (l : Lender
 
   -- a round that is ready is closed
   pub allows_settled :
-      (o : Option ℕ) → due table.round ≡ o → AsksUntold table.round table.slots → Allows s states ring l table n b.parcels ended out
-      → Allows s states ring l (settle_with table o).lender n (forwarded n b (settle_with table o).parcels).parcels ended out
+      (o : Option ℕ) → slots_due table.round ≡ o → AsksUntold table.round table.slots → Allows s states ring l table n b.parcels ended out
+      → Allows s states ring l (settle_with table o).lender n (forward_after n b (settle_with table o).parcels).parcels ended out
   allows_settled None is untold h = h
   allows_settled (Some set) is untold h =
       closed set (λ i inside. due_asked table.round table.slots set i untold is inside)
-      (λ k w. some_none (sym (ap due w.open_ ∙ not_ready w.round w.at w.low w.answered w.gone w.waits) ∙ is)) h
+      (λ k w. some_none (sym (ap slots_due w.open_ ∙ not_ready w.round w.at w.low w.answered w.gone w.waits) ∙ is)) h
 
 -- a slot is lent
 
@@ -439,13 +439,15 @@ or_step : (a b c : Bool) → (b ≡ true → c ≡ true) → (a || b) ≡ true �
 or_step true b c each e = refl
 or_step false b c each e = each e
 
-pub asked_low : (table : Lender) (word i : ℕ) → has (asked table word) i ≡ true → i < 64
+pub asked_low : (table : Lender) (word i : ℕ) → has (asked_slots table word) i ≡ true → i < 64
 unfolding slots
 asked_low table word i e = elim (cases_lt i 64) [
   | inl within ↦ within
-  | inr past ↦ absurd (both_ways (list_any (λ x. eqb i x) (slots (staying table))) (any-filter-out (has (staying table)) 0 64 i (inr past))
-      (list_any-IsPermutation (λ x. eqb i x) (slots (staying table)) (picks word (slots (staying table))) (IsPermutation-picks word (slots (staying table)))
-      ∙ any_of_take (to_ask table) (picks word (slots (staying table))) (has-set_of (take (to_ask table) (picks word (slots (staying table)))) i ∙ e)))
+  | inr past ↦ absurd (both_ways (list_any (λ x. eqb i x) (slots (staying_slots table))) (any-filter-out (has (staying_slots table)) 0 64 i (inr past))
+      (list_any-IsPermutation (λ x. eqb i x) (slots (staying_slots table)) (picks word (slots (staying_slots table)))
+      (IsPermutation-picks word (slots (staying_slots table)))
+      ∙ any_of_take (to_ask table) (picks word (slots (staying_slots table))) (has-set_of (take (to_ask table) (picks word (slots (staying_slots table)))) i
+      ∙ e)))
 ]
   where
     any_of_take : (m : ℕ) (xs : List ℕ) → list_any (λ x. eqb i x) (take m xs) ≡ true → list_any (λ x. eqb i x) xs ≡ true
@@ -461,7 +463,7 @@ staying_untold Free e = cc
 staying_untold (Held n t k true) e = cc
 staying_untold (Held n t k false) e = refl
 
-opened_waits : (set count i : ℕ) → has set i ≡ true → waits_for (opened set count) i ≡ true
+opened_waits : (set count i : ℕ) → has set i ≡ true → waits_for (round_at_start set count) i ≡ true
 opened_waits set count i e = all_three (has set i) (has 0 i) (has 0 i) e (has-zero i) (has-zero i)
   where
     all_three : (a b c : Bool) → a ≡ true → b ≡ false → c ≡ false → (a && not b && not c) ≡ true
@@ -472,8 +474,8 @@ module _ (s : Sizes) (states : List SlabState) (ring : List Request) (l : Lender
   pub allows_opened :
       (set count usage : ℕ) → table.round ≡ None → ((i : ℕ) → has set i ≡ true → (i < 64) × (is_staying (slot_in table.slots i) ≡ true))
       → Allows s states ring l table n b.parcels ended out
-      → Allows s states ring l (record table { usage = usage; round = Some (opened set count) }) n
-      (forwarded n b (told notice.AskRates set 0 table.slots)).parcels ended out
+      → Allows s states ring l (record table { usage = usage; round = Some (round_at_start set count) }) n
+      (forward_after n b (parcels_told notice.AskRates set 0 table.slots)).parcels ended out
   allows_opened set count usage none each h = record {
     told =
         λ k e.
@@ -514,11 +516,12 @@ module _ (s : Sizes) (states : List SlabState) (ring : List Request) (l : Lender
       waited : (k : Lease) → Waits table k → ⊥
       waited k w = some_none {P = ⊥} (sym none ∙ w.open_)
 
-      waits : (k : Lease) → IsNotified notice.AskRates (is_ask k) set 0 table.slots → Waits (record table { usage = usage; round = Some (opened set count) }) k
+      waits : (k : Lease) → IsNotified notice.AskRates (is_ask k) set 0 table.slots
+          → Waits (record table { usage = usage; round = Some (round_at_start set count) }) k
       waits k new =
           let inside : has set new.at ≡ true = subst (λ x. has set x ≡ true) (omega arith) new.inside in
           record {
-            round = opened set count;
+            round = round_at_start set count;
             open_ = refl;
             at = new.at;
             link = new.link;

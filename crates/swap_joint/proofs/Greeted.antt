@@ -11,8 +11,8 @@ use Rattle.swap_wire.specs.declared.Msg.TheVariants as msg
 use Rattle.swap_lender.specs.declared.SlotState.{SlotState}
 use Rattle.swap_lender.specs.declared.SlotState.TheVariants.{Free, Held}
 use Rattle.swap_lender.specs.declared.Peer.{Peer}
-use Rattle.swap_lender.specs.Lender.{Lender, fresh, slot_in, slot_of, has_greeted, is_greeted, is_peer, is_of, first_where, is_free, lends, is_for}
-use Rattle.swap_lender.specs.Table.{Turn, serve, took, may_send, greet_peer, settle_with, due, freed, left, without_peer, has_room, arrive, gone, restart, host, measured, opens}
+use Rattle.swap_lender.specs.Lender.{Lender, lender_at_start, slot_in, slot_of, has_greeted, is_greeted, is_peer, is_of, first_where, is_free, lends, is_for}
+use Rattle.swap_lender.specs.Table.{Turn, serve, took_after, may_send, greet_peer, settle_with, slots_due, free_slot, round_left, without_peer, has_room, arrive, gone_after, restart, host, measure_after, opens}
 use Rattle.swap_lender.specs.Calls.{Call, Arrive, Took, Host as Hosts, Gone, Restart, run}
 use Rattle.swap_evict.specs.Rounds.{answer}
 use Rattle.swap_joint.specs.Lenders.{IsReached}
@@ -64,7 +64,7 @@ any_stays n m (p ∷ ps) other h = go (not (is_peer n p)) refl (any_stays n m ps
         dropped false e h = more h
 
 freed_other :
-    (n : Link) (slots : List SlotState) (i : ℕ) (m : Link) (t : Slab) (k : Lease) (e : Bool) → slot_in (map (freed n) slots) i ≡ Held m t k e
+    (n : Link) (slots : List SlotState) (i : ℕ) (m : Link) (t : Slab) (k : Lease) (e : Bool) → slot_in (map (free_slot n) slots) i ≡ Held m t k e
     → (m.0 ≡ n.0 → ⊥) × (slot_in slots i ≡ Held m t k e)
 freed_other n [] i m t k e h = cc
 freed_other n (s ∷ ss) zero m t k e h = go s (is_of n s) refl h
@@ -92,7 +92,7 @@ greet_serve l n (msg.Borrow u) page may h = cond_both (lends l) _ _ (λ (x : Tur
     link_is : (m : Link) (t : Slab) (k : Lease) (e : Bool) → Held n u (record { 0 = l.next_lease }) false ≡ Held m t k e → n ≡ m
     link_is m t k e is = cc
 greet_serve l n (msg.Rates j value) page may h =
-    greet_settle (record l { round = option_map (answer (slot_of l n j) value) l.round }) (due (option_map (answer (slot_of l n j) value) l.round)) h
+    greet_settle (record l { round = option_map (answer (slot_of l n j) value) l.round }) (slots_due (option_map (answer (slot_of l n j) value) l.round)) h
 greet_serve l n (msg.Done j) page may h = λ i m t k e held. h i m t k e (freed_was l.slots (slot_of l n j) i m t k e held).1
 greet_serve l n _ page may h = h
 
@@ -108,11 +108,11 @@ greet_each = record {
       cond_both (has_room l) _ _ HeldGreet (λ _ i m t k e held. any_front (is_greeted m) l.peers (record { link = n; greeted = false } ∷ []) (h i m t k e held))
       (λ _. h);
   takes = λ l n m page h. cond_both (may_send l n m) _ _ (λ (x : Turn). HeldGreet x.lender) (λ may. greet_serve l n m page may h) (λ _. h);
-  hosts = λ l used word h. cond_both (opens (measured l used)) _ _ (λ (x : Turn). HeldGreet x.lender) (λ _. h) (λ _. h);
+  hosts = λ l used word h. cond_both (opens (measure_after l used)) _ _ (λ (x : Turn). HeldGreet x.lender) (λ _. h) (λ _. h);
   leaves =
       λ l n h.
-      greet_settle (record l { slots = map (freed n) l.slots; peers = without_peer n l.peers; round = option_map (left n l.slots) l.round })
-      (due (option_map (left n l.slots) l.round))
+      greet_settle (record l { slots = map (free_slot n) l.slots; peers = without_peer n l.peers; round = option_map (round_left n l.slots) l.round })
+      (slots_due (option_map (round_left n l.slots) l.round))
       (λ i m t k e held. let was = freed_other n l.slots i m t k e held in any_stays n m l.peers was.0 (h i m t k e was.1));
   restarts = λ l h i m t k e held. absurd (none_free l.lending.spec.slots i m t k e held);
 }
@@ -120,13 +120,13 @@ greet_each = record {
 run_keeps : (P : Lender → Type 0) → EachKeeps P → (l : Lender) (calls : List Call) → P l → P (run l calls)
 run_keeps P each l [] h = h
 run_keeps P each l (Arrive n ∷ calls) h = run_keeps P each (arrive l n) calls (each.arrives l n h)
-run_keeps P each l (Took n m page ∷ calls) h = run_keeps P each (took l n m page).lender calls (each.takes l n m page h)
+run_keeps P each l (Took n m page ∷ calls) h = run_keeps P each (took_after l n m page).lender calls (each.takes l n m page h)
 run_keeps P each l (Hosts used word ∷ calls) h = run_keeps P each (host l used word).lender calls (each.hosts l used word h)
-run_keeps P each l (Gone n ∷ calls) h = run_keeps P each (gone l n).lender calls (each.leaves l n h)
+run_keeps P each l (Gone n ∷ calls) h = run_keeps P each (gone_after l n).lender calls (each.leaves l n h)
 run_keeps P each l (Restart ∷ calls) h = run_keeps P each (restart l) calls (each.restarts l h)
 
 -- each held slot is of a link that has greeted
 pub held_greeted : (l : Lender) → IsReached l → (i : ℕ) (m : Link) (t : Slab) (k : Lease) (e : Bool) → slot_in l.slots i ≡ Held m t k e → has_greeted l m ≡ true
 held_greeted l r =
     subst HeldGreet (sym r.is)
-    (run_keeps HeldGreet greet_each (fresh r.lending) r.calls (λ i m t k e held. absurd (none_free r.lending.spec.slots i m t k e held)))
+    (run_keeps HeldGreet greet_each (lender_at_start r.lending) r.calls (λ i m t k e held. absurd (none_free r.lending.spec.slots i m t k e held)))

@@ -26,14 +26,14 @@ use Rattle.swap_rings.specs.declared.Request.{Request}
 use Rattle.swap_rings.specs.declared.Request.TheVariants.{Query, Borrow, Write, Read}
 use Rattle.swap_remote.specs.Remote.{Remote, slab_for, state_for, has_page}
 use Rattle.swap_table.specs.Device.{Device, borrow_reply}
-use Rattle.swap_table.specs.Serves.{Keeping, Owing, latest, entry_to, bytes_of, IsLeasedFrom, IsAwaited, PageFits, Serves}
+use Rattle.swap_table.specs.Serves.{Keeping, Owing, latest_write, entry_to, bytes_of, IsLeasedFrom, IsAwaited, PageFits, Serves}
 use Rattle.swap_table.proofs.Links.{by_slab, state-same, state-other}
-use Rattle.swap_link.specs.Lane.{Lane, appended}
+use Rattle.swap_link.specs.Lane.{Lane, append_after}
 use Rattle.swap_link.specs.Channel.{Channel}
 use Rattle.swap_link.specs.Keeping.{Unless}
 use Rattle.swap_link.specs.lemmas.KeepLaws.{unless-map, unless-at}
 use Rattle.swap_joint.specs.Order.{is_request, is_reply, replies_by, Carries, served_of}
-use Rattle.swap_joint.specs.Brought.{found, HoldsFor, Replied, Asked}
+use Rattle.swap_joint.specs.Brought.{page_found, HoldsFor, Replied, Asked}
 use Rattle.swap_joint.specs.Sight.{FewerLeases, StaysLeased, KeepsEntries, StillReads, SeesSame}
 use Rattle.swap_joint.specs.Stored.{gives_back, lends_in, lends_slab, lends_to, AreNew, IsGivenBack, Stored, JoinedOf, Joined}
 use Rattle.swap_joint.specs.Seats.{HasSeat, is_done}
@@ -65,7 +65,7 @@ new_fewer l states states' ps fewer new =
 abbrev pub BitsFound : Sizes → History → History → List SlabState → List Bool → List Bool → Lender → Channel → Type 0
 BitsFound s H H' states bits bits' l c =
     (p : Page) (k : Lease) → has_lease l k (state_for s states p) ≡ true → has bits' p.0 ≡ true
-    → ((has bits p.0 ≡ true) × (array (zeros s) H' p ≡ array (zeros s) H p)) ⊎ (found s c k p ≡ Some (array (zeros s) H' p))
+    → ((has bits p.0 ≡ true) × (array (zeros s) H' p ≡ array (zeros s) H p)) ⊎ (page_found s c k p ≡ Some (array (zeros s) H' p))
 
 stored_seen :
     (s : Sizes) (H H' : History) (states states' : List SlabState) (bits bits' : List Bool) (l : Lender) (c : Channel) (S : List Request)
@@ -102,13 +102,13 @@ joined_same l d d' c sees h =
     (ring_of d.remote.links l) l c sees.fewer sees.leased sees.entries (λ p k at set. inl (sees.bits p k at set)) sees.calls h))
 
 -- a message more to the lender: what it gives back was given back, or it gives it back
-gives-append : (k : Lease) (a : Lane) (q : Parcel) → gives_back k (appended a q).parcels ≡ true → (gives_back k a.parcels ≡ true) ⊎ (is_done k q.msg ≡ true)
+gives-append : (k : Lease) (a : Lane) (q : Parcel) → gives_back k (append_after a q).parcels ≡ true → (gives_back k a.parcels ≡ true) ⊎ (is_done k q.msg ≡ true)
 gives-append k a q =
     by_append (λ z. gives_back k z.parcels ≡ true → (gives_back k a.parcels ≡ true) ⊎ (is_done k q.msg ≡ true)) a q (λ _ e. inl e)
     (λ _. any_last (λ (q : Parcel). is_done k q.msg) a.parcels q) (λ _ e. inl e)
 
 abbrev pub with_message : Channel → Parcel → Channel
-with_message c q = record c { to_lender = appended c.to_lender q }
+with_message c q = record c { to_lender = append_after c.to_lender q }
 
 stored_said :
     (s : Sizes) (H : History) (states : List SlabState) (bits : List Bool) (l : Lender) (c : Channel) (S : List Request) (q : Parcel)
@@ -144,7 +144,7 @@ pub joined_said :
     → JoinedOf s H cs states bits ring l c → JoinedOf s H cs states bits ring l (with_message c q)
 joined_said s H cs states bits ring l c q plain back h =
     joined s H cs states bits ring l (with_message c q) (served_of h.order) h.order.under_way h.present
-    (order_quiet (Replied s H cs states l) (Asked s H cs states l c) ring c.to_lender c.to_device (appended c.to_lender q) c.to_device
+    (order_quiet (Replied s H cs states l) (Asked s H cs states l c) ring c.to_lender c.to_device (append_after c.to_lender q) c.to_device
     (served_of h.order) h.order.under_way (said_quiet c.to_lender c.to_device q plain)
     (itself (Replied s H cs states l) (Asked s H cs states l c) ring c.to_lender c.to_device h.order))
     (unless_with c.lender_gone _ _
@@ -160,7 +160,7 @@ joined_said s H cs states bits ring l c q plain back h =
 abbrev pub without_reply : Channel → List Parcel → Channel
 without_reply c qs = record c { to_device = record c.to_device { parcels = qs } }
 
-latest-later : (p : Page) (x : Request) (rest : List Request) (e : EntryNo) → latest p rest ≡ Some e → latest p (x ∷ rest) ≡ Some e
+latest-later : (p : Page) (x : Request) (rest : List Request) (e : EntryNo) → latest_write p rest ≡ Some e → latest_write p (x ∷ rest) ≡ Some e
 latest-later p x rest e is = ap (λ o. first_of o (entry_to p x)) is
 
 or_parts : (a b : Bool) → (a || b) ≡ false → (a ≡ false) × (b ≡ false)
@@ -284,7 +284,7 @@ pub joined_wrote :
     (s : Sizes) (H : History) (cs : Calls) (states states' : List SlabState) (bits bits' : List Bool) (ring : List Request) (l : Lender) (c : Channel)
     (q : Parcel) (qs : List Parcel) (p : Page) (e : EntryNo)
     → c.to_device.parcels ≡ q ∷ qs → c.device_gone ≡ false → (t : Taken s H cs states bits ring l c q qs) → FewerLeases l states states'
-    → AllByRecursion (StaysLeased s l states states') t.rest → latest p (t.one ∷ t.left) ≡ Some e
+    → AllByRecursion (StaysLeased s l states states') t.rest → latest_write p (t.one ∷ t.left) ≡ Some e
     → bytes_of H e ≡ array (zeros s) H p → ((o : Page) → has bits' o.0 ≡ true → (has bits o.0 ≡ true) ⊎ (o.0 ≡ p.0))
     → JoinedOf s H cs states' bits' t.rest l (without_reply c qs)
 joined_wrote s H cs states states' bits bits' ring l c q qs p e front present t fewer leased last_write content lit =
@@ -299,7 +299,7 @@ joined_wrote s H cs states states' bits bits' ring l c q qs p e front present t 
       | inr same ↦ inr (
           let page : o ≡ p = ap (λ (n : ℕ). record { 0 = n }) same in
           let here : has_lease l j (state_for s states p) ≡ true = subst (λ (o : Page). has_lease l j (state_for s states o) ≡ true) page at in
-          subst (λ (o : Page). found s c j o ≡ Some (array (zeros s) H o)) (sym page) ((k.written p j e here last_write).1 ∙ ap (λ b. Some b) content)
+          subst (λ (o : Page). page_found s c j o ≡ Some (array (zeros s) H o)) (sym page) ((k.written p j e here last_write).1 ∙ ap (λ b. Some b) content)
           )
     ])
     (stored_left s H states bits l c q qs t.one t.left front k)) t.stored) (new_fewer l states states' qs fewer t.loans)
@@ -364,9 +364,9 @@ pub joined_lent :
     (qs : List Parcel) (u v : Slab) (k : Lease)
     → c.to_device.parcels ≡ q ∷ qs → c.device_gone ≡ false → (t : Taken s H cs states bits ring l c q qs)
     → u.0 < length states → state_of states u ≡ Borrowing l → borrow_reply q.msg ≡ Some (v, Some k) → v.0 ≡ u.0
-    → ((p : Page) (e : EntryNo) → slab_of s p.0 ≡ u.0 → latest p t.left ≡ Some e → ⊥) → ((p : Page) → slab_of s p.0 ≡ u.0 → has bits p.0 ≡ true → ⊥)
-    → AllByRecursion (NoNewLease s states (slabs.lent states u k) l) t.rest → ((j : Lease) → lends j q.msg ≡ true → lends_in j qs ≡ false)
-    → JoinedOf s H cs (slabs.lent states u k) bits t.rest l (without_reply c qs)
+    → ((p : Page) (e : EntryNo) → slab_of s p.0 ≡ u.0 → latest_write p t.left ≡ Some e → ⊥) → ((p : Page) → slab_of s p.0 ≡ u.0 → has bits p.0 ≡ true → ⊥)
+    → AllByRecursion (NoNewLease s states (slabs.lent_after states u k) l) t.rest → ((j : Lease) → lends j q.msg ≡ true → lends_in j qs ≡ false)
+    → JoinedOf s H cs (slabs.lent_after states u k) bits t.rest l (without_reply c qs)
 joined_lent s H cs states bits ring l c q qs u v k front present t within borrows reply same_slab none clear none_new lent_once =
     joined s H cs states' bits t.rest l (without_reply c qs) t.left t.under_way present
     (order_seen s H H cs cs states states' t.rest l c c.to_lender (record c.to_device { parcels = qs }) t.left t.under_way
@@ -406,9 +406,9 @@ joined_lent s H cs states bits ring l c q qs u v k front present t within borrow
     })
   where
     states' : List SlabState
-    states' = slabs.lent states u k
+    states' = slabs.lent_after states u k
 
-    now : state_of (slabs.lent states u k) u ≡ Mapped l k 0
+    now : state_of (slabs.lent_after states u k) u ≡ Mapped l k 0
     now = state-same states u (slabs.after_lent (state_of states u) k) within ∙ ap (λ x. slabs.after_lent x k) borrows
 
     any_first : (a b : Bool) → a ≡ true → (a || b) ≡ true
@@ -422,14 +422,14 @@ joined_lent s H cs states bits ring l c q qs u v k front present t within borrow
     and_off true = refl
     and_off false = refl
 
-    kept : (w : Slab) (j : Lease) → has_lease l j (state_of states w) ≡ true → has_lease l j (state_of (slabs.lent states u k) w) ≡ true
+    kept : (w : Slab) (j : Lease) → has_lease l j (state_of states w) ≡ true → has_lease l j (state_of (slabs.lent_after states u k) w) ≡ true
     kept w j at =
-        by_slab (λ w. has_lease l j (state_of states w) ≡ true → has_lease l j (state_of (slabs.lent states u k) w) ≡ true) u w
+        by_slab (λ w. has_lease l j (state_of states w) ≡ true → has_lease l j (state_of (slabs.lent_after states u k) w) ≡ true) u w
         (λ at. absurd (both_ways (has_lease l j (state_of states u)) (ap (has_lease l j) borrows) at))
         (λ other at. ap (has_lease l j) (state-other states u w (slabs.after_lent (state_of states u) k) other) ∙ at) at
 
     old :
-        (p : Page) (j : Lease) → (slab_of s p.0 ≡ u.0 → ⊥) → has_lease l j (state_for s (slabs.lent states u k) p) ≡ true
+        (p : Page) (j : Lease) → (slab_of s p.0 ≡ u.0 → ⊥) → has_lease l j (state_for s (slabs.lent_after states u k) p) ≡ true
         → has_lease l j (state_for s states p) ≡ true
     old p j other at = sym (ap (has_lease l j) (state-other states u (slab_for s p) (slabs.after_lent (state_of states u) k) other)) ∙ at
 
@@ -437,9 +437,9 @@ joined_lent s H cs states bits ring l c q qs u v k front present t within borrow
 
 pub latest_mapped :
     (s : Sizes) (H : History) (cs : Calls) (states : List SlabState) (l : Lender) (p : Page) (ring : List Request) (e : EntryNo)
-    → AllByRecursion (IsAwaited s H cs states l) ring → latest p ring ≡ Some e → IsLeasedFrom l (state_for s states p)
+    → AllByRecursion (IsAwaited s H cs states l) ring → latest_write p ring ≡ Some e → IsLeasedFrom l (state_for s states p)
 latest_mapped s H cs states l p [] e all is = cc
-latest_mapped s H cs states l p (x ∷ ring) e all is = go (latest p ring) refl is (latest_mapped s H cs states l p ring e all.1)
+latest_mapped s H cs states l p (x ∷ ring) e all is = go (latest_write p ring) refl is (latest_mapped s H cs states l p ring e all.1)
   where
     here : (x : Request) → IsAwaited s H cs states l x → entry_to p x ≡ Some e → IsLeasedFrom l (state_for s states p)
     here (Query t) a is = cc
@@ -452,7 +452,8 @@ latest_mapped s H cs states l p (x ∷ ring) e all is = go (latest p ring) refl 
         test false same is = cc
 
     go :
-        (o : Option EntryNo) → latest p ring ≡ o → first_of o (entry_to p x) ≡ Some e → (latest p ring ≡ Some e → IsLeasedFrom l (state_for s states p))
+        (o : Option EntryNo) → latest_write p ring ≡ o → first_of o (entry_to p x) ≡ Some e
+        → (latest_write p ring ≡ Some e → IsLeasedFrom l (state_for s states p))
         → IsLeasedFrom l (state_for s states p)
     go (Some f) same is rest = rest (same ∙ is)
     go None same is rest = here x all.0 is
@@ -471,10 +472,10 @@ clear_of keeps owes s n H cs r l k = record {
   where
     go :
         (p : Page) (j : Lease) (x : SlabState) → has_lease l j x ≡ true → has_page r p ≡ true → PageFits keeps s H r.links p (has_page r p) x
-        → latest p (ring_of r.links l) ≡ None
+        → latest_write p (ring_of r.links l) ≡ None
     go p j Local at set fits = cc
     go p j (Asking pair) at set fits = cc
     go p j (Borrowing m) at set fits = cc
     go p j (Draining m i f) at set fits = absurd (both_ways (has_page r p) fits set)
     go p j (Mapped m i f) at set fits =
-        subst (λ n. latest p (ring_of r.links (record { 0 = n })) ≡ None) (eqb-true m.0 l.0 (and_parts (m.0 == l.0) (i.0 == j.0) at).0) (fits.0 set).none
+        subst (λ n. latest_write p (ring_of r.links (record { 0 = n })) ≡ None) (eqb-true m.0 l.0 (and_parts (m.0 == l.0) (i.0 == j.0) at).0) (fits.0 set).none

@@ -13,9 +13,9 @@ use Rattle.swap_lender.specs.declared.SlotState.{SlotState}
 use Rattle.swap_lender.specs.declared.SlotState.TheVariants.{Free, Held}
 use Rattle.swap_lender.specs.declared.Notice.TheVariants as notice
 use Rattle.swap_lender.specs.Lender.{slot_in}
-use Rattle.swap_lender.specs.Table.{tell_slot, told}
-use Rattle.swap_link.specs.Lane.{Lane, appended}
-use Rattle.swap_link.specs.Channel.{posted, forwarded}
+use Rattle.swap_lender.specs.Table.{tell_slot, parcels_told}
+use Rattle.swap_link.specs.Lane.{Lane, append_after}
+use Rattle.swap_link.specs.Channel.{post_after, forward_after}
 use Rattle.swap_joint.specs.Order.{is_reply}
 use Rattle.swap_joint.specs.Turn.{MayCome, Then, After, InTurn, Stays}
 use Rattle.swap_joint.proofs.Lanes.{by_append}
@@ -70,12 +70,12 @@ stays_by M _ k other h = h
 -- a list with a message more, where the message may come
 turn-append :
     (M : Lease → Type 0) (b : Lane) (q : Parcel) → InTurn M b.parcels → (b.ended ≡ false → MayCome (λ k. After M b.parcels k) q.msg)
-    → InTurn M (appended b q).parcels
+    → InTurn M (append_after b q).parcels
 turn-append M b q h may = by_append (λ z. InTurn M z.parcels) b q (λ _. h) (λ e. turn_last M b.parcels q h (may e)) (λ _. h)
 
 after-append :
-    (M : Lease → Type 0) (b : Lane) (q : Parcel) (k : Lease) → (b.ended ≡ false → Then (λ j. After M b.parcels j) q.msg k) → (appended b q).ended ≡ false
-    → After M (appended b q).parcels k
+    (M : Lease → Type 0) (b : Lane) (q : Parcel) (k : Lease) → (b.ended ≡ false → Then (λ j. After M b.parcels j) q.msg k) → (append_after b q).ended ≡ false
+    → After M (append_after b q).parcels k
 after-append M b q k h =
     by_append (λ z. z.ended ≡ false → After M z.parcels k) b q (λ e f. absurd (both_ways b.ended f e)) (λ e _. after_last M b.parcels q k (h e))
     (λ _ f. absurd (both_ways true f refl))
@@ -96,17 +96,18 @@ reply_stays m k j is e same = no (sym (ap is_reply e) ∙ is)
     no : false ≡ true → ⊥
     no e = cc
 
-pub turn_reply : (M : Lease → Type 0) (b : Lane) (q : Parcel) → is_reply q.msg ≡ true → InTurn M b.parcels → InTurn M (appended b q).parcels
+pub turn_reply : (M : Lease → Type 0) (b : Lane) (q : Parcel) → is_reply q.msg ≡ true → InTurn M b.parcels → InTurn M (append_after b q).parcels
 turn_reply M b q is h = turn-append M b q h (λ _. reply_comes (λ k. After M b.parcels k) q.msg is)
 
-pub stays_reply : (M : Lease → Type 0) (slots : List SlotState) (b : Lane) (q : Parcel) → is_reply q.msg ≡ true → Stays M slots b → Stays M slots (appended b q)
+pub stays_reply : (M : Lease → Type 0) (slots : List SlotState) (b : Lane) (q : Parcel) → is_reply q.msg ≡ true → Stays M slots b
+    → Stays M slots (append_after b q)
 stays_reply M slots b q is h open_ i n t k held =
     after-append M b q k (λ e. stays_by (λ j. After M b.parcels j) q.msg k (λ j. reply_stays q.msg k j is) (h e i n t k held)) open_
 
 -- a slot is lent by a lease that the reply names
 pub stays_lent :
     (M : Lease → Type 0) (slots : List SlotState) (b : Lane) (q : Parcel) (j : ℕ) (m : Link) (u : Slab) (lease : Lease) → q.msg ≡ msg.Lent u lease
-    → Stays M slots b → Stays M (set slots j (Held m u lease false)) (appended b q)
+    → Stays M slots b → Stays M (set slots j (Held m u lease false)) (append_after b q)
 stays_lent M slots b q j m u lease is h open_ i n t k held =
     after-append M b q k (λ e. let P : Msg → Type 0 = λ x. Then (λ j. After M b.parcels j) x k in subst P (sym is) (here e)) open_
   where
@@ -145,9 +146,9 @@ stays_free M slots b j h open_ i n t k held = h open_ i n t k (was slots j i hel
 
 -- notices
 
-pub forwarded_both : (n : Link) (b : Lane) (xs ys : List (Link × Parcel)) → forwarded n b (xs ++ ys) ≡ forwarded n (forwarded n b xs) ys
+pub forwarded_both : (n : Link) (b : Lane) (xs ys : List (Link × Parcel)) → forward_after n b (xs ++ ys) ≡ forward_after n (forward_after n b xs) ys
 forwarded_both n b [] ys = refl
-forwarded_both n b (x ∷ xs) ys = forwarded_both n (posted n b x.0 (parcel_of x.1.msg x.1.page)) xs ys
+forwarded_both n b (x ∷ xs) ys = forwarded_both n (post_after n b x.0 (parcel_of x.1.msg x.1.page)) xs ys
 
 -- of the slots of a set from this number on, each held one has a lease that maps its slab once all is taken
 abbrev pub Ready : (Lease → Type 0) → ℕ → ℕ → List SlotState → Lane → Type 0
@@ -170,7 +171,7 @@ record One (M : Lease → Type 0) (b b' : Lane) (q : Parcel) : Type 0 where
   after : (k : Lease) → ((j : Lease) → q.msg ≡ msg.Evict j → j.0 ≡ k.0 → ⊥) → (b.ended ≡ false → After M b.parcels k) → b'.ended ≡ false → After M b'.parcels k
   open_ : b'.ended ≡ false → b.ended ≡ false
 
-one_posted : (M : Lease → Type 0) (n link : Link) (b : Lane) (q : Parcel) → One M b (posted n b link q) q
+one_posted : (M : Lease → Type 0) (n link : Link) (b : Lane) (q : Parcel) → One M b (post_after n b link q) q
 one_posted M n link b q =
     cond_both (link.0 == n.0) _ _ (λ z. One M b z q)
     (λ _. record {
@@ -185,65 +186,68 @@ lease_same n m t u k j e f h = cc
 
 pub asks_turn :
     (M : Lease → Type 0) (n : Link) (set from : ℕ) (slots : List SlotState) (b : Lane) → InTurn M b.parcels → Ready M set from slots b
-    → InTurn M (forwarded n b (told notice.AskRates set from slots)).parcels
+    → InTurn M (forward_after n b (parcels_told notice.AskRates set from slots)).parcels
 asks_turn M n set from [] b h ready_ = h
 asks_turn M n set from (s ∷ ss) b h ready_ =
-    subst (λ (z : Lane). InTurn M z.parcels) (sym (forwarded_both n b (tell_slot notice.AskRates (has set from) s) (told notice.AskRates set (from + 1) ss)))
+    subst (λ (z : Lane). InTurn M z.parcels) (sym (forwarded_both n b (tell_slot notice.AskRates (has set from) s) (parcels_told notice.AskRates set (from
+    + 1) ss)))
     (go (has set from) refl s refl (asks_turn M n set (from + 1) ss))
   where
     go :
         (in_set : Bool) → has set from ≡ in_set → (x : SlotState) → s ≡ x
-        → ((c : Lane) → InTurn M c.parcels → Ready M set (from + 1) ss c → InTurn M (forwarded n c (told notice.AskRates set (from + 1) ss)).parcels)
-        → InTurn M (forwarded n (forwarded n b (tell_slot notice.AskRates in_set x)) (told notice.AskRates set (from + 1) ss)).parcels
+        → ((c : Lane) → InTurn M c.parcels → Ready M set (from + 1) ss c
+        → InTurn M (forward_after n c (parcels_told notice.AskRates set (from + 1) ss)).parcels)
+        → InTurn M (forward_after n (forward_after n b (tell_slot notice.AskRates in_set x)) (parcels_told notice.AskRates set (from + 1) ss)).parcels
     go false out x is more = more b h (ready_rest M set from s ss b ready_)
     go true in_set Free is more = more b h (ready_rest M set from s ss b ready_)
     go true in_set (Held m t k e) is more =
         let q : Parcel = parcel_of (msg.AskRates k) [] in
         let one = one_posted M n m b q in
-        more (posted n b m q) (one.turn h (λ open_. ready_ open_ 0 m t k e (subst (λ i. has set i ≡ true) (omega arith) in_set) is))
+        more (post_after n b m q) (one.turn h (λ open_. ready_ open_ 0 m t k e (subst (λ i. has set i ≡ true) (omega arith) in_set) is))
         (λ open_ i m' t' k' e' inside held.
         one.after k' (λ j evict same. (let no : msg.AskRates k ≡ msg.Evict j = evict in cc))
         (λ was. ready_rest M set from s ss b ready_ was i m' t' k' e' inside held) open_)
 
 pub asks_after :
     (M : Lease → Type 0) (n : Link) (set from : ℕ) (slots : List SlotState) (b : Lane) (k : Lease) → (b.ended ≡ false → After M b.parcels k)
-    → (forwarded n b (told notice.AskRates set from slots)).ended ≡ false → After M (forwarded n b (told notice.AskRates set from slots)).parcels k
+    → (forward_after n b (parcels_told notice.AskRates set from slots)).ended ≡ false
+    → After M (forward_after n b (parcels_told notice.AskRates set from slots)).parcels k
 asks_after M n set from [] b k h = h
 asks_after M n set from (s ∷ ss) b k h =
     subst (λ (z : Lane). z.ended ≡ false → After M z.parcels k)
-    (sym (forwarded_both n b (tell_slot notice.AskRates (has set from) s) (told notice.AskRates set (from + 1) ss)))
+    (sym (forwarded_both n b (tell_slot notice.AskRates (has set from) s) (parcels_told notice.AskRates set (from + 1) ss)))
     (go (has set from) s (λ c. asks_after M n set (from + 1) ss c k))
   where
     go :
         (in_set : Bool) (x : SlotState)
-        → ((c : Lane) → (c.ended ≡ false → After M c.parcels k) → (forwarded n c (told notice.AskRates set (from + 1) ss)).ended ≡ false
-        → After M (forwarded n c (told notice.AskRates set (from + 1) ss)).parcels k)
-        → (forwarded n (forwarded n b (tell_slot notice.AskRates in_set x)) (told notice.AskRates set (from + 1) ss)).ended ≡ false
-        → After M (forwarded n (forwarded n b (tell_slot notice.AskRates in_set x)) (told notice.AskRates set (from + 1) ss)).parcels k
+        → ((c : Lane) → (c.ended ≡ false → After M c.parcels k) → (forward_after n c (parcels_told notice.AskRates set (from + 1) ss)).ended ≡ false
+        → After M (forward_after n c (parcels_told notice.AskRates set (from + 1) ss)).parcels k)
+        → (forward_after n (forward_after n b (tell_slot notice.AskRates in_set x)) (parcels_told notice.AskRates set (from + 1) ss)).ended ≡ false
+        → After M (forward_after n (forward_after n b (tell_slot notice.AskRates in_set x)) (parcels_told notice.AskRates set (from + 1) ss)).parcels k
     go false x more = more b h
     go true Free more = more b h
     go true (Held m t j e) more =
         let q : Parcel = parcel_of (msg.AskRates j) [] in
-        more (posted n b m q) ((one_posted M n m b q).after k (λ i evict same. (let no : msg.AskRates j ≡ msg.Evict i = evict in cc)) h)
+        more (post_after n b m q) ((one_posted M n m b q).after k (λ i evict same. (let no : msg.AskRates j ≡ msg.Evict i = evict in cc)) h)
 
 pub evicts_turn :
     (M : Lease → Type 0) (n : Link) (set from : ℕ) (slots : List SlotState) (b : Lane) → Differ slots → InTurn M b.parcels → Ready M set from slots b
-    → InTurn M (forwarded n b (told notice.Evict set from slots)).parcels
+    → InTurn M (forward_after n b (parcels_told notice.Evict set from slots)).parcels
 evicts_turn M n set from [] b differ h ready_ = h
 evicts_turn M n set from (s ∷ ss) b differ h ready_ =
-    subst (λ (z : Lane). InTurn M z.parcels) (sym (forwarded_both n b (tell_slot notice.Evict (has set from) s) (told notice.Evict set (from + 1) ss)))
+    subst (λ (z : Lane). InTurn M z.parcels) (sym (forwarded_both n b (tell_slot notice.Evict (has set from) s) (parcels_told notice.Evict set (from + 1) ss)))
     (go (has set from) refl s refl (λ c. evicts_turn M n set (from + 1) ss c (differ_rest s ss differ)))
   where
     go :
         (in_set : Bool) → has set from ≡ in_set → (x : SlotState) → s ≡ x
-        → ((c : Lane) → InTurn M c.parcels → Ready M set (from + 1) ss c → InTurn M (forwarded n c (told notice.Evict set (from + 1) ss)).parcels)
-        → InTurn M (forwarded n (forwarded n b (tell_slot notice.Evict in_set x)) (told notice.Evict set (from + 1) ss)).parcels
+        → ((c : Lane) → InTurn M c.parcels → Ready M set (from + 1) ss c → InTurn M (forward_after n c (parcels_told notice.Evict set (from + 1) ss)).parcels)
+        → InTurn M (forward_after n (forward_after n b (tell_slot notice.Evict in_set x)) (parcels_told notice.Evict set (from + 1) ss)).parcels
     go false out x is more = more b h (ready_rest M set from s ss b ready_)
     go true in_set Free is more = more b h (ready_rest M set from s ss b ready_)
     go true in_set (Held m t k e) is more =
         let q : Parcel = parcel_of (msg.Evict k) [] in
         let one = one_posted M n m b q in
-        more (posted n b m q) (one.turn h (λ open_. ready_ open_ 0 m t k e (subst (λ i. has set i ≡ true) (omega arith) in_set) is))
+        more (post_after n b m q) (one.turn h (λ open_. ready_ open_ 0 m t k e (subst (λ i. has set i ≡ true) (omega arith) in_set) is))
         (λ open_ i m' t' k' e' inside held.
         one.after k' (λ j evict same. apart j evict i m' t' k' e' held same) (λ was. ready_rest M set from s ss b ready_ was i m' t' k' e' inside held) open_)
       where
@@ -261,11 +265,12 @@ pub evicts_after :
     (M : Lease → Type 0) (n : Link) (set from : ℕ) (slots : List SlotState) (b : Lane) (k : Lease)
     → ((i : ℕ) (m : Link) (t : Slab) (j : Lease) (e : Bool) → has set (from + i) ≡ true → slot_in slots i ≡ Held m t j e → j.0 ≡ k.0 → ⊥)
     → (b.ended ≡ false → After M b.parcels k)
-    → (forwarded n b (told notice.Evict set from slots)).ended ≡ false → After M (forwarded n b (told notice.Evict set from slots)).parcels k
+    → (forward_after n b (parcels_told notice.Evict set from slots)).ended ≡ false
+    → After M (forward_after n b (parcels_told notice.Evict set from slots)).parcels k
 evicts_after M n set from [] b k other h = h
 evicts_after M n set from (s ∷ ss) b k other h =
     subst (λ (z : Lane). z.ended ≡ false → After M z.parcels k)
-    (sym (forwarded_both n b (tell_slot notice.Evict (has set from) s) (told notice.Evict set (from + 1) ss)))
+    (sym (forwarded_both n b (tell_slot notice.Evict (has set from) s) (parcels_told notice.Evict set (from + 1) ss)))
     (go (has set from) refl s refl (λ c. evicts_after M n set (from + 1) ss c k later))
   where
     later : (i : ℕ) (m : Link) (t : Slab) (j : Lease) (e : Bool) → has set (from + 1 + i) ≡ true → slot_in ss i ≡ Held m t j e → j.0 ≡ k.0 → ⊥
@@ -273,15 +278,15 @@ evicts_after M n set from (s ∷ ss) b k other h =
 
     go :
         (in_set : Bool) → has set from ≡ in_set → (x : SlotState) → s ≡ x
-        → ((c : Lane) → (c.ended ≡ false → After M c.parcels k) → (forwarded n c (told notice.Evict set (from + 1) ss)).ended ≡ false
-        → After M (forwarded n c (told notice.Evict set (from + 1) ss)).parcels k)
-        → (forwarded n (forwarded n b (tell_slot notice.Evict in_set x)) (told notice.Evict set (from + 1) ss)).ended ≡ false
-        → After M (forwarded n (forwarded n b (tell_slot notice.Evict in_set x)) (told notice.Evict set (from + 1) ss)).parcels k
+        → ((c : Lane) → (c.ended ≡ false → After M c.parcels k) → (forward_after n c (parcels_told notice.Evict set (from + 1) ss)).ended ≡ false
+        → After M (forward_after n c (parcels_told notice.Evict set (from + 1) ss)).parcels k)
+        → (forward_after n (forward_after n b (tell_slot notice.Evict in_set x)) (parcels_told notice.Evict set (from + 1) ss)).ended ≡ false
+        → After M (forward_after n (forward_after n b (tell_slot notice.Evict in_set x)) (parcels_told notice.Evict set (from + 1) ss)).parcels k
     go false out x is more = more b h
     go true in_set Free is more = more b h
     go true in_set (Held m t j e) is more =
         let q : Parcel = parcel_of (msg.Evict j) [] in
-        more (posted n b m q)
+        more (post_after n b m q)
         ((one_posted M n m b q).after k (λ i evict same. other 0 m t j e (subst (λ x. has set x ≡ true) (omega arith) in_set) is (evict_is j i evict ∙ same)) h)
       where
         evict_is : (a b : Lease) → msg.Evict a ≡ msg.Evict b → a.0 ≡ b.0

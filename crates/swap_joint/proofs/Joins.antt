@@ -26,21 +26,21 @@ use Rattle.swap_rings.specs.Rings.{LinkState, link_of, ring_of, is_up}
 use Rattle.swap_rings.specs.declared.Request.{Request}
 use Rattle.swap_rings.specs.declared.Request.TheVariants as request
 use Rattle.swap_remote.specs.Remote.{Remote, slab_for, state_for}
-use Rattle.swap_table.specs.Device.{Device, lost}
+use Rattle.swap_table.specs.Device.{Device, lost_after}
 use Rattle.swap_table.specs.Serves.{IsOut, IsOutIn, bytes_of, Serves}
 use Rattle.swap_table.proofs.Entries.{named_last, out_on, last_bytes}
 use Rattle.swap_table.proofs.Links.{link-same}
 use Rattle.swap_table.proofs.Sends.{sent-same}
 use Rattle.swap_table.proofs.Requests.{has_own}
 use Rattle.swap_table.proofs.Waits.{Target}
-use Rattle.swap_link.specs.Channel.{Channel, sent, on_channel}
+use Rattle.swap_link.specs.Channel.{Channel, send_after, on_channel}
 use Rattle.swap_link.specs.Harbor as harbor
 use Rattle.swap_link.specs.Harbor.{Harbor, channel_of, lender_of, KeepsAt, OwesAt}
 use Rattle.swap_link.specs.lemmas.HarborLaws.{called, other_channel}
 use Rattle.swap_link.specs.Keeping.{Unless}
 use Rattle.swap_link.specs.lemmas.KeepLaws.{unless-map}
 use Rattle.swap_joint.specs.Order.{is_request, Carries, served_of}
-use Rattle.swap_joint.specs.Brought.{kept_entry, found, HoldsFor}
+use Rattle.swap_joint.specs.Brought.{kept_entry, page_found, HoldsFor}
 use Rattle.swap_joint.specs.Sight.{SameLeases, StillReads, SeesSame}
 use Rattle.swap_joint.specs.Stored.{Stored, JoinedOf, Joined, AllJoined, AllJoinedBut}
 use Rattle.swap_joint.proofs.Facts.{leased_all}
@@ -88,7 +88,7 @@ joins_through n d d' f g c r moved sees all here l within up = elim (cases_eq l.
 ]
 
 -- a link that was lost is down
-pub lost_down : (d : Device) (l : Lender) → is_up (lost d l).remote.links l ≡ false
+pub lost_down : (d : Device) (l : Lender) → is_up (lost_after d l).remote.links l ≡ false
 lost_down d l = elim (cases_lt l.0 (length d.remote.links)) [
   | inl within ↦ ap (λ (k : LinkState). k.up) (link-same d.remote.links l rings.down within)
   | inr past ↦
@@ -96,22 +96,23 @@ lost_down d l = elim (cases_lt l.0 (length d.remote.links)) [
       (get_or_past (set d.remote.links l.0 rings.down) l.0 rings.down (subst (λ n. n ≤ l.0) (sym (length-set d.remote.links l.0 rings.down)) past))
 ]
 
-pub joins_lost : (n : ℕ) (d : Device) (h : Harbor) (m : Lender) → AllJoinedBut m n d h → AllJoined n (lost d m) h
+pub joins_lost : (n : ℕ) (d : Device) (h : Harbor) (m : Lender) → AllJoinedBut m n d h → AllJoined n (lost_after d m) h
 joins_lost n d h m all l within up = elim (cases_eq l.0 m.0) [
   | inl e ↦
-      absurd (both_ways (is_up (lost d m).remote.links l) (subst (λ k. is_up (lost d m).remote.links (record { 0 = k }) ≡ false) (sym e) (lost_down d m)) up)
-  | inr other ↦ joined_same l d (lost d m) (channel_of h l) (sees_lost l m d other) (all l within other (sym (sees_lost l m d other).up ∙ up))
+      absurd (both_ways (is_up (lost_after d m).remote.links l) (subst (λ k. is_up (lost_after d m).remote.links (record { 0 = k })
+      ≡ false) (sym e) (lost_down d m)) up)
+  | inr other ↦ joined_same l d (lost_after d m) (channel_of h l) (sees_lost l m d other) (all l within other (sym (sees_lost l m d other).up ∙ up))
 ]
 
 -- a call that finds the link down, and one that loses it
 pub joins_down :
     (n : ℕ) (d : Device) (f g : Harbor) (c : FabricCall) (r : FabricAnswer c) → harbor.Moves f c r g → AllJoinedBut (lender_of c) n d f
-    → AllJoined n (lost d (lender_of c)) g
+    → AllJoined n (lost_after d (lender_of c)) g
 joins_down n d f g c r moved all = joins_lost n d g (lender_of c) (others_through n d d f g c r moved (λ l other. sees_itself l d) all)
 
 -- a request is sent
 
-pub sends : (c : Channel) (q : Parcel) → c.device_gone ≡ false → (sent c q).1 ≡ with_message c q
+pub sends : (c : Channel) (q : Parcel) → c.device_gone ≡ false → (send_after c q).1 ≡ with_message c q
 sends c q present = ap (λ (x : Sent × Channel). x.1) (cond-false c.device_gone (sent_is.Down, c) (sent_is.Sent, with_message c q) present)
 
 pub asks_here :
@@ -119,16 +120,16 @@ pub asks_here :
     (q : Parcel) (x : Request)
     → is_request q.msg ≡ true → Carries s H states' l q x → SameLeases l states states' → AllByRecursion (StillReads cs cs') ring → ring' ≡ ring ++ x ∷ []
     → (JoinedOf s H cs states bits ring l c → Unless c.lender_gone (HoldsFor s H cs' states' l c x)) → JoinedOf s H cs states bits ring l c
-    → JoinedOf s H cs' states' bits ring' l (sent c q).1
+    → JoinedOf s H cs' states' bits ring' l (send_after c q).1
 asks_here s H cs cs' states states' bits ring ring' l c q x is carries leases still now holds h =
-    subst (λ r. JoinedOf s H cs' states' bits r l (sent c q).1) (sym now)
+    subst (λ r. JoinedOf s H cs' states' bits r l (send_after c q).1) (sym now)
     (subst (λ ch. JoinedOf s H cs' states' bits (ring ++ x ∷ []) l ch) (sym (sends c q h.present))
     (joined_sent s H cs' states' bits ring l c q x is carries (holds h)
     (joined_sees s H H cs cs' states states' bits bits ring l c (λ t k at. sym (leases t k) ∙ at)
     (leased_all s l states states' ring (λ t k at. leases t k ∙ at)) (entries_stay H) (λ p k at set. inl (set, refl)) still h)))
 
 -- no send finds a link down that is up
-pub not_down : (c : Channel) (q : Parcel) → c.device_gone ≡ false → (sent c q).0 ≡ sent_is.Down → ⊥
+pub not_down : (c : Channel) (q : Parcel) → c.device_gone ≡ false → (send_after c q).0 ≡ sent_is.Down → ⊥
 not_down c q present e =
     sends_not (sym (ap (λ (x : Sent × Channel). x.0) (cond-false c.device_gone (sent_is.Down, c) (sent_is.Sent, with_message c q) present)) ∙ e)
   where
@@ -155,7 +156,7 @@ holds_newest s H cs states states' bits ring l c a p e since leases set newest h
     unless-map c.lender_gone _ _ (λ (k : Stored s H states bits l c (served_of h.order)) j g at is.
     let same : e ≡ g = entry_is g is in
     let out : IsOut H p e = last_out H p e newest in
-    let there : found s c j p ≡ Some (bytes_of H e) =
+    let there : page_found s c j p ≡ Some (bytes_of H e) =
     k.readable p j (sym (leases (slab_for s p) j) ∙ at) set ∙ ap (λ b. Some b) (sym (last_bytes (zeros s) H p e newest)) in
     (subst (λ x. IsOut H p x) same out, there ∙ ap (λ x. Some (bytes_of H x)) same)) h.stored
   where
@@ -171,14 +172,14 @@ holds_newest s H cs states states' bits ring l c a p e since leases set newest h
           some_same e g
           (sym
           (ap (λ (x : Call). kept_entry x.state)
-          (get_or-set_same cs a.0 (record { state = Reading p e (via.Lender l) arrived.Waiting false since; bytes = [] }) calls.idle within))
+          (get_or-set_same cs a.0 (record { state = Reading p e (via.Lender l) arrived.Waiting false since; bytes = [] }) calls.idle_call within))
           ∙ is)
       | inr past ↦
           absurd
           (none_some g
           (sym
           (ap (λ (x : Call). kept_entry x.state)
-          (get_or_past (calls.reads cs a p e (via.Lender l) since) a.0 calls.idle
+          (get_or_past (calls.reads cs a p e (via.Lender l) since) a.0 calls.idle_call
           (subst (λ n. n ≤ a.0)
           (sym (length-set cs a.0 (record { state = Reading p e (via.Lender l) arrived.Waiting false since; bytes = [] }))) past)))
           ∙ is))
@@ -193,5 +194,5 @@ up_within links l up =
 pub target_lease : (s : Sizes) (r : Remote) (p : Page) (at : Lender × Lease) → Target s r p at → has_lease at.0 at.1 (state_for s r.slabs p) ≡ true
 target_lease s r p at t = ap (has_lease at.0 at.1) t.mapped ∙ has_own at.0 at.1 t.flying
 
-pub ring_more : (links : List LinkState) (l : Lender) (x : Request) → is_up links l ≡ true → ring_of (rings.sent links l x) l ≡ ring_of links l ++ x ∷ []
+pub ring_more : (links : List LinkState) (l : Lender) (x : Request) → is_up links l ≡ true → ring_of (rings.sent_after links l x) l ≡ ring_of links l ++ x ∷ []
 ring_more links l x up = ap (λ (k : LinkState). k.ring) (sent-same links l x (up_within links l up))

@@ -12,7 +12,7 @@ use Rattle.swap_rings.specs.Rings as rings
 use Rattle.swap_remote.specs.Remote as remote
 use Rattle.swap_remote.specs.Remote.{Remote}
 use Rattle.swap_table.specs.Device as device
-use Rattle.swap_table.specs.Device.{Device, Heard, of_device, lost, raised, next_link}
+use Rattle.swap_table.specs.Device.{Device, Heard, of_device, lost_after, raised_after, next_link}
 use Rattle.swap_table.specs.Goes.{stay, by_disk, by_fabric, EachKeepsWhere}
 use Rattle.swap_table.specs.Moves.{Within, of_sizes, Speaker, words, Sends, write, read, borrow, query, query_too, Hears, roomy, lent, refused, written, brought, asked_rate, told_to_go, IsFar, far_give, far_cut, far_crash, far_host, Move, enters, gives, faults, waits_for_room, rates_change, lets_go, gives_up, starts, waits_for_disk, takes, lets_finish, sends, finds_down, raises, speaks, speaks_to_nobody, hears, hears_nothing, loses, misunderstands, breaks_off, far}
 use Rattle.swap_table.specs.Promises.{FollowsItsMoves, Promises}
@@ -20,7 +20,7 @@ use Rattle.swap_table.proofs.Keeps as keep
 use Rattle.swap_table.proofs.Links.{link-other}
 use Rattle.swap_table.proofs.Sends.{sent-same}
 use Rattle.swap_table.proofs.Replies.{answered-same, answered-other}
-use Rattle.swap_link.specs.Channel.{Channel, taken, taken_from, on_channel}
+use Rattle.swap_link.specs.Channel.{Channel, take_after, taken_from, on_channel}
 use Rattle.swap_link.specs.Harbor as harbor
 use Rattle.swap_link.specs.Harbor.{Harbor, channel_of, lender_of, of_harbor}
 use Rattle.swap_link.specs.lemmas.HarborLaws.{called, other_channel}
@@ -38,7 +38,7 @@ use Rattle.swap_joint.proofs.Lefts.{left_of}
 use Rattle.swap_joint.proofs.LeftGives.{left_given, left_cut, left_crashed, left_hosted}
 
 -- what a device takes of a link leaves what is under way to its lender
-left_took : (s : Sizes) (l : Lender) (c : Channel) → Left s l c → Left s l (taken c).1
+left_took : (s : Sizes) (l : Lender) (c : Channel) → Left s l c → Left s l (take_after c).1
 left_took s l c h = cond_both c.device_gone _ _ (λ (x : Handed × Channel). Left s l x.1) (λ _. h) (λ _. from c.to_device.parcels)
   where
     from : (ps : List Parcel) → Left s l (taken_from c ps).1
@@ -78,10 +78,10 @@ sent_itself W d l q e base there (query_too {t = t} w state not_ may) = ap (λ (
 there_is : (n : ℕ) (d : Device) (h : Harbor) (l : Lender) → ServesAt n d h → l.0 < n → l.0 < length d.remote.links
 there_is n d h l serves within = omega (arith, serves.links_len, serves.few, within)
 
-answered_up : (links : List LinkState) (l m : Lender) → l.0 < length links → is_up (rings.answered links l) m ≡ is_up links m
+answered_up : (links : List LinkState) (l m : Lender) → l.0 < length links → is_up (rings.answered_after links l) m ≡ is_up links m
 answered_up links l m there = elim (cases_eq m.0 l.0) [
   | inl e ↦
-      subst (λ (i : ℕ). is_up (rings.answered links l) (record { 0 = i }) ≡ is_up links (record { 0 = i })) (sym e)
+      subst (λ (i : ℕ). is_up (rings.answered_after links l) (record { 0 = i }) ≡ is_up links (record { 0 = i })) (sym e)
       (ap (λ (k : LinkState). k.up) (answered-same links l there))
   | inr other ↦ ap (λ (k : LinkState). k.up) (answered-other links l m other)
 ]
@@ -133,7 +133,7 @@ module _ {D : Type 0} (disk : DiskMeaning D) (follows : FollowsItsMoves disk) (l
   up_or_down true P up off = up refl
   up_or_down false P up off = off refl
 
-  lost_same : (d : Device) (l m : Lender) → (m.0 ≡ l.0 → ⊥) → is_up (lost d l).remote.links m ≡ is_up d.remote.links m
+  lost_same : (d : Device) (l m : Lender) → (m.0 ≡ l.0 → ⊥) → is_up (lost_after d l).remote.links m ≡ is_up d.remote.links m
   lost_same d l m other = ap (λ (k : LinkState). k.up) (link-other d.remote.links l m rings.down other)
 
   -- the far side moves
@@ -178,8 +178,8 @@ module _ {D : Type 0} (disk : DiskMeaning D) (follows : FollowsItsMoves disk) (l
   each_left x asked y k k' f f' (gives_up {d = d} l t off asks) stay before all = all
   each_left x asked y k k' f f' (starts {d = d} el ec) (by_disk moved) before all = all
   each_left x asked y k k' f f' (waits_for_disk {d = d} ins within is none) (by_disk moved) before all = all
-  each_left x asked y k k' f f' (takes {d = d} {taken = taken}) (by_disk moved) before all =
-      same_links d (device.took_back d taken).0 f (ap (λ (r : Remote). r.links) (back_remote d taken)) all
+  each_left x asked y k k' f f' (takes {d = d} {taken = take_after}) (by_disk moved) before all =
+      same_links d (device.took_back d take_after).0 f (ap (λ (r : Remote). r.links) (back_remote d take_after)) all
   each_left x asked y k k' f f' lets_finish (by_disk moved) before all = all
   each_left x asked y k k' f f' (sends {d = d} {e = e} {base = base} {l = l} {q = q} one) (by_fabric moved) before all =
       let serves = serves_at d k f before.0.0 in
@@ -199,9 +199,9 @@ module _ {D : Type 0} (disk : DiskMeaning D) (follows : FollowsItsMoves disk) (l
       λ m inside off. through o.sizes f f' (Connect l (next_link d)) r moved m
       (λ same.
       absurd
-      (both_ways (is_up (raised d l).remote.links l) (subst (λ (i : ℕ). is_up (raised d l).remote.links (record { 0 = i }) ≡ false) same off)
+      (both_ways (is_up (raised_after d l).remote.links l) (subst (λ (i : ℕ). is_up (raised_after d l).remote.links (record { 0 = i }) ≡ false) same off)
       (raised_up o.lenders d f l (serves_at d k f before.0.0) within)))
-      (λ other. all m inside (sym (ap (λ (k : LinkState). k.up) (link-other d.remote.links l m rings.fresh other)) ∙ off))
+      (λ other. all m inside (sym (ap (λ (k : LinkState). k.up) (link-other d.remote.links l m rings.link_at_start other)) ∙ off))
   each_left x asked y k k' f f' (speaks {d = d} {l = l} {q = q} word) (by_fabric moved) before all =
       λ m inside off. through o.sizes f f' (Send l q) sent_is.Sent moved m
       (λ same. absurd (both_ways (is_up d.remote.links l) (subst (λ (i : ℕ). is_up d.remote.links (record { 0 = i }) ≡ false) same off) before.0.1.1.1))

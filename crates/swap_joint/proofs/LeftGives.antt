@@ -17,10 +17,10 @@ use Rattle.swap_evict.specs.Rounds.{Round, answer}
 use Rattle.swap_lender.specs.declared.SlotState.{SlotState}
 use Rattle.swap_lender.specs.declared.SlotState.TheVariants.{Free, Held}
 use Rattle.swap_lender.specs.Lender.{Lender, slot_in, slot_of, has_greeted, first_where, is_free, is_for, lends, holds}
-use Rattle.swap_lender.specs.Table.{Turn, serve, settle_with, due, marked, mark_slot, may_send, may_hello, may_reach, opens, asked, to_evict, measured, host}
+use Rattle.swap_lender.specs.Table.{Turn, serve, settle_with, slots_due, mark_slots, mark_slot, may_send, may_hello, may_reach, opens, asked_slots, to_evict, measure_after, host}
 use Rattle.swap_link.specs.Fits.{IsSound}
 use Rattle.swap_link.specs.Lane.{Lane, empty_lane}
-use Rattle.swap_link.specs.Channel.{Channel, delivered, given, given_from, severed, crashed}
+use Rattle.swap_link.specs.Channel.{Channel, deliver_after, give_after, given_from, cut_after, crash_after}
 use Rattle.swap_link.specs.lemmas.KeepLaws.{unless, unless-map, took-served}
 use Rattle.swap_table.specs.Device.{hello as greeting}
 use Rattle.swap_joint.specs.Seats.{is_done}
@@ -86,7 +86,7 @@ orderly_take slots places (suc n) (p ∷ ps) h =
 
 marked_held :
     (set_ from : ℕ) (slots : List SlotState) (i : ℕ) (m : Link) (t : Slab) (k : Lease) (e : Bool) → slot_in slots i ≡ Held m t k e
-    → (f : Bool) × (slot_in (marked set_ from slots) i ≡ Held m t k f)
+    → (f : Bool) × (slot_in (mark_slots set_ from slots) i ≡ Held m t k f)
 marked_held set_ from [] i m t k e is = (e, is)
 marked_held set_ from (s ∷ ss) zero m t k e is = go (has set_ from)
   where
@@ -99,7 +99,7 @@ orderly_settled :
     (places : ℕ) (table : Lender) (o : Option ℕ) (ps : List Parcel) → Orderly table.slots places ps → Orderly (settle_with table o).lender.slots places ps
 orderly_settled places table None ps h = h
 orderly_settled places table (Some set_) ps h =
-    orderly_map table.slots (marked set_ 0 table.slots) places ps
+    orderly_map table.slots (mark_slots set_ 0 table.slots) places ps
     (λ k _ held. let now = marked_held set_ 0 table.slots held.1.0 held.1.1 held.1.2 k held.0 held.1.3 in (now.0, (held.1.0, held.1.1, held.1.2, now.1))) h
 
 module _ (s : Sizes) (l : LenderNo) (table : Lender) (n : Link) (q : Parcel) (ps : List Parcel) (sound : IsSound table) (held : HeldOf table n)
@@ -124,7 +124,7 @@ module _ (s : Sizes) (l : LenderNo) (table : Lender) (n : Link) (q : Parcel) (ps
       (λ _. rest)
   serve_orderly (msg.Rates j v) page is =
       orderly_settled s.pages_per_slab (record table { round = option_map (answer (slot_of table n j) v) table.round })
-      (due (option_map (answer (slot_of table n j) v) table.round)) ps (orderly_rest table.slots s.pages_per_slab q ps orderly)
+      (slots_due (option_map (answer (slot_of table n j) v) table.round)) ps (orderly_rest table.slots s.pages_per_slab q ps orderly)
   serve_orderly (msg.Done j) page is =
       let x = h.done j (front_true (is_done j q.msg) _ (ap (is_done j) is ∙ eq-eqb j.0 j.0 refl)) in
       let at = slot_found table n j x.0 x.1 x.2 true sound x.3 (held x.0 x.1 x.2 j true x.3) in
@@ -158,13 +158,13 @@ left_at s l c stands h = opened_by c.lender_gone _ stands h
 -- the lender takes the first message, or its end leaves
 pub left_given :
     (s : Sizes) (l : LenderNo) (c : Channel) → IsSound c.lender → AsksUntold c.lender.round c.lender.slots → Lodges c → IsKnown s c → Left s l c
-    → Left s l (given c).1
+    → Left s l (give_after c).1
 left_given s l c sound untold lodges known h =
     cond_both c.lender_gone _ _ (λ (x : Gave × Channel). Left s l x.1) (λ _. h) (λ stands. from stands c.to_lender.parcels refl)
   where
     fine :
         c.lender_gone ≡ false → (q : Parcel) (ps : List Parcel) → c.to_lender.parcels ≡ q ∷ ps
-        → Left s l (delivered (record c { to_lender = record c.to_lender { parcels = ps } }) (serve c.lender c.number q.msg q.page))
+        → Left s l (deliver_after (record c { to_lender = record c.to_lender { parcels = ps } }) (serve c.lender c.number q.msg q.page))
     fine stands q ps front =
         let both : Allows s [] [] l c.lender c.number [] true (q ∷ ps) × Orderly c.lender.slots s.pages_per_slab (q ∷ ps) =
         subst (λ out. Allows s [] [] l c.lender c.number [] true out × Orderly c.lender.slots s.pages_per_slab out) front (left_at s l c stands h) in
@@ -184,11 +184,11 @@ left_given s l c sound untold lodges known h =
     from stands (q ∷ ps) is =
         cond_both (may_send c.lender c.number q.msg) _ _ (λ (x : Gave × Channel). Left s l x.1)
         (λ may.
-        subst (λ (t : Turn). Left s l (delivered (record c { to_lender = record c.to_lender { parcels = ps } }) t))
+        subst (λ (t : Turn). Left s l (deliver_after (record c { to_lender = record c.to_lender { parcels = ps } }) t))
         (sym (took-served c.lender c.number q.msg q.page may)) (fine stands q ps is))
         (λ _. tt)
 
-pub left_cut : (s : Sizes) (l : LenderNo) (c : Channel) (m n : ℕ) → Left s l c → Left s l (severed c m n).1
+pub left_cut : (s : Sizes) (l : LenderNo) (c : Channel) (m n : ℕ) → Left s l c → Left s l (cut_after c m n).1
 left_cut s l c m n h =
     unless-map c.lender_gone _ _
     (λ (b : Allows s [] [] l c.lender c.number [] true c.to_lender.parcels × Orderly c.lender.slots s.pages_per_slab c.to_lender.parcels). (
@@ -198,28 +198,28 @@ left_cut s l c m n h =
     ))
     h
 
-pub left_crashed : (s : Sizes) (l : LenderNo) (c : Channel) → Left s l (crashed c)
+pub left_crashed : (s : Sizes) (l : LenderNo) (c : Channel) → Left s l (crash_after c)
 left_crashed s l c =
     cond_both c.lender_gone _ _ (λ (x : Channel). Left s l x) (λ gone. unless c.lender_gone _ (λ stands. absurd (both_ways c.lender_gone stands gone)))
     (λ _. tt)
 
 pub left_hosted :
     (s : Sizes) (l : LenderNo) (c : Channel) (used word : ℕ) → IsReached c.lender → IsSound c.lender → Left s l c
-    → Left s l (delivered c (host c.lender used word))
+    → Left s l (deliver_after c (host c.lender used word))
 left_hosted s l c used word reached sound h = unless-map c.lender_gone _ _
     (λ (b : Allows s [] [] l c.lender c.number [] true c.to_lender.parcels × Orderly c.lender.slots s.pages_per_slab c.to_lender.parcels).
-    cond_both (opens (measured c.lender used)) _ _
+    cond_both (opens (measure_after c.lender used)) _ _
     (λ (t : Turn). (host c.lender used word ≡ t)
     → Allows s [] [] l t.lender c.number [] true c.to_lender.parcels × Orderly t.lender.slots s.pages_per_slab c.to_lender.parcels)
     (λ opens_ is. (
       allows_left s [] [] l _ c.number _ true c.to_lender.parcels
-          (allows_opened s [] [] l c.lender c.number nothing_comes true c.to_lender.parcels sound (asked (measured c.lender used) word)
-          (to_evict (measured c.lender used)) (measured c.lender used).usage (none_is c.lender.round (and_parts (is_none c.lender.round) _ opens_).0)
-          (λ i inside. (asked_low (measured c.lender used) word i inside, asks_stay c.lender used word reached (λ n r. (are_owned n r).round) is i inside))
+          (allows_opened s [] [] l c.lender c.number nothing_comes true c.to_lender.parcels sound (asked_slots (measure_after c.lender used) word)
+          (to_evict (measure_after c.lender used)) (measure_after c.lender used).usage (none_is c.lender.round (and_parts (is_none c.lender.round) _ opens_).0)
+          (λ i inside. (asked_low (measure_after c.lender used) word i inside, asks_stay c.lender used word reached (λ n r. (are_owned n r).round) is i inside))
           b.0),
       b.1,
     ))
-    (λ _ is. (allows_table s [] [] l c.lender (measured c.lender used) c.number [] true c.to_lender.parcels refl refl refl b.0, b.1)) refl) h
+    (λ _ is. (allows_table s [] [] l c.lender (measure_after c.lender used) c.number [] true c.to_lender.parcels refl refl refl b.0, b.1)) refl) h
   where
     none_is : (o : Option Round) → is_none o ≡ true → o ≡ None
     none_is None e = refl

@@ -13,7 +13,7 @@ use Rattle.swap_wire.specs.declared.Msg.TheVariants as msg
 use Rattle.swap_wire.specs.declared.fabric.Sent.{Sent}
 use Rattle.swap_wire.specs.declared.fabric.Gave.{Gave}
 use Rattle.swap_wire.specs.Fabric.{FabricOf, Parcel, Handed, FabricCall, Connect, Send, Take, End, Give, Cut, Crash, Host, FabricAnswer}
-use Rattle.swap_evict.specs.Rounds.{Round, opened, answer, leave}
+use Rattle.swap_evict.specs.Rounds.{Round, round_at_start, answer, leave}
 use Rattle.swap_base.specs.declared.Slab.{Slab}
 use Rattle.swap_base.specs.declared.Lease.{Lease}
 use Rattle.swap_choice.specs.Slots.{has}
@@ -22,8 +22,8 @@ use Rattle.swap_lender.specs.declared.SlotState.{SlotState}
 use Rattle.swap_lender.specs.declared.SlotState.TheVariants.{Free, Held}
 use Rattle.swap_lender.specs.declared.Lending.{Lending}
 use Rattle.swap_lender.specs.declared.Peer.{Peer}
-use Rattle.swap_lender.specs.Lender.{Lender, has_greeted, fresh, lends, slot_in, slot_of, first_where, is_free, is_of, is_greeted, is_staying, is_evicting, numbers_where}
-use Rattle.swap_lender.specs.Table.{Turn, greet_peer, marked, settle_with, due, took, serve, may_send, host, measured, opens, open_round, asked, to_evict, gone, freed, left, without_peer, has_room, arrive, restart, hello}
+use Rattle.swap_lender.specs.Lender.{Lender, has_greeted, lender_at_start, lends, slot_in, slot_of, first_where, is_free, is_of, is_greeted, is_staying, is_evicting, numbers_where}
+use Rattle.swap_lender.specs.Table.{Turn, greet_peer, mark_slots, settle_with, slots_due, took_after, serve, may_send, host, measure_after, opens, open_round, asked_slots, to_evict, gone_after, free_slot, round_left, without_peer, has_room, arrive, restart, hello}
 use Rattle.swap_lender.specs.Calls.{Call, Arrive, Took, Host as Hosts, Gone, Restart, run, step, Tenant, tenant, AsksStaying}
 use Rattle.swap_lender.proofs.Owned.{IsPart, part_free, part_marked}
 use Rattle.swap_lender.proofs.Runs.{always_owned}
@@ -31,8 +31,8 @@ use Rattle.swap_lender.proofs.Live.{live_rounds}
 use Rattle.swap_lender.proofs.Steps.{took_lending, host_lending, gone_lending}
 use Rattle.swap_link.specs.Fits.{IsAlone}
 use Rattle.swap_link.specs.lemmas.Sound.{length-marked, alone-serve, peers-gone, peers-host, arrived}
-use Rattle.swap_link.specs.Lane.{appended, ended, cut}
-use Rattle.swap_link.specs.Channel.{Channel, let_go, taken, taken_from, given, given_from, delivered, abandoned, severed, crashed, connected, on_channel}
+use Rattle.swap_link.specs.Lane.{append_after, end_lane, cut}
+use Rattle.swap_link.specs.Channel.{Channel, let_go, take_after, taken_from, give_after, given_from, deliver_after, leave_after, cut_after, crash_after, connect_after, on_channel}
 use Rattle.swap_link.specs.Harbor.{Harbor, Moves, channel_of, lender_of, new_channel, no_channel, lending_for, IsFresh}
 use Rattle.swap_link.specs.lemmas.HarborLaws.{through, moves_keep_of}
 use Rattle.swap_joint.specs.Seats.{AreSlots}
@@ -47,19 +47,19 @@ turns_keep_seats = record { lent = seat_lend; served = seat_served; hosted = sea
 -- what holds of a lender stays through a call of its link, where it does through each call of the lender
 pub record EachKeeps (P : Lender → Type 0) : Type 0 where
   pub arrives : (l : Lender) (n : Link) → P l → P (arrive l n)
-  pub takes : (l : Lender) (n : Link) (m : Msg) (page : List ℕ) → P l → P (took l n m page).lender
+  pub takes : (l : Lender) (n : Link) (m : Msg) (page : List ℕ) → P l → P (took_after l n m page).lender
   pub hosts : (l : Lender) (used word : ℕ) → P l → P (host l used word).lender
-  pub leaves : (l : Lender) (n : Link) → P l → P (gone l n).lender
+  pub leaves : (l : Lender) (n : Link) → P l → P (gone_after l n).lender
   pub restarts : (l : Lender) → P l → P (restart l)
 
-by_take : (P : Lender → Type 0) (ch : Channel) → P ch.lender → P (taken ch).1.lender
+by_take : (P : Lender → Type 0) (ch : Channel) → P ch.lender → P (take_after ch).1.lender
 by_take P ch h = cond_both ch.device_gone _ _ (λ (x : Handed × Channel). P x.1.lender) (λ _. h) (λ _. from ch.to_device.parcels)
   where
     from : (ps : List Parcel) → P (taken_from ch ps).1.lender
     from [] = cond_both ch.to_device.ended _ _ (λ (x : Handed × Channel). P x.1.lender) (λ _. h) (λ _. h)
     from (p ∷ ps) = h
 
-by_give : (P : Lender → Type 0) → EachKeeps P → (ch : Channel) → P ch.lender → P (given ch).1.lender
+by_give : (P : Lender → Type 0) → EachKeeps P → (ch : Channel) → P ch.lender → P (give_after ch).1.lender
 by_give P each ch h = cond_both ch.lender_gone _ _ (λ (x : Gave × Channel). P x.1.lender) (λ _. h) (λ _. from ch.to_lender.parcels)
   where
     from : (ps : List Parcel) → P (given_from ch ps).1.lender
@@ -97,7 +97,7 @@ slots_serve : (l : Lender) (n : Link) (m : Msg) (page : List ℕ) → AreSlots l
 slots_serve l n (msg.Borrow u) page h =
     cond_both (lends l) _ _ (λ (x : Turn). AreSlots x.lender) (λ _. length-set l.slots (first_where is_free l.slots) _ ∙ h) (λ _. h)
 slots_serve l n (msg.Rates j value) page h =
-    slots_settle (record l { round = option_map (answer (slot_of l n j) value) l.round }) (due (option_map (answer (slot_of l n j) value) l.round)) h
+    slots_settle (record l { round = option_map (answer (slot_of l n j) value) l.round }) (slots_due (option_map (answer (slot_of l n j) value) l.round)) h
 slots_serve l n (msg.Done j) page h = length-set l.slots (slot_of l n j) Free ∙ h
 slots_serve l n _ page h = h
 
@@ -105,11 +105,11 @@ slots_each : EachKeeps AreSlots
 slots_each = record {
   arrives = λ l n h. cond_both (has_room l) _ _ AreSlots (λ _. h) (λ _. h);
   takes = λ l n m page h. cond_both (may_send l n m) _ _ (λ (x : Turn). AreSlots x.lender) (λ _. slots_serve l n m page h) (λ _. h);
-  hosts = λ l used word h. cond_both (opens (measured l used)) _ _ (λ (x : Turn). AreSlots x.lender) (λ _. h) (λ _. h);
+  hosts = λ l used word h. cond_both (opens (measure_after l used)) _ _ (λ (x : Turn). AreSlots x.lender) (λ _. h) (λ _. h);
   leaves =
       λ l n h.
-      slots_settle (record l { slots = map (freed n) l.slots; peers = without_peer n l.peers; round = option_map (left n l.slots) l.round })
-      (due (option_map (left n l.slots) l.round)) (length-map l.slots (freed n) ∙ h);
+      slots_settle (record l { slots = map (free_slot n) l.slots; peers = without_peer n l.peers; round = option_map (round_left n l.slots) l.round })
+      (slots_due (option_map (round_left n l.slots) l.round)) (length-map l.slots (free_slot n) ∙ h);
   restarts = λ l h. length-replicate l.lending.spec.slots Free;
 }
 
@@ -123,7 +123,7 @@ pub reached_more : (l : Lender) (call : Call) → IsReached l → IsReached (ste
 reached_more l call r = record {
   lending = r.lending;
   calls = r.calls ++ call ∷ [];
-  is = ap (λ (m : Lender). (step m call).lender) r.is ∙ sym (run-last (fresh r.lending) r.calls call);
+  is = ap (λ (m : Lender). (step m call).lender) r.is ∙ sym (run-last (lender_at_start r.lending) r.calls call);
 }
 
 reached_each : EachKeeps IsReached
@@ -150,7 +150,7 @@ untold_set (s ∷ ss) (suc j) zero x new was = was
 untold_set (s ∷ ss) (suc j) (suc i) x new was = untold_set ss j i x new was
 
 untold_freed :
-    (n : Link) (slots : List SlotState) (i : ℕ) → is_evicting (get_or slots i Free) ≡ false → is_evicting (get_or (map (freed n) slots) i Free) ≡ false
+    (n : Link) (slots : List SlotState) (i : ℕ) → is_evicting (get_or slots i Free) ≡ false → is_evicting (get_or (map (free_slot n) slots) i Free) ≡ false
 untold_freed n [] i was = was
 untold_freed n (s ∷ ss) zero was = cond_both (is_of n s) _ _ (λ x. is_evicting x ≡ false) (λ _. refl) (λ _. was)
 untold_freed n (s ∷ ss) (suc i) was = untold_freed n ss i was
@@ -169,7 +169,7 @@ untold_answer : (o : Option Round) (slot value : ℕ) (slots : List SlotState) �
 untold_answer None slot value slots h = tt
 untold_answer (Some r) slot value slots h = h
 
-untold_left : (o : Option Round) (n : Link) (states slots : List SlotState) → AsksUntold o slots → AsksUntold (option_map (left n states) o) slots
+untold_left : (o : Option Round) (n : Link) (states slots : List SlotState) → AsksUntold o slots → AsksUntold (option_map (round_left n states) o) slots
 untold_left None n states slots h = tt
 untold_left (Some r) n states slots h = λ i e. h i (subst (λ s. has s i ≡ true) (left_asked (numbers_where (is_of n) 0 states) r) e)
 
@@ -185,7 +185,7 @@ untold_serve l n (msg.Borrow u) page h =
     cond_both (lends l) _ _ (λ (x : Turn). Untold x.lender)
     (λ _. untold_by l.round l.slots _ (λ i. untold_set l.slots (first_where is_free l.slots) i (Held n u (record { 0 = l.next_lease }) false) refl) h) (λ _. h)
 untold_serve l n (msg.Rates j value) page h =
-    untold_settle (record l { round = option_map (answer (slot_of l n j) value) l.round }) (due (option_map (answer (slot_of l n j) value) l.round))
+    untold_settle (record l { round = option_map (answer (slot_of l n j) value) l.round }) (slots_due (option_map (answer (slot_of l n j) value) l.round))
     (untold_answer l.round (slot_of l n j) value l.slots h)
 untold_serve l n (msg.Done j) page h = untold_by l.round l.slots _ (λ i. untold_set l.slots (slot_of l n j) i Free refl) h
 untold_serve l n _ page h = h
@@ -193,16 +193,17 @@ untold_serve l n _ page h = h
 -- a round that is opened waits for slots that stay
 untold_host : (l : Lender) (used word : ℕ) → IsReached l → Untold l → Untold (host l used word).lender
 untold_host l used word r h =
-    cond_both (opens (measured l used)) _ _ (λ (x : Turn). (host l used word ≡ x) → Untold x.lender) (λ _ is. opened_ is) (λ _ is. h) refl
+    cond_both (opens (measure_after l used)) _ _ (λ (x : Turn). (host l used word ≡ x) → Untold x.lender) (λ _ is. opened_ is) (λ _ is. h) refl
   where
     opened_ :
-        host l used word ≡ open_round (measured l used) (asked (measured l used) word)
-        → Untold (open_round (measured l used) (asked (measured l used) word)).lender
+        host l used word ≡ open_round (measure_after l used) (asked_slots (measure_after l used) word)
+        → Untold (open_round (measure_after l used) (asked_slots (measure_after l used) word)).lender
     opened_ is i inside =
         let P : Turn → Type 0 = λ t. AsksStaying t.lender.round t.lender.slots in
-        let alive : AsksStaying (Some (opened (asked (measured l used) word) (to_evict (measured l used)))) l.slots =
+        let alive : AsksStaying (Some (round_at_start (asked_slots (measure_after l used) word) (to_evict (measure_after l used)))) l.slots =
         subst P is (are_owned (host l used word).lender (reached_more l (Hosts used word) r)).round in
-        not_told (slot_in l.slots i) (alive.waits i (all_three (has (asked (measured l used) word) i) (has 0 i) (has 0 i) inside (has-zero i) (has-zero i)))
+        not_told (slot_in l.slots i) (alive.waits i (all_three (has (asked_slots (measure_after l used) word) i) (has 0 i) (has 0 i) inside (has-zero i)
+        (has-zero i)))
       where
         all_three : (a b c : Bool) → a ≡ true → b ≡ false → c ≡ false → (a && not b && not c) ≡ true
         all_three a b c e f g = cc
@@ -224,9 +225,9 @@ untold_each = record {
   hosts = λ l used word h. (reached_each.hosts l used word h.0, untold_host l used word h.0 h.1);
   leaves = λ l n h. (
     reached_each.leaves l n h.0,
-    untold_settle (record l { slots = map (freed n) l.slots; peers = without_peer n l.peers; round = option_map (left n l.slots) l.round })
-        (due (option_map (left n l.slots) l.round))
-        (untold_by (option_map (left n l.slots) l.round) l.slots (map (freed n) l.slots) (λ i. untold_freed n l.slots i)
+    untold_settle (record l { slots = map (free_slot n) l.slots; peers = without_peer n l.peers; round = option_map (round_left n l.slots) l.round })
+        (slots_due (option_map (round_left n l.slots) l.round))
+        (untold_by (option_map (round_left n l.slots) l.round) l.slots (map (free_slot n) l.slots) (λ i. untold_freed n l.slots i)
         (untold_left l.round n l.slots l.slots h.1)),
   );
   restarts = λ l h. (reached_each.restarts l h.0, tt);
@@ -252,23 +253,23 @@ held_part new old n part h i a e = h i a (part.kept i a e)
 
 held_settle : (l : Lender) (o : Option ℕ) (n : Link) → HeldBy l.slots n → HeldBy (settle_with l o).lender.slots n
 held_settle l None n h = h
-held_settle l (Some set) n h = held_part (marked set 0 l.slots) l.slots n (part_marked set l.slots) h
+held_settle l (Some set) n h = held_part (mark_slots set 0 l.slots) l.slots n (part_marked set l.slots) h
 
 held_serve : (l : Lender) (n : Link) (m : Msg) (page : List ℕ) → HeldBy l.slots n → HeldBy (serve l n m page).lender.slots n
 held_serve l n (msg.Borrow u) page h =
     cond_both (lends l) _ _ (λ (x : Turn). HeldBy x.lender.slots n) (λ _. held_set l.slots (first_where is_free l.slots) n u (record { 0 = l.next_lease }) h)
     (λ _. h)
 held_serve l n (msg.Rates j value) page h =
-    held_settle (record l { round = option_map (answer (slot_of l n j) value) l.round }) (due (option_map (answer (slot_of l n j) value) l.round)) n h
+    held_settle (record l { round = option_map (answer (slot_of l n j) value) l.round }) (slots_due (option_map (answer (slot_of l n j) value) l.round)) n h
 held_serve l n (msg.Done j) page h = held_part (set l.slots (slot_of l n j) Free) l.slots n (part_free l.slots (slot_of l n j)) h
 held_serve l n _ page h = h
 
 -- a link that is gone leaves no slot held for it
-freed_none : (n : Link) (slots : List SlotState) → HeldBy slots n → HeldByNone (map (freed n) slots)
+freed_none : (n : Link) (slots : List SlotState) → HeldBy slots n → HeldByNone (map (free_slot n) slots)
 freed_none n [] h i a e = cc
 freed_none n (s ∷ ss) h zero a e = go s e (h zero a)
   where
-    go : (s : SlotState) → tenant (freed n s) ≡ Some a → (tenant s ≡ Some a → a.link.0 ≡ n.0) → ⊥
+    go : (s : SlotState) → tenant (free_slot n s) ≡ Some a → (tenant s ≡ Some a → a.link.0 ≡ n.0) → ⊥
     go Free e was = cc
     go (Held m u k told) e was =
         cond_both (m.0 == n.0) Free (Held m u k told) (λ x. tenant x ≡ Some a → ⊥) (λ _ e. cc)
@@ -277,10 +278,10 @@ freed_none n (s ∷ ss) h zero a e = go s e (h zero a)
         e
 freed_none n (s ∷ ss) h (suc i) a e = freed_none n ss (λ i a e. h (suc i) a e) i a e
 
-gone_none : (l : Lender) (n : Link) → HeldBy l.slots n → HeldByNone (gone l n).lender.slots
+gone_none : (l : Lender) (n : Link) → HeldBy l.slots n → HeldByNone (gone_after l n).lender.slots
 gone_none l n h =
-    settle_none (record l { slots = map (freed n) l.slots; peers = without_peer n l.peers; round = option_map (left n l.slots) l.round })
-    (due (option_map (left n l.slots) l.round)) (freed_none n l.slots h)
+    settle_none (record l { slots = map (free_slot n) l.slots; peers = without_peer n l.peers; round = option_map (round_left n l.slots) l.round })
+    (slots_due (option_map (round_left n l.slots) l.round)) (freed_none n l.slots h)
   where
     settle_none : (l : Lender) (o : Option ℕ) → HeldByNone l.slots → HeldByNone (settle_with l o).lender.slots
     settle_none l None h = h
@@ -300,21 +301,22 @@ lodges_by c stands h i a e = (stands, h i a e)
 by_lodges : (c : Channel) → Lodges c → HeldBy c.lender.slots c.number
 by_lodges c h i a e = (h i a e).1
 
-lodges_give : (ch : Channel) → Lodges ch → Lodges (given ch).1
+lodges_give : (ch : Channel) → Lodges ch → Lodges (give_after ch).1
 lodges_give ch h = cond_both ch.lender_gone _ _ (λ (x : Gave × Channel). Lodges x.1) (λ _. h) (λ stands. from stands ch.to_lender.parcels)
   where
     from : ch.lender_gone ≡ false → (ps : List Parcel) → Lodges (given_from ch ps).1
     from stands [] =
-        cond_both ch.to_lender.ended _ _ (λ (x : Gave × Channel). Lodges x.1) (λ _. lodges_none (abandoned ch) (gone_none ch.lender ch.number (by_lodges ch h)))
+        cond_both ch.to_lender.ended _ _ (λ (x : Gave × Channel). Lodges x.1) (λ _. lodges_none (leave_after ch)
+        (gone_none ch.lender ch.number (by_lodges ch h)))
         (λ _. h)
     from stands (p ∷ ps) =
         cond_both (may_send ch.lender ch.number p.msg) _ _ (λ (x : Gave × Channel). Lodges x.1)
         (λ may.
-        lodges_by (delivered (record ch { to_lender = record ch.to_lender { parcels = ps } }) (took ch.lender ch.number p.msg p.page)) stands
+        lodges_by (deliver_after (record ch { to_lender = record ch.to_lender { parcels = ps } }) (took_after ch.lender ch.number p.msg p.page)) stands
         (took_held p may))
-        (λ _. lodges_none (abandoned (record ch { to_lender = record ch.to_lender { parcels = ps } })) (gone_none ch.lender ch.number (by_lodges ch h)))
+        (λ _. lodges_none (leave_after (record ch { to_lender = record ch.to_lender { parcels = ps } })) (gone_none ch.lender ch.number (by_lodges ch h)))
       where
-        took_held : (p : Parcel) → may_send ch.lender ch.number p.msg ≡ true → HeldBy (took ch.lender ch.number p.msg p.page).lender.slots ch.number
+        took_held : (p : Parcel) → may_send ch.lender ch.number p.msg ≡ true → HeldBy (took_after ch.lender ch.number p.msg p.page).lender.slots ch.number
         took_held p may =
             cond_both (may_send ch.lender ch.number p.msg) _ _ (λ (x : Turn). HeldBy x.lender.slots ch.number)
             (λ _. held_serve ch.lender ch.number p.msg p.page (by_lodges ch h)) (λ _. by_lodges ch h)
@@ -339,10 +341,11 @@ lodges_call ch (Take m) h = cond_both ch.device_gone _ _ (λ (x : Handed × Chan
 lodges_call ch (End m) h = h
 lodges_call ch (Give m) h = lodges_give ch h
 lodges_call ch (Cut m a b) h = h
-lodges_call ch (Crash m) h = lodges_none (crashed ch) (λ i a e. restart_none ch.lender.lending.spec.slots i a (crashed_slots i a e))
+lodges_call ch (Crash m) h = lodges_none (crash_after ch) (λ i a e. restart_none ch.lender.lending.spec.slots i a (crashed_slots i a e))
   where
     crashed_slots :
-        (i : ℕ) (a : Tenant) → tenant (slot_in (crashed ch).lender.slots i) ≡ Some a → tenant (slot_in (replicate ch.lender.lending.spec.slots Free) i) ≡ Some a
+        (i : ℕ) (a : Tenant) → tenant (slot_in (crash_after ch).lender.slots i) ≡ Some a
+        → tenant (slot_in (replicate ch.lender.lending.spec.slots Free) i) ≡ Some a
     crashed_slots i a =
         cond_both ch.lender_gone _ _
         (λ (x : Channel). tenant (slot_in x.lender.slots i) ≡ Some a → tenant (slot_in (replicate ch.lender.lending.spec.slots Free) i) ≡ Some a) (λ _ e. e)
@@ -351,7 +354,8 @@ lodges_call ch (Host m used word) h = λ i a e. h i a (hosted_slots i a e)
   where
     hosted_slots : (i : ℕ) (a : Tenant) → tenant (slot_in (host ch.lender used word).lender.slots i) ≡ Some a → tenant (slot_in ch.lender.slots i) ≡ Some a
     hosted_slots i a =
-        cond_both (opens (measured ch.lender used)) _ _ (λ (x : Turn). tenant (slot_in x.lender.slots i) ≡ Some a → tenant (slot_in ch.lender.slots i) ≡ Some a)
+        cond_both (opens (measure_after ch.lender used)) _ _ (λ (x : Turn). tenant (slot_in x.lender.slots i) ≡ Some a
+        → tenant (slot_in ch.lender.slots i) ≡ Some a)
         (λ _ e. e) (λ _ e. e)
 
 lodges_move : (f : Harbor) (c : FabricCall) (r : FabricAnswer c) (g : Harbor) → Moves f c r g → AllLodge f → AllLodge g
@@ -390,13 +394,13 @@ arrives_alone :
     (s : Sizes) (c : Channel) (n : Link) → IsKnown s c → arrive (let_go c) n ≡ record (let_go c) { peers = record { link = n; greeted = false } ∷ [] }
 arrives_alone s c n h = arrived (let_go c) n (let_go_none s c h) (ap (λ (x : Lending). x.links) (let_go_lending c) ∙ h.one)
 
-known_connected : (s : Sizes) (c : Channel) (n : Link) → IsKnown s c → IsKnown s (connected c n)
+known_connected : (s : Sizes) (c : Channel) (n : Link) → IsKnown s c → IsKnown s (connect_after c n)
 known_connected s c n h =
     let now = arrives_alone s c n h in
-    known_by s c (connected c n) h (ap (λ (x : Lender). x.lending) now ∙ let_go_lending c) (false, ap (λ (x : Lender). x.peers) now)
+    known_by s c (connect_after c n) h (ap (λ (x : Lender). x.lending) now ∙ let_go_lending c) (false, ap (λ (x : Lender). x.peers) now)
 
 -- a link that was just made has not greeted, and one that greets has
-pub connected_fresh : (s : Sizes) (c : Channel) (n : Link) → IsKnown s c → has_greeted (connected c n).lender n ≡ false
+pub connected_fresh : (s : Sizes) (c : Channel) (n : Link) → IsKnown s c → has_greeted (connect_after c n).lender n ≡ false
 connected_fresh s c n h = ap (λ (x : Lender). has_greeted x n) (arrives_alone s c n h) ∙ not_yet (n.0 == n.0)
   where
     not_yet : (b : Bool) → ((b && false) || false) ≡ false
@@ -416,14 +420,14 @@ greeted_known s c stands h =
     greets ps a = ap (map (greet_peer c.number)) a.1 ∙ ap (λ (p : Peer). p ∷ []) (cond-true (c.number.0 == c.number.0) _ _ (eq-eqb c.number.0 c.number.0 refl))
 
 -- through each call
-known_abandoned : (s : Sizes) (c d : Channel) → c.lender_gone ≡ false → IsKnown s c → d.lender ≡ c.lender → d.number ≡ c.number → IsKnown s (abandoned d)
+known_abandoned : (s : Sizes) (c d : Channel) → c.lender_gone ≡ false → IsKnown s c → d.lender ≡ c.lender → d.number ≡ c.number → IsKnown s (leave_after d)
 known_abandoned s c d stands h lender number =
-    known_by s c (abandoned d) h (gone_lending d.lender d.number ∙ ap (λ (x : Lender). x.lending) lender)
+    known_by s c (leave_after d) h (gone_lending d.lender d.number ∙ ap (λ (x : Lender). x.lending) lender)
     (peers-gone d.lender d.number
     (subst (λ n. IsAlone n false d.lender.peers) (sym number)
     (subst (λ (x : Lender). IsAlone c.number false x.peers) (sym lender) (alone_stands s c stands h))))
 
-known_give : (s : Sizes) (c : Channel) → IsKnown s c → IsKnown s (given c).1
+known_give : (s : Sizes) (c : Channel) → IsKnown s c → IsKnown s (give_after c).1
 known_give s c h = cond_both c.lender_gone _ _ (λ (x : Gave × Channel). IsKnown s x.1) (λ _. h) (λ stands. from stands c.to_lender.parcels)
   where
     from : c.lender_gone ≡ false → (ps : List Parcel) → IsKnown s (given_from c ps).1
@@ -431,42 +435,42 @@ known_give s c h = cond_both c.lender_gone _ _ (λ (x : Gave × Channel). IsKnow
     from stands (p ∷ ps) =
         cond_both (may_send c.lender c.number p.msg) _ _ (λ (x : Gave × Channel). IsKnown s x.1)
         (λ may.
-        known_by s c (delivered (record c { to_lender = record c.to_lender { parcels = ps } }) (took c.lender c.number p.msg p.page)) h
+        known_by s c (deliver_after (record c { to_lender = record c.to_lender { parcels = ps } }) (took_after c.lender c.number p.msg p.page)) h
         (took_lending c.lender c.number p.msg p.page)
-        (subst (λ b. IsAlone c.number b (took c.lender c.number p.msg p.page).lender.peers) (sym stands) (took_alone p)))
+        (subst (λ b. IsAlone c.number b (took_after c.lender c.number p.msg p.page).lender.peers) (sym stands) (took_alone p)))
         (λ _. known_abandoned s c (record c { to_lender = record c.to_lender { parcels = ps } }) stands h refl refl)
       where
-        took_alone : (p : Parcel) → IsAlone c.number false (took c.lender c.number p.msg p.page).lender.peers
+        took_alone : (p : Parcel) → IsAlone c.number false (took_after c.lender c.number p.msg p.page).lender.peers
         took_alone p =
             cond_both (may_send c.lender c.number p.msg) _ _ (λ (x : Turn). IsAlone c.number false x.lender.peers)
             (λ _. alone-serve c.lender c.number p.msg p.page (alone_stands s c stands h)) (λ _. alone_stands s c stands h)
 
 known_same : (s : Sizes) (c d : Channel) → IsKnown s c → d.lender ≡ c.lender → d.number ≡ c.number → d.lender_gone ≡ c.lender_gone → IsKnown s d
-known_same s c d h lender number left =
+known_same s c d h lender number round_left =
     known_by s c d h (ap (λ (x : Lender). x.lending) lender)
     (subst (λ (x : Lender). IsAlone d.number d.lender_gone x.peers) (sym lender)
-    (subst (λ n. IsAlone n d.lender_gone c.lender.peers) (sym number) (subst (λ b. IsAlone c.number b c.lender.peers) (sym left) h.alone)))
+    (subst (λ n. IsAlone n d.lender_gone c.lender.peers) (sym number) (subst (λ b. IsAlone c.number b c.lender.peers) (sym round_left) h.alone)))
 
 known_call : (s : Sizes) (ch : Channel) (c : FabricCall) → IsKnown s ch → IsKnown s (on_channel ch c).1
 known_call s ch (Connect m n) h = known_connected s ch n h
 known_call s ch (Send m p) h =
     cond_both ch.device_gone _ _ (λ (x : Sent × Channel). IsKnown s x.1) (λ _. h)
-    (λ _. known_same s ch (record ch { to_lender = appended ch.to_lender p }) h refl refl refl)
+    (λ _. known_same s ch (record ch { to_lender = append_after ch.to_lender p }) h refl refl refl)
 known_call s ch (Take m) h = cond_both ch.device_gone _ _ (λ (x : Handed × Channel). IsKnown s x.1) (λ _. h) (λ _. from ch.to_device.parcels)
   where
     from : (ps : List Parcel) → IsKnown s (taken_from ch ps).1
     from [] =
         cond_both ch.to_device.ended _ _ (λ (x : Handed × Channel). IsKnown s x.1)
-        (λ _. known_same s ch (record ch { to_lender = ended ch.to_lender; device_gone = true }) h refl refl refl) (λ _. h)
+        (λ _. known_same s ch (record ch { to_lender = end_lane ch.to_lender; device_gone = true }) h refl refl refl) (λ _. h)
     from (p ∷ ps) = known_same s ch (record ch { to_device = record ch.to_device { parcels = ps } }) h refl refl refl
 known_call s ch (End m) h = known_same s ch (on_channel ch (End m)).1 h refl refl refl
 known_call s ch (Give m) h = known_give s ch h
-known_call s ch (Cut m a b) h = known_same s ch (severed ch a b).1 h refl refl refl
+known_call s ch (Cut m a b) h = known_same s ch (cut_after ch a b).1 h refl refl refl
 known_call s ch (Crash m) h =
     cond_both ch.lender_gone _ _ (λ (x : Channel). IsKnown s x)
     (λ left. known_by s ch (record ch { lender = restart ch.lender }) h refl (subst (λ b. IsAlone ch.number b []) (sym left) refl))
     (λ _.
-    known_by s ch (record ch { lender = restart ch.lender; to_lender = cut ch.to_lender 0; to_device = ended ch.to_device; lender_gone = true }) h refl refl)
+    known_by s ch (record ch { lender = restart ch.lender; to_lender = cut ch.to_lender 0; to_device = end_lane ch.to_device; lender_gone = true }) h refl refl)
 known_call s ch (Host m used word) h =
     known_by s ch (on_channel ch (Host m used word)).1 h (host_lending ch.lender used word)
     (subst (λ ps. IsAlone ch.number ch.lender_gone ps) (sym (peers-host ch.lender used word)) h.alone)

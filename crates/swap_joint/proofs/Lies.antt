@@ -42,7 +42,7 @@ use Rattle.swap_table.specs.declared.DiskStep.TheVariants as ends
 use Rattle.swap_table.specs.declared.Placed.{Placed}
 use Rattle.swap_table.specs.Ports.{Prog, Ret, AskDisk, AskFabric, answering, Along}
 use Rattle.swap_table.specs.Device as device
-use Rattle.swap_table.specs.Device.{Device, Heard, heard, query_reply, borrow_reply, write_reply, read_reply}
+use Rattle.swap_table.specs.Device.{Device, Heard, heard_parcel, query_reply, borrow_reply, write_reply, read_reply}
 use Rattle.swap_table.specs.Happens.{happens, see_out, see_in, see_step, see_start, see_disk, see_tick, see_map, see_link, see_gave, see_cut, see_crash, see_host, see_take, taken_if}
 use Rattle.swap_table.specs.Serves.{AreSingle}
 use Rattle.swap_table.proofs.Leases.{only_slab, unleased}
@@ -99,7 +99,7 @@ abbrev IsNew : Device → Lender → Msg → Type 0
 IsNew d l m = (k : Lease) → lends k m ≡ true → (t : Slab) → has_lease l k (slabs.state_of d.remote.slabs t) ≡ false
 
 answers_heard :
-    (d : Device) (l : Lender) (q : Parcel) (x : Request) → Answers d.sizes d.remote.slabs l q x → IsNew d l q.msg → IsHeard (device.answered d l q (Some x))
+    (d : Device) (l : Lender) (q : Parcel) (x : Request) → Answers d.sizes d.remote.slabs l q x → IsNew d l q.msg → IsHeard (device.heard_answer d l q (Some x))
 answers_heard d l q (Query t) answers new = go (query_reply q.msg) answers
   where
     go : (o : Option (Slab × ℕ)) → IsRoomFor t o → IsHeard (device.query_answered d l t o)
@@ -141,17 +141,17 @@ module _ (d : Device) (l : Lender) (c : Channel) (q : Parcel) (qs : List Parcel)
   new : IsNew d l q.msg
   new k e t = joined.loans.fresh k t (ap (lends_in k) front ∙ ap (λ b. b || lends_in k qs) e)
 
-  reply_heard : is_reply q.msg ≡ true → IsHeard (device.answered d l q (oldest (ring_of d.remote.links l)))
+  reply_heard : is_reply q.msg ≡ true → IsHeard (device.heard_answer d l q (oldest (ring_of d.remote.links l)))
   reply_heard is =
       let t = taken_front d.sizes d.history d.calls d.remote.slabs d.remote.bits (ring_of d.remote.links l) l c q qs front is joined in
-      subst (λ (o : Option Request). IsHeard (device.answered d l q o)) (sym (ap oldest t.ring_is)) (answers_heard d l q t.one t.answers.0 new)
+      subst (λ (o : Option Request). IsHeard (device.heard_answer d l q o)) (sym (ap oldest t.ring_is)) (answers_heard d l q t.one t.answers.0 new)
 
-  pub front_heard : IsHeard (heard d l q (oldest (ring_of d.remote.links l)))
+  pub front_heard : IsHeard (heard_parcel d l q (oldest (ring_of d.remote.links l)))
   front_heard = go q.msg refl (subst (λ ps. InTurn (λ k. IsMappedAt d.remote.slabs l k) ps) front turned.turn).0
     where
       by_msg :
           (m : Msg) → q.msg ≡ m → IsHeard (device.heard_by d l q (oldest (ring_of d.remote.links l)) (device.rate_asked m) (device.taken_back m))
-          → IsHeard (heard d l q (oldest (ring_of d.remote.links l)))
+          → IsHeard (heard_parcel d l q (oldest (ring_of d.remote.links l)))
       by_msg m is h =
           let P : Msg → Type 0 = λ m. IsHeard (device.heard_by d l q (oldest (ring_of d.remote.links l)) (device.rate_asked m) (device.taken_back m)) in
           subst P (sym is) h
@@ -159,7 +159,7 @@ module _ (d : Device) (l : Lender) (c : Channel) (q : Parcel) (qs : List Parcel)
       is_reply_of : (m : Msg) → q.msg ≡ m → is_reply m ≡ true → is_reply q.msg ≡ true
       is_reply_of m is e = ap is_reply is ∙ e
 
-      go : (m : Msg) → q.msg ≡ m → MayCome (λ k. IsMappedAt d.remote.slabs l k) q.msg → IsHeard (heard d l q (oldest (ring_of d.remote.links l)))
+      go : (m : Msg) → q.msg ≡ m → MayCome (λ k. IsMappedAt d.remote.slabs l k) q.msg → IsHeard (heard_parcel d l q (oldest (ring_of d.remote.links l)))
       go (msg.Room slab free) is may = by_msg (msg.Room slab free) is (reply_heard (is_reply_of (msg.Room slab free) is refl))
       go (msg.Lent slab lease) is may = by_msg (msg.Lent slab lease) is (reply_heard (is_reply_of (msg.Lent slab lease) is refl))
       go (msg.Refused slab) is may = by_msg (msg.Refused slab) is (reply_heard (is_reply_of (msg.Refused slab) is refl))
@@ -172,7 +172,7 @@ module _ (d : Device) (l : Lender) (c : Channel) (q : Parcel) (qs : List Parcel)
       go (msg.Evict lease) is may =
           let P : Msg → Type 0 = λ m. MayCome (λ k. IsMappedAt d.remote.slabs l k) m in
           let found = mapped_found d.remote.slabs l lease single (subst P is may) in
-          by_msg (msg.Evict lease) is (_, ap (device.evicted d) found.1)
+          by_msg (msg.Evict lease) is (_, ap (device.heard_evict d) found.1)
       go _ is may = absurd (let P : Msg → Type 0 = λ m. MayCome (λ k. IsMappedAt d.remote.slabs l k) m in let no : ⊥ = subst P is may in no)
 
 -- what is seen of an event is no lie, and ends no link
@@ -206,7 +206,7 @@ module _ {D : Type 0} (disk_moves : D → (c : DiskCall) → DiskAnswer c → D 
 
   took_honest :
       (d d' : Device) (k k' : D) (h mid h' : Harbor) (l : Lender) (r : Handed) (s : Seen)
-      → ((q : Parcel) → r ≡ Brought q → IsHeard (heard d l q (oldest (ring_of d.remote.links l))))
+      → ((q : Parcel) → r ≡ Brought q → IsHeard (heard_parcel d l q (oldest (ring_of d.remote.links l))))
       → Along disk_moves harbor.Moves {A = Device × Seen} (answering (λ (r : Device × LinkStep). (r.0, see_take r.1)) (device.took_from d l r)) k mid k' h'
       (d', s)
       → is_unfair s ≡ false
@@ -219,7 +219,7 @@ module _ {D : Type 0} (disk_moves : D → (c : DiskCall) → DiskAnswer c → D 
       let P : Option Heard → Type 0 =
       λ o.
       Along disk_moves harbor.Moves {A = Device × Seen}
-      (answering (λ (r : Device × LinkStep). (r.0, see_take r.1)) (device.understood d l q.msg o)) k mid k' h' (d', s) in
+      (answering (λ (r : Device × LinkStep). (r.0, see_take r.1)) (device.understand d l q.msg o)) k mid k' h' (d', s) in
       let twice =
       answered_twice (device.with_step (link.Got q.msg)) (λ (r : Device × LinkStep). (r.0, see_take r.1)) (device.follow x.0 l) k k' mid h' (d', s)
       (subst P x.1 along) in
@@ -228,7 +228,7 @@ module _ {D : Type 0} (disk_moves : D → (c : DiskCall) → DiskAnswer c → D 
   link_honest :
       (d d' : Device) (k k' : D) (h h' : Harbor) (l : Lender) (s : Seen)
       → ((q : Parcel) (g : Harbor) → is_up d.remote.links l ≡ true → harbor.Moves h (Take l) (Brought q) g
-      → IsHeard (heard d l q (oldest (ring_of d.remote.links l))))
+      → IsHeard (heard_parcel d l q (oldest (ring_of d.remote.links l))))
       → Along disk_moves harbor.Moves {A = Device × Seen} (answering (λ (r : Device × LinkStep). (r.0, see_take r.1)) (device.link_take d l)) k h k' h' (d', s)
       → is_unfair s ≡ false
   link_honest d d' k k' h h' l s each = go (is_up d.remote.links l) refl
@@ -319,7 +319,7 @@ module _ {D : Type 0} (disk_moves : D → (c : DiskCall) → DiskAnswer c → D 
   pub event_honest :
       (d : Device) (page : List ℕ) (e : Event) (k : D) (h : Harbor) (s : Seen)
       → ((l : Lender) (q : Parcel) (g : Harbor) → is_up d.remote.links l ≡ true → harbor.Moves h (Take l) (Brought q) g
-      → IsHeard (heard d l q (oldest (ring_of d.remote.links l))))
+      → IsHeard (heard_parcel d l q (oldest (ring_of d.remote.links l))))
       → ((l : Lender) (r : Gave) (g : Harbor) → harbor.Moves h (Give l) r g → ends_it r ≡ false) → Gives (happens d page e) k h s → is_unfair s ≡ false
   event_honest d page (event.PageOut c p) k h s each fair given =
       either (is_idle (state_of d.calls c)) _ _ k h s (λ g. honest_by see_out (device.out d c p page) g.0 k g.1 h g.2 s see_out_honest g.3)
@@ -345,7 +345,7 @@ module _ {D : Type 0} (disk_moves : D → (c : DiskCall) → DiskAnswer c → D 
 -- so of a device that is joined with its lenders, and whose messages may be taken in turn
 pub understood :
     (n : ℕ) (d : Device) (h : Harbor) → ServesAt n d h → AllJoined n d h → AllTurned n d h → (l : Lender) (q : Parcel) (g : Harbor)
-    → is_up d.remote.links l ≡ true → harbor.Moves h (Take l) (Brought q) g → IsHeard (heard d l q (oldest (ring_of d.remote.links l)))
+    → is_up d.remote.links l ≡ true → harbor.Moves h (Take l) (Brought q) g → IsHeard (heard_parcel d l q (oldest (ring_of d.remote.links l)))
 understood n d h serves joined turned l q g up moved =
     let within : l.0 < n = (serves.link l).lender up in
     let here : Joined d l (channel_of h l) = joined l within up in

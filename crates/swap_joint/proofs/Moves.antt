@@ -20,7 +20,7 @@ use Rattle.swap_slabs.specs.declared.Reply.TheVariants as reply
 use Rattle.swap_rings.specs.Rings.{is_up, ring_of}
 use Rattle.swap_remote.specs.Remote as remote
 use Rattle.swap_table.specs.Device as device
-use Rattle.swap_table.specs.Device.{Device, of_device, enter, give, fault, lost, wait_for_room, wait_for_disk, raised, next_link, hello}
+use Rattle.swap_table.specs.Device.{Device, of_device, enter_entry, give, fault, lost_after, wait_for_room, wait_for_disk, raised_after, next_link, hello}
 use Rattle.swap_table.specs.Goes.{Asked, stay, by_disk, by_fabric, PortsGo, EachKeepsWhere}
 use Rattle.swap_table.specs.Moves.{Within, of_sizes, Speaker, Sends, write, read, borrow, query, query_too, IsFar, far_give, far_cut, far_crash, far_host, Move, enters, gives, faults, waits_for_room, rates_change, lets_go, gives_up, starts, waits_for_disk, takes, lets_finish, sends, finds_down, raises, speaks, speaks_to_nobody, hears, hears_nothing, loses, misunderstands, breaks_off, far}
 use Rattle.swap_table.specs.Promises.{FollowsItsMoves, Promises}
@@ -43,20 +43,20 @@ use Rattle.swap_joint.proofs.Sends.{sent_joins, said_joins, raised_joins, raised
 use Rattle.swap_joint.proofs.Takes.{taken_nothing, heard_joins}
 
 -- what came back from the disk changes no entry that a call keeps
-wrote_sees : (l : Lender) (d : Device) (p : Page) (copy : Option Copy) (ok : Bool) → SeesSame l d (device.wrote d p copy ok).0
+wrote_sees : (l : Lender) (d : Device) (p : Page) (copy : Option Copy) (ok : Bool) → SeesSame l d (device.wrote_after d p copy ok).0
 wrote_sees l d p None ok = sees_itself l d
-wrote_sees l d p (Some copy) true = sees_other l d (record d { queue = queue.done d.queue p }) refl refl refl (still_same l d)
+wrote_sees l d p (Some copy) true = sees_other l d (record d { queue = queue.done_after d.queue p }) refl refl refl (still_same l d)
 wrote_sees l d p (Some copy) false =
-    sees_other l d (record d { queue = queue.failed d.queue p; failed_writes = d.failed_writes + 1 }) refl refl refl (still_same l d)
+    sees_other l d (record d { queue = queue.failed_after d.queue p; failed_writes = d.failed_writes + 1 }) refl refl refl (still_same l d)
 
-took_sees : (l : Lender) (d : Device) (w : DiskWhich) (p : Page) (ok : Bool) (bytes : List ℕ) → SeesSame l d (device.took d w p ok bytes).0
+took_sees : (l : Lender) (d : Device) (w : DiskWhich) (p : Page) (ok : Bool) (bytes : List ℕ) → SeesSame l d (device.took_after d w p ok bytes).0
 took_sees l d (which.Write q) p ok bytes = wrote_sees l d p (queue.flying d.queue p) ok
 took_sees l d (which.Read c) p true bytes =
-    sees_other l d (record d { calls = calls.came d.calls c bytes }) refl refl refl
-    (still_all d.calls (calls.came d.calls c bytes) (ring_of d.remote.links l) (still_arrives arrived.Came bytes d.calls c))
+    sees_other l d (record d { calls = calls.came_after d.calls c bytes }) refl refl refl
+    (still_all d.calls (calls.came_after d.calls c bytes) (ring_of d.remote.links l) (still_arrives arrived.Came bytes d.calls c))
 took_sees l d (which.Read c) p false bytes =
-    sees_other l d (record d { calls = calls.failed d.calls c; failed_reads = d.failed_reads + 1 }) refl refl refl
-    (still_all d.calls (calls.failed d.calls c) (ring_of d.remote.links l) (still_arrives arrived.Failed [] d.calls c))
+    sees_other l d (record d { calls = calls.failed_after d.calls c; failed_reads = d.failed_reads + 1 }) refl refl refl
+    (still_all d.calls (calls.failed_after d.calls c) (ring_of d.remote.links l) (still_arrives arrived.Failed [] d.calls c))
 
 back_sees : (l : Lender) (d : Device) (taken : Option Taken) → SeesSame l d (device.took_back d taken).0
 back_sees l d None = sees_itself l d
@@ -117,7 +117,7 @@ module _ {D : Type 0} (disk : DiskMeaning D) (follows : FollowsItsMoves disk) (l
 
   pub each_joins : EachKeepsWhere disk.moves harbor.Moves (Move There) Agrees JoinedAt
   each_joins x asked y k k' f f' (enters {d = d} {c = c} {p = p} {bytes = bytes} outs) stay agree h =
-      alone d (enter d c p bytes) f (λ l. sees_enter l d c p bytes) h
+      alone d (enter_entry d c p bytes) f (λ l. sees_enter l d c p bytes) h
   each_joins x asked y k k' f f' (gives {d = d} {c = c} {p = p} {named = named} {from = from} {bytes = bytes} given) stay agree h =
       alone d (give d c p named from bytes) f (λ l. sees_give l d c p named from bytes) h
   each_joins x asked y k k' f f' (faults {d = d} {c = c} {p = p} {k = kind} {since = since} {at = at} {bytes = bytes} fails) stay agree h =
@@ -133,9 +133,9 @@ module _ {D : Type 0} (disk : DiskMeaning D) (follows : FollowsItsMoves disk) (l
       alone d (record d { rates = rates }) f (λ l. sees_other l d (record d { rates = rates }) refl refl refl (still_same l d)) h
   each_joins x asked y k k' f f' (lets_go {d = d} l within up) stay agree h = (h.0, joins_lost o.lenders d f l (all_but l o.lenders d f h.1))
   each_joins x asked y k k' f f' (gives_up {d = d} l t off asks) stay agree h =
-      alone d (record d { remote = remote.gone d.remote l t }) f
+      alone d (record d { remote = remote.gone_after d.remote l t }) f
       (λ m.
-      sees_parts m d (slabs.answered d.remote.slabs t l reply.Gone) d.remote.links d.calls d.links_made
+      sees_parts m d (slabs.answered_after d.remote.slabs t l reply.Gone) d.remote.links d.calls d.links_made
       (leases_answered m l d.remote.slabs t reply.Gone) refl (still_same m d))
       h
   each_joins x asked y k k' f f' (starts {d = d} el ec) (by_disk moved) agree h =

@@ -21,7 +21,7 @@ use Rattle.swap_rings.specs.declared.Request.{Request}
 use Rattle.swap_rings.specs.declared.Request.TheVariants.{Query, Borrow, Write, Read}
 use Rattle.swap_remote.specs.Remote.{slab_for, state_for, has_page}
 use Rattle.swap_table.specs.Device.{Device}
-use Rattle.swap_table.specs.Serves.{latest, entry_to, PageFits, SlabFits, AreSingle}
+use Rattle.swap_table.specs.Serves.{latest_write, entry_to, PageFits, SlabFits, AreSingle}
 use Rattle.swap_table.proofs.Lists.{not_eqb}
 use Rattle.swap_table.proofs.Requests.{has_own}
 use Rattle.swap_table.proofs.Sends.{slab_within}
@@ -45,14 +45,14 @@ both_none : (a b : Option EntryNo) → first_of a b ≡ None → (a ≡ None) ×
 both_none None b e = (refl, e)
 both_none (Some x) b e = cc
 
-back_none : (p : Page) (xs ys : List Request) → latest p (xs ++ ys) ≡ None → latest p ys ≡ None
+back_none : (p : Page) (xs ys : List Request) → latest_write p (xs ++ ys) ≡ None → latest_write p ys ≡ None
 back_none p [] ys e = e
-back_none p (x ∷ xs) ys e = back_none p xs ys (both_none (latest p (xs ++ ys)) (entry_to p x) e).0
+back_none p (x ∷ xs) ys e = back_none p xs ys (both_none (latest_write p (xs ++ ys)) (entry_to p x) e).0
 
-front_none : (p : Page) (xs ys : List Request) → latest p (xs ++ ys) ≡ None → latest p xs ≡ None
+front_none : (p : Page) (xs ys : List Request) → latest_write p (xs ++ ys) ≡ None → latest_write p xs ≡ None
 front_none p [] ys e = refl
 front_none p (x ∷ xs) ys e =
-    let parts = both_none (latest p (xs ++ ys)) (entry_to p x) e in
+    let parts = both_none (latest_write p (xs ++ ys)) (entry_to p x) e in
     ap (λ o. first_of o (entry_to p x)) (front_none p xs ys parts.0) ∙ parts.1
 
 -- a request that doesn't write the page replaces nothing of it
@@ -89,7 +89,8 @@ or_none false b x y = y
 -- no message under way to the lender replaces what it holds of a page without a write under way
 nothing_replaces :
     (s : Sizes) (H : History) (states : List SlabState) (l : Lender) (p : Page) (k : Lease) (ps : List Parcel) (us : List Request) → AreSingle states
-    → has_lease l k (state_for s states p) ≡ true → Pairwise (Carries s H states l) (filter asks_by ps) us → (gives_back k ps ≡ true → ⊥) → latest p us ≡ None
+    → has_lease l k (state_for s states p) ≡ true → Pairwise (Carries s H states l) (filter asks_by ps) us → (gives_back k ps ≡ true → ⊥)
+    → latest_write p us ≡ None
     → list_any (λ (q : Parcel). replaces k (place_of s p.0) q.msg) ps ≡ false
 nothing_replaces s H states l p k [] us single at pairs kept none = refl
 nothing_replaces s H states l p k (q ∷ ps) us single at pairs kept none =
@@ -98,7 +99,7 @@ nothing_replaces s H states l p k (q ∷ ps) us single at pairs kept none =
   where
     go :
         (b : Bool) → is_request q.msg ≡ b
-        → ((rest : List Request) → Pairwise (Carries s H states l) (filter asks_by ps) rest → latest p rest ≡ None
+        → ((rest : List Request) → Pairwise (Carries s H states l) (filter asks_by ps) rest → latest_write p rest ≡ None
         → list_any (λ (q : Parcel). replaces k (place_of s p.0) q.msg) ps ≡ false)
         → (replaces k (place_of s p.0) q.msg || list_any (λ (q : Parcel). replaces k (place_of s p.0) q.msg) ps) ≡ false
     go false plain later =
@@ -108,7 +109,7 @@ nothing_replaces s H states l p k (q ∷ ps) us single at pairs kept none =
         let f : First (Carries s H states l) q (filter asks_by ps) us =
         pairs-first (Carries s H states l) q (filter asks_by ps) us
         (subst (λ zs. Pairwise (Carries s H states l) zs us) (filter-first asks_by q ps asks) pairs) in
-        let parts = both_none (latest p f.rest) (entry_to p f.one) (ap (latest p) (sym f.is) ∙ none) in
+        let parts = both_none (latest_write p f.rest) (entry_to p f.one) (ap (latest_write p) (sym f.is) ∙ none) in
         or_none (replaces k (place_of s p.0) q.msg) _ (carried_apart s H states l p k q f.one single at f.here parts.1) (later f.rest f.there parts.0)
 
 pub joined_is_newest : (n : ℕ) (d : Device) (h : Harbor) → AllJoined n d h → ServesAt n d h → IsNewest d h
@@ -128,7 +129,7 @@ joined_is_newest n d h all serves p set =
     go (Mapped l k f) is fits slab =
         let j : Joined d l (channel_of h l) = all l ((serves.link l).lender slab.0) slab.0 in
         let at : has_lease l k (state_for d.sizes d.remote.slabs p) ≡ true = ap (has_lease l k) is ∙ has_own l k f in
-        let none : latest p (ring_of d.remote.links l) ≡ None = (fits.0 set).none in
+        let none : latest_write p (ring_of d.remote.links l) ≡ None = (fits.0 set).none in
         let o = j.order in (
           slab.0,
           unless-map (channel_of h l).lender_gone _ _ (λ (k' : Stored d.sizes d.history d.remote.slabs d.remote.bits l (channel_of h l) (served_of j.order)). (
@@ -139,7 +140,7 @@ joined_is_newest n d h all serves p set =
                 (filter asks_by (channel_of h l).to_lender.parcels) j.order.under_way (λ q x k. k.0) j.order.requests)
                 (λ e. both_ways (has_lease l k (state_for d.sizes d.remote.slabs p)) ((k'.given k e).unleased (slab_for d.sizes p)) at)
                 (front_none p j.order.under_way j.order.dropped
-                (back_none p (served_of j.order) (j.order.under_way ++ j.order.dropped) (ap (latest p) (sym j.order.in_four) ∙ none))),
+                (back_none p (served_of j.order) (j.order.under_way ++ j.order.dropped) (ap (latest_write p) (sym j.order.in_four) ∙ none))),
           )) j.stored,
         )
 

@@ -15,7 +15,7 @@ use Rattle.swap_evict.specs.Rounds.{answer}
 use Rattle.swap_lender.specs.declared.SlotState.{SlotState}
 use Rattle.swap_lender.specs.declared.SlotState.TheVariants.{Free, Held}
 use Rattle.swap_lender.specs.Lender.{Lender, is_free, has_lease, first_where, lends, holds, slot_of, slot_in}
-use Rattle.swap_lender.specs.Table.{Turn, marked, mark_slot, settle_with, due, lend, may_send, serve, done, host, measured, opens}
+use Rattle.swap_lender.specs.Table.{Turn, mark_slots, mark_slot, settle_with, slots_due, lend, may_send, serve, done_after, host, measure_after, opens}
 use Rattle.swap_lender.proofs.FreeSlots.{free_there, lends_room}
 use Rattle.swap_link.specs.Fits.{IsSound}
 use Rattle.swap_link.specs.lemmas.Slots.{lease-has, lacks, found, found-lease, marked-first}
@@ -95,7 +95,8 @@ seat_lend l n t s slots may =
 
 -- slots that are told to go
 
-get_or_marked : (set from : ℕ) (slots : List SlotState) (i : ℕ) → get_or (marked set from slots) i Free ≡ mark_slot (has set (from + i)) (get_or slots i Free)
+get_or_marked : (set from : ℕ) (slots : List SlotState) (i : ℕ)
+    → get_or (mark_slots set from slots) i Free ≡ mark_slot (has set (from + i)) (get_or slots i Free)
 get_or_marked set from [] i = sym (marks_free (has set (from + i)))
   where
     marks_free : (b : Bool) → mark_slot b Free ≡ Free
@@ -124,15 +125,16 @@ seat_settle l None n k t h = h
 seat_settle l (Some set) n k t h =
     let after = told_seat (has set (0 + slot_of l n k)) (slot_in l.slots (slot_of l n k)) t h.0 h.1 in (
       after.0,
-      ap (λ i. seat_in (slot_in (marked set 0 l.slots) i)) (marked-first n k set 0 l.slots) ∙ ap seat_in (get_or_marked set 0 l.slots (slot_of l n k))
+      ap (λ i. seat_in (slot_in (mark_slots set 0 l.slots) i)) (marked-first n k set 0 l.slots) ∙ ap seat_in (get_or_marked set 0 l.slots (slot_of l n k))
           ∙ after.1,
     )
 
 -- a slot that is given back
 seat_done :
-    (l : Lender) (n : Link) (j k : Lease) (t : Slab) → slot_of l n j < length l.slots → (j.0 ≡ k.0 → ⊥) → HasSeat l n k t → HasSeat (done l n j).lender n k t
+    (l : Lender) (n : Link) (j k : Lease) (t : Slab) → slot_of l n j < length l.slots → (j.0 ≡ k.0 → ⊥) → HasSeat l n k t
+    → HasSeat (done_after l n j).lender n k t
 seat_done l n j k t within other h =
-    seat_same l (done l n j).lender n k t
+    seat_same l (done_after l n j).lender n k t
     (position_or_len-set (has_lease n k) l.slots (slot_of l n j) Free Free
     (sym (lacks n k (get_or l.slots (slot_of l n j) Free) j.0 (found-lease l n j within) other)))
     (get_or-set_other l.slots (slot_of l n j) (slot_of l n k) Free Free (λ e.
@@ -149,11 +151,11 @@ pub seat_served :
 seat_served l n (msg.Borrow u) page k t s may kept h =
     cond_both (lends l) _ _ (λ (x : Turn). HasSeat x.lender n k t) (λ _. seat_lend_other l n u k t s h) (λ _. h)
 seat_served l n (msg.Rates j value) page k t s may kept h =
-    seat_settle (record l { round = option_map (answer (slot_of l n j) value) l.round }) (due (option_map (answer (slot_of l n j) value) l.round)) n k t h
+    seat_settle (record l { round = option_map (answer (slot_of l n j) value) l.round }) (slots_due (option_map (answer (slot_of l n j) value) l.round)) n k t h
 seat_served l n (msg.Done j) page k t s may kept h =
     seat_done l n j k t (ltb-true (slot_of l n j) (length l.slots) (and_parts (holds l n j) _ may).0) (λ e. both_ways (j.0 == k.0) kept (eq-eqb j.0 k.0 e)) h
 seat_served l n (msg.Write j i) page k t s may kept h = h
 seat_served l n _ page k t s may kept h = h
 
 pub seat_host : (l : Lender) (used word : ℕ) (n : Link) (k : Lease) (t : Slab) → HasSeat l n k t → HasSeat (host l used word).lender n k t
-seat_host l used word n k t h = cond_both (opens (measured l used)) _ _ (λ (x : Turn). HasSeat x.lender n k t) (λ _. h) (λ _. h)
+seat_host l used word n k t h = cond_both (opens (measure_after l used)) _ _ (λ (x : Turn). HasSeat x.lender n k t) (λ _. h) (λ _. h)

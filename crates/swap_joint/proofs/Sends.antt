@@ -25,7 +25,7 @@ use Rattle.swap_rings.specs.declared.Request.TheVariants as request
 use Rattle.swap_remote.specs.Remote as remote
 use Rattle.swap_remote.specs.Remote.{Remote, slab_for, has_page, target}
 use Rattle.swap_table.specs.Device as device
-use Rattle.swap_table.specs.Device.{Device, enter, write_sent, read_sent, raised, next_link}
+use Rattle.swap_table.specs.Device.{Device, enter_entry, write_sent, read_sent, raised_after, next_link}
 use Rattle.swap_table.specs.Serves.{IsOutIn, bytes_in, SlabFits}
 use Rattle.swap_table.specs.Moves.{Within, Sends, write, read, borrow, query, query_too, IsWord, greeting, rating, giving_back}
 use Rattle.swap_table.proofs.Entries.{named_last}
@@ -33,7 +33,7 @@ use Rattle.swap_table.proofs.Links.{link-same, link-other}
 use Rattle.swap_table.proofs.Sends.{sent-other}
 use Rattle.swap_table.proofs.Waits.{Target, target_is, may_send_is}
 use Rattle.swap_table.proofs.Keeps.{ins_wait}
-use Rattle.swap_link.specs.Channel.{connected}
+use Rattle.swap_link.specs.Channel.{connect_after}
 use Rattle.swap_link.specs.Harbor as harbor
 use Rattle.swap_link.specs.Harbor.{Harbor, channel_of}
 use Rattle.swap_link.specs.lemmas.KeepLaws.{unless}
@@ -66,20 +66,25 @@ source_is d p a e = go (has_page d.remote p) refl e
 asked_joins :
     (n : ℕ) (d : Device) (f g : Harbor) (l first : Lender) (t : Slab) (second : Option Lender)
     → ((m : Lender) (k : Lease) → has_lease m k (state_of d.remote.slabs t) ≡ false) → is_up d.remote.links l ≡ true
-    → (r : Remote) → r ≡ record d.remote { slabs = slabs.asked d.remote.slabs t first second; links = rings.sent d.remote.links l (request.Query t) }
+    → (r : Remote) → r ≡ record d.remote {
+      slabs = slabs.asked_after d.remote.slabs t first second;
+      links = rings.sent_after d.remote.links l
+          (request.Query t);
+    }
     → AllJoined n d f → harbor.Moves f (Send l (parcel_of (msg.Query t) [])) sent_is.Sent g → AllJoined n (record d { remote = r }) g
 asked_joins n d f g l first t second none up r is all moved =
     let one = request.Query t in
-    let states : List SlabState = slabs.asked d.remote.slabs t first second in
+    let states : List SlabState = slabs.asked_after d.remote.slabs t first second in
     let same : (m : Lender) → SameLeases m d.remote.slabs states = λ m. leases_asked m first d.remote.slabs t second (none m) in
     subst (λ (r : Remote). AllJoined n (record d { remote = r }) g) (sym is)
-    (joins_through n d (record d { remote = record d.remote { slabs = states; links = rings.sent d.remote.links l one } }) f g
+    (joins_through n d (record d { remote = record d.remote { slabs = states; links = rings.sent_after d.remote.links l one } }) f g
     (Send l (parcel_of (msg.Query t) [])) sent_is.Sent moved
     (λ m other.
-    sees_parts m d states (rings.sent d.remote.links l one) d.calls d.links_made (same m) (sent-other d.remote.links l m one other) (still_same m d))
+    sees_parts m d states (rings.sent_after d.remote.links l one) d.calls d.links_made (same m) (sent-other d.remote.links l m one other) (still_same m d))
     (all_but l n d f all)
     (λ within _.
-    asks_here d.sizes d.history d.calls d.calls d.remote.slabs states d.remote.bits (ring_of d.remote.links l) (ring_of (rings.sent d.remote.links l one) l) l
+    asks_here d.sizes d.history d.calls d.calls d.remote.slabs states d.remote.bits (ring_of d.remote.links l)
+    (ring_of (rings.sent_after d.remote.links l one) l) l
     (channel_of f l) (parcel_of (msg.Query t) []) one refl refl (same l) (still_same l d) (ring_more d.remote.links l one up)
     (λ k. unless (channel_of f l).lender_gone _ (λ _. tt)) (all l within up)))
 
@@ -88,20 +93,21 @@ pub sent_joins :
     (W : Within) (n : ℕ) (d : Device) (f g : Harbor) (l : Lender) (q : Parcel) (e base : Device) → Sends W d l q e base → ServesAt n d f → AllJoined n d f
     → harbor.Moves f (Send l q) sent_is.Sent g → AllJoined n e g
 sent_joins W n d f g l q e base (write {c = c} {p = p} {k = k} {bytes = bytes} outs is) serves all moved =
-    let x : Device = enter d c p bytes in
+    let x : Device = enter_entry d c p bytes in
     let entered : AllJoined n x f = joins_alone n d x f (λ l. sees_enter l d c p bytes) all in
     let t = target_is d.sizes d.remote p (l, k) is in
     let entry : EntryNo = next_name d.history in
     let last_is = named_last d.history (row_of d.history c p op.PageOut bytes) in
-    let states : List SlabState = slabs.begun d.remote.slabs (slab_for d.sizes p) in
+    let states : List SlabState = slabs.begun_after d.remote.slabs (slab_for d.sizes p) in
     let one = request.Write p entry in
     joins_through n x (write_sent x l p entry) f g (Send l (write_parcel k (place_of d.sizes p.0) bytes)) sent_is.Sent moved
     (λ m other.
-    sees_parts m x states (rings.sent d.remote.links l one) x.calls d.links_made (leases_begun m d.remote.slabs (slab_for d.sizes p))
+    sees_parts m x states (rings.sent_after d.remote.links l one) x.calls d.links_made (leases_begun m d.remote.slabs (slab_for d.sizes p))
     (sent-other d.remote.links l m one other) (still_same m x))
     (all_but l n x f entered)
     (λ within up.
-    asks_here d.sizes x.history x.calls x.calls d.remote.slabs states x.remote.bits (ring_of d.remote.links l) (ring_of (rings.sent d.remote.links l one) l) l
+    asks_here d.sizes x.history x.calls x.calls d.remote.slabs states x.remote.bits (ring_of d.remote.links l)
+    (ring_of (rings.sent_after d.remote.links l one) l) l
     (channel_of f l) (write_parcel k (place_of d.sizes p.0) bytes) one refl (
       k,
       ap (λ b. write_parcel k (place_of d.sizes p.0) b) (sym (ap bytes_in last_is)),
@@ -114,18 +120,18 @@ sent_joins W n d f g l q e base (read {c = c} {p = p} {k = k} {n = entry} ins wi
     let source = source_is d p (l, k) at in
     let t = source.1 in
     let idles = ins_wait W d c p ins in
-    let states : List SlabState = slabs.begun d.remote.slabs (slab_for d.sizes p) in
+    let states : List SlabState = slabs.begun_after d.remote.slabs (slab_for d.sizes p) in
     let one = request.Read c p in
     let after = read_sent d l c p entry in
     joins_through n d after f g (Send l (read_parcel k (place_of d.sizes p.0))) sent_is.Sent moved
     (λ m other.
-    sees_parts m d states (rings.sent d.remote.links l one) after.calls d.links_made (leases_begun m d.remote.slabs (slab_for d.sizes p))
+    sees_parts m d states (rings.sent_after d.remote.links l one) after.calls d.links_made (leases_begun m d.remote.slabs (slab_for d.sizes p))
     (sent-other d.remote.links l m one other)
     (still_reads d.sizes d.history d.calls d.remote.slabs m c p entry (via.Lender l) d.failed_reads (ring_of d.remote.links m) idles.1 (serves.link m).awaited))
     (all_but l n d f all)
     (λ within up.
     asks_here d.sizes d.history d.calls after.calls d.remote.slabs states d.remote.bits (ring_of d.remote.links l)
-    (ring_of (rings.sent d.remote.links l one) l) l (channel_of f l) (read_parcel k (place_of d.sizes p.0)) one refl
+    (ring_of (rings.sent_after d.remote.links l one) l) l (channel_of f l) (read_parcel k (place_of d.sizes p.0)) one refl
     (k, refl, leases_begun l d.remote.slabs (slab_for d.sizes p) (slab_for d.sizes p) k ∙ target_lease d.sizes d.remote p (l, k) t)
     (leases_begun l d.remote.slabs (slab_for d.sizes p))
     (still_reads d.sizes d.history d.calls d.remote.slabs l c p entry (via.Lender l) d.failed_reads (ring_of d.remote.links l) idles.1 (serves.link l).awaited)
@@ -137,14 +143,15 @@ sent_joins W n d f g l q e base (borrow {t = t} finds may) serves all moved =
     let parts = and_parts (slabs.is_local (state_of d.remote.slabs t)) (rings.may_send d.sizes.window (link_of d.remote.links l)) may in
     let local = local_is (state_of d.remote.slabs t) parts.0 in
     let one = request.Borrow t in
-    let states : List SlabState = slabs.borrowed d.remote.slabs t l in
+    let states : List SlabState = slabs.borrowed_after d.remote.slabs t l in
     joins_through n d (record d { remote = remote.borrow_sent d.remote t l }) f g (Send l (parcel_of (msg.Borrow t) [])) sent_is.Sent moved
     (λ m other.
-    sees_parts m d states (rings.sent d.remote.links l one) d.calls d.links_made (leases_borrowed m l d.remote.slabs t local)
+    sees_parts m d states (rings.sent_after d.remote.links l one) d.calls d.links_made (leases_borrowed m l d.remote.slabs t local)
     (sent-other d.remote.links l m one other) (still_same m d))
     (all_but l n d f all)
     (λ within up.
-    asks_here d.sizes d.history d.calls d.calls d.remote.slabs states d.remote.bits (ring_of d.remote.links l) (ring_of (rings.sent d.remote.links l one) l) l
+    asks_here d.sizes d.history d.calls d.calls d.remote.slabs states d.remote.bits (ring_of d.remote.links l)
+    (ring_of (rings.sent_after d.remote.links l one) l) l
     (channel_of f l) (parcel_of (msg.Borrow t) []) one refl refl (leases_borrowed l l d.remote.slabs t local) (still_same l d)
     (ring_more d.remote.links l one (may_send_is d.sizes.window (link_of d.remote.links l) parts.1).0) (λ k. unless (channel_of f l).lender_gone _ (λ _. tt))
     (all l within (may_send_is d.sizes.window (link_of d.remote.links l) parts.1).0))
@@ -196,25 +203,25 @@ unleased_at n d h l serves off t k at = elim (cases_lt t.0 (length d.remote.slab
 -- a link leads to its lender anew
 pub raised_joins :
     (n : ℕ) (d : Device) (f g : Harbor) (l : Lender) (r : FabricAnswer (Connect l (next_link d))) → ServesAt n d f → AllJoined n d f → l.0 < n
-    → is_up d.remote.links l ≡ false → harbor.Moves f (Connect l (next_link d)) r g → AllJoined n (raised d l) g
+    → is_up d.remote.links l ≡ false → harbor.Moves f (Connect l (next_link d)) r g → AllJoined n (raised_after d l) g
 raised_joins n d f g l r serves all within off moved =
     let few = serves.few in
     let link_in : l.0 < length d.remote.links = subst (λ m. l.0 < m) (sym serves.links_len) (omega (arith, within, few)) in
-    let made : link_of (rings.raised d.remote.links l) l ≡ rings.fresh = link-same d.remote.links l rings.fresh link_in in
-    joins_through n d (raised d l) f g (Connect l (next_link d)) r moved
+    let made : link_of (rings.raised_after d.remote.links l) l ≡ rings.link_at_start = link-same d.remote.links l rings.link_at_start link_in in
+    joins_through n d (raised_after d l) f g (Connect l (next_link d)) r moved
     (λ m other.
-    sees_parts m d d.remote.slabs (rings.raised d.remote.links l) d.calls (d.links_made + 1) (leases_stay m d.remote.slabs)
-    (link-other d.remote.links l m rings.fresh other) (still_same m d))
+    sees_parts m d d.remote.slabs (rings.raised_after d.remote.links l) d.calls (d.links_made + 1) (leases_stay m d.remote.slabs)
+    (link-other d.remote.links l m rings.link_at_start other) (still_same m d))
     (all_but l n d f all)
     (λ within up.
-    subst (λ ys. JoinedOf d.sizes d.history d.calls d.remote.slabs d.remote.bits ys l (connected (channel_of f l) (next_link d)))
+    subst (λ ys. JoinedOf d.sizes d.history d.calls d.remote.slabs d.remote.bits ys l (connect_after (channel_of f l) (next_link d)))
     (sym (ap (λ (k : LinkState). k.ring) made))
     (joined_new d.sizes d.history d.calls d.remote.slabs d.remote.bits l (channel_of f l) (next_link d) (unleased_at n d f l serves off)))
 
-pub raised_up : (n : ℕ) (d : Device) (f : Harbor) (l : Lender) → ServesAt n d f → l.0 < n → is_up (raised d l).remote.links l ≡ true
+pub raised_up : (n : ℕ) (d : Device) (f : Harbor) (l : Lender) → ServesAt n d f → l.0 < n → is_up (raised_after d l).remote.links l ≡ true
 raised_up n d f l serves within =
     let few = serves.few in
-    ap (λ (k : LinkState). k.up) (link-same d.remote.links l rings.fresh (subst (λ m. l.0 < m) (sym serves.links_len) (omega (arith, within, few))))
+    ap (λ (k : LinkState). k.up) (link-same d.remote.links l rings.link_at_start (subst (λ m. l.0 < m) (sym serves.links_len) (omega (arith, within, few))))
 
 -- a device as it is made has no link
 all_down : (n i : ℕ) → get_or (rings.all_down n) i rings.down ≡ rings.down
@@ -222,11 +229,14 @@ all_down zero i = refl
 all_down (suc n) zero = refl
 all_down (suc n) (suc i) = all_down n i
 
-pub new_joins : (n m : ℕ) (s : Sizes) (h : Harbor) → AllJoined n (device.new s m) h
-new_joins n m s h l within up = absurd (both_ways (is_up (device.new s m).remote.links l) (ap (λ (k : LinkState). k.up) (all_down MOST_LENDERS l.0)) up)
+pub new_joins : (n m : ℕ) (s : Sizes) (h : Harbor) → AllJoined n (device.device_at_start s m) h
+new_joins n m s h l within up =
+    absurd (both_ways (is_up (device.device_at_start s m).remote.links l) (ap (λ (k : LinkState). k.up) (all_down MOST_LENDERS l.0)) up)
 
-pub new_turned : (n m : ℕ) (s : Sizes) (h : Harbor) → AllTurned n (device.new s m) h
-new_turned n m s h l within up = absurd (both_ways (is_up (device.new s m).remote.links l) (ap (λ (k : LinkState). k.up) (all_down MOST_LENDERS l.0)) up)
+pub new_turned : (n m : ℕ) (s : Sizes) (h : Harbor) → AllTurned n (device.device_at_start s m) h
+new_turned n m s h l within up =
+    absurd (both_ways (is_up (device.device_at_start s m).remote.links l) (ap (λ (k : LinkState). k.up) (all_down MOST_LENDERS l.0)) up)
 
-pub new_allowed : (n m : ℕ) (s : Sizes) (h : Harbor) → AllAllowed n (device.new s m) h
-new_allowed n m s h l within up = absurd (both_ways (is_up (device.new s m).remote.links l) (ap (λ (k : LinkState). k.up) (all_down MOST_LENDERS l.0)) up)
+pub new_allowed : (n m : ℕ) (s : Sizes) (h : Harbor) → AllAllowed n (device.device_at_start s m) h
+new_allowed n m s h l within up =
+    absurd (both_ways (is_up (device.device_at_start s m).remote.links l) (ap (λ (k : LinkState). k.up) (all_down MOST_LENDERS l.0)) up)

@@ -15,7 +15,7 @@ use Rattle.swap_lender.specs.declared.SlotState.{SlotState}
 use Rattle.swap_lender.specs.declared.SlotState.TheVariants.{Held}
 use Rattle.swap_lender.specs.Lender.{Lender, slot_in, has_greeted}
 use Rattle.swap_lender.specs.Table.{hello as greet}
-use Rattle.swap_link.specs.Lane.{Lane, appended}
+use Rattle.swap_link.specs.Lane.{Lane, append_after}
 use Rattle.swap_joint.specs.Seats.{is_done}
 use Rattle.swap_joint.specs.Stored.{gives_back}
 use Rattle.swap_joint.specs.Allowed.{is_evict, is_ask, is_rate, is_refusal, is_hello, rates_in, HasSlot, Waits, BorrowsFree, NoHello, Greets, Allows}
@@ -41,7 +41,7 @@ IsQuietReply slots m =
 pub allows_reply :
     (s : Sizes) (states : List SlabState) (ring : List Request) (l : LenderNo) (table : Lender) (n : Link) (b : Lane) (q : Parcel) (ended : Bool)
     (out : List Parcel)
-    → IsQuietReply table.slots q.msg → Allows s states ring l table n b.parcels ended out → Allows s states ring l table n (appended b q).parcels ended out
+    → IsQuietReply table.slots q.msg → Allows s states ring l table n b.parcels ended out → Allows s states ring l table n (append_after b q).parcels ended out
 allows_reply s states ring l table n b q ended out quiet h =
     by_append (λ z. Allows s states ring l table n z.parcels ended out) b q (λ _. h) (λ _. more) (λ _. h)
   where

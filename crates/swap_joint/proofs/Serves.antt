@@ -24,22 +24,22 @@ use Rattle.swap_slabs.specs.declared.SlabState.TheVariants.{Local, Asking, Borro
 use Rattle.swap_rings.specs.declared.Request.{Request}
 use Rattle.swap_rings.specs.declared.Request.TheVariants.{Query, Borrow, Write, Read}
 use Rattle.swap_remote.specs.Remote.{slab_for, state_for}
-use Rattle.swap_table.specs.Serves.{latest, entry_to, IsOut, bytes_of, AreSingle, MayPrecede, AreInOrder}
+use Rattle.swap_table.specs.Serves.{latest_write, entry_to, IsOut, bytes_of, AreSingle, MayPrecede, AreInOrder}
 use Rattle.swap_table.proofs.Lists.{not_eqb}
 use Rattle.swap_table.proofs.Leases.{only_slab}
 use Rattle.swap_table.proofs.Links.{latest-append, entry_to-own}
 use Rattle.swap_table.proofs.Requests.{same_page}
 use Rattle.swap_lender.specs.Lender.{Lender}
-use Rattle.swap_lender.specs.Table.{Turn, serve, may_send, host, gone, restart}
+use Rattle.swap_lender.specs.Table.{Turn, serve, may_send, host, gone_after, restart}
 use Rattle.swap_link.specs.Fits.{IsSound}
-use Rattle.swap_link.specs.Lane.{Lane, appended, ended, cut}
-use Rattle.swap_link.specs.Channel.{Channel, forwarded, delivered, given, given_from, abandoned, severed, crashed, connected}
+use Rattle.swap_link.specs.Lane.{Lane, append_after, end_lane, cut}
+use Rattle.swap_link.specs.Channel.{Channel, forward_after, deliver_after, give_after, given_from, leave_after, cut_after, crash_after, connect_after}
 use Rattle.swap_link.specs.Keeping.{Unless, slot_page, left_by}
 use Rattle.swap_link.specs.lemmas.Slots.{IsLater, later-serve, next-serve, slot_page-host, next-host}
 use Rattle.swap_link.specs.lemmas.KeepLaws.{unless, unless-map, unless-at, took-served}
 use Rattle.swap_joint.specs.Order.{is_request, Carries, served_of, asks_by}
 use Rattle.swap_calls.specs.Calls.{Calls}
-use Rattle.swap_joint.specs.Brought.{found, HoldsFor, Replied, Asked}
+use Rattle.swap_joint.specs.Brought.{page_found, HoldsFor, Replied, Asked}
 use Rattle.swap_joint.specs.Stored.{gives_back, lends_in, lends_slab, lends_to, LentOnce, AreNew, IsGivenBack, Stored, JoinedOf}
 use Rattle.swap_joint.specs.Seats.{HasSeat, AreSlots, is_done}
 use Rattle.swap_joint.proofs.Seats.{seat_given, seat_served, seat_host}
@@ -103,9 +103,9 @@ first_of-some : {X : Type 0} (a : Option X) (x : X) → first_of a (Some x) ≡ 
 first_of-some None x e = cc
 first_of-some (Some y) x e = cc
 
-latest_some : (p : Page) (e : EntryNo) (xs ys : List Request) → latest p (xs ++ Write p e ∷ ys) ≡ None → ⊥
-latest_some p e [] ys is = first_of-some (latest p ys) e (ap (λ o. first_of (latest p ys) o) (sym (entry_to-own p e)) ∙ is)
-latest_some p e (x ∷ xs) ys is = latest_some p e xs ys (none_before (latest p (xs ++ Write p e ∷ ys)) (entry_to p x) is)
+latest_some : (p : Page) (e : EntryNo) (xs ys : List Request) → latest_write p (xs ++ Write p e ∷ ys) ≡ None → ⊥
+latest_some p e [] ys is = first_of-some (latest_write p ys) e (ap (λ o. first_of (latest_write p ys) o) (sym (entry_to-own p e)) ∙ is)
+latest_some p e (x ∷ xs) ys is = latest_some p e xs ys (none_before (latest_write p (xs ++ Write p e ∷ ys)) (entry_to p x) is)
   where
     none_before : (a b : Option EntryNo) → first_of a b ≡ None → a ≡ None
     none_before None b e = refl
@@ -115,7 +115,7 @@ latest_some p e (x ∷ xs) ys is = latest_some p e xs ys (none_before (latest p 
 pub record Clear (s : Sizes) (states : List SlabState) (bits : List Bool) (ring : List Request) (l : LenderNo) : Type 0 where
   pub single : AreSingle states
   pub ordered : AreInOrder ring
-  pub none : (p : Page) (k : Lease) → has_lease l k (state_for s states p) ≡ true → has bits p.0 ≡ true → latest p ring ≡ None
+  pub none : (p : Page) (k : Lease) → has_lease l k (state_for s states p) ≡ true → has bits p.0 ≡ true → latest_write p ring ≡ None
 
 -- a message to the lender fewer, and messages to the device that don't lend what is given back
 given_later :
@@ -154,8 +154,8 @@ kept_by :
     (s : Sizes) (states : List SlabState) (l : LenderNo) (c : Channel) (q : Parcel) (ps : List Parcel) (p : Page) (k : Lease) (was : Option (List ℕ))
     → is_request q.msg ≡ false → c.to_lender.parcels ≡ q ∷ ps → has_lease l k (state_for s states p) ≡ true
     → ((j : Lease) → gives_back j c.to_lender.parcels ≡ true → IsGivenBack states l c j) → left_by k (place_of s p.0) q.msg q.page was ≡ was
-kept_by s states l c q ps p k was plain front at given =
-    left-kept k (place_of s p.0) q.msg q.page was (go q.msg plain (λ j e. given j (ap (gives_back j) front ∙ ap (λ b. b || gives_back j ps) e)))
+kept_by s states l c q ps p k was plain front at give_after =
+    left-kept k (place_of s p.0) q.msg q.page was (go q.msg plain (λ j e. give_after j (ap (gives_back j) front ∙ ap (λ b. b || gives_back j ps) e)))
   where
     go : (m : Msg) → is_request m ≡ false → ((j : Lease) → is_done j m ≡ true → IsGivenBack states l c j) → replaces k (place_of s p.0) m ≡ false
     go (msg.Write j i) plain back = cc
@@ -168,7 +168,7 @@ plain_found :
     (s : Sizes) (H : History) (states : List SlabState) (bits : List Bool) (l : LenderNo) (c d : Channel) (S : List Request) (q : Parcel) (ps : List Parcel)
     → is_request q.msg ≡ false → c.to_lender.parcels ≡ q ∷ ps → IsSound c.lender → may_send c.lender c.number q.msg ≡ true
     → d.lender ≡ (serve c.lender c.number q.msg q.page).lender → d.number ≡ c.number → Stored s H states bits l c S → (p : Page) (j : Lease) (b : List ℕ)
-    → has_lease l j (state_for s states p) ≡ true → found s c j p ≡ Some b → found s d j p ≡ Some b
+    → has_lease l j (state_for s states p) ≡ true → page_found s c j p ≡ Some b → page_found s d j p ≡ Some b
 plain_found s H states bits l c d S q ps plain front sound may lender number k p j b at e =
     ap (λ (m : Lender). slot_page m d.number j (place_of s p.0)) lender
     ∙ ap (λ n. slot_page (serve c.lender c.number q.msg q.page).lender n j (place_of s p.0)) number
@@ -244,20 +244,20 @@ request_found :
     (s : Sizes) (H : History) (states : List SlabState) (l : LenderNo) (c d : Channel) (q : Parcel) (x : Request) → AreSingle states → IsSound c.lender
     → may_send c.lender c.number q.msg ≡ true → Carries s H states l q x → d.lender ≡ (serve c.lender c.number q.msg q.page).lender → d.number ≡ c.number
     → (p : Page) (j : Lease) (b : List ℕ) → has_lease l j (state_for s states p) ≡ true → ((o : Page) (e : EntryNo) → x ≡ Write o e → o.0 ≡ p.0 → ⊥)
-    → found s c j p ≡ Some b → found s d j p ≡ Some b
+    → page_found s c j p ≡ Some b → page_found s d j p ≡ Some b
 request_found s H states l c d q x single sound may carries lender number p j b at other e = go x carries other
   where
-    now : left_by j (place_of s p.0) q.msg q.page (found s c j p) ≡ Some b → found s d j p ≡ Some b
+    now : left_by j (place_of s p.0) q.msg q.page (page_found s c j p) ≡ Some b → page_found s d j p ≡ Some b
     now e =
         ap (λ (m : Lender). slot_page m d.number j (place_of s p.0)) lender
         ∙ ap (λ n. slot_page (serve c.lender c.number q.msg q.page).lender n j (place_of s p.0)) number
         ∙ found-served c.lender c.number q.msg q.page j (place_of s p.0) b sound may e
 
-    go : (x : Request) → Carries s H states l q x → ((o : Page) (e : EntryNo) → x ≡ Write o e → o.0 ≡ p.0 → ⊥) → found s d j p ≡ Some b
-    go (Query t) h other = now (let P : Parcel → Type 0 = λ r. left_by j (place_of s p.0) r.msg r.page (found s c j p) ≡ Some b in subst P (sym h) e)
-    go (Borrow t) h other = now (let P : Parcel → Type 0 = λ r. left_by j (place_of s p.0) r.msg r.page (found s c j p) ≡ Some b in subst P (sym h) e)
-    go (Read a o) h other = now (let P : Parcel → Type 0 = λ r. left_by j (place_of s p.0) r.msg r.page (found s c j p) ≡ Some b in subst P (sym h.1) e)
-    go (Write o g) h other = now (let P : Parcel → Type 0 = λ r. left_by j (place_of s p.0) r.msg r.page (found s c j p) ≡ Some b in
+    go : (x : Request) → Carries s H states l q x → ((o : Page) (e : EntryNo) → x ≡ Write o e → o.0 ≡ p.0 → ⊥) → page_found s d j p ≡ Some b
+    go (Query t) h other = now (let P : Parcel → Type 0 = λ r. left_by j (place_of s p.0) r.msg r.page (page_found s c j p) ≡ Some b in subst P (sym h) e)
+    go (Borrow t) h other = now (let P : Parcel → Type 0 = λ r. left_by j (place_of s p.0) r.msg r.page (page_found s c j p) ≡ Some b in subst P (sym h) e)
+    go (Read a o) h other = now (let P : Parcel → Type 0 = λ r. left_by j (place_of s p.0) r.msg r.page (page_found s c j p) ≡ Some b in subst P (sym h.1) e)
+    go (Write o g) h other = now (let P : Parcel → Type 0 = λ r. left_by j (place_of s p.0) r.msg r.page (page_found s c j p) ≡ Some b in
         subst P (sym h.1)
         (cond-false ((h.0.0 == j.0) && (place_of s o.0 == place_of s p.0)) _ _ (elsewhere s states l p o j h.0 single at h.2 (other o g refl)) ∙ e))
 
@@ -292,7 +292,7 @@ serves_request s H states bits ring l c d S before after q ps x front sound may 
       (k.given j (ap (gives_back j) front ∙ any-rest (λ (q : Parcel). is_done j q.msg) q ps (ap (gives_back j) (sym left) ∙ e)));
 }
   where
-    now : (p : Page) (j : Lease) (b : List ℕ) → left_by j (place_of s p.0) q.msg q.page (found s c j p) ≡ Some b → found s d j p ≡ Some b
+    now : (p : Page) (j : Lease) (b : List ℕ) → left_by j (place_of s p.0) q.msg q.page (page_found s c j p) ≡ Some b → page_found s d j p ≡ Some b
     now p j b e =
         ap (λ (m : Lender). slot_page m d.number j (place_of s p.0)) lender
         ∙ ap (λ n. slot_page (serve c.lender c.number q.msg q.page).lender n j (place_of s p.0)) number
@@ -301,29 +301,30 @@ serves_request s H states bits ring l c d S before after q ps x front sound may 
     -- of another page than the one that is written
     stays :
         (x : Request) → Carries s H states l q x → (p : Page) (j : Lease) (b : List ℕ) → has_lease l j (state_for s states p) ≡ true
-        → ((o : Page) (e : EntryNo) → x ≡ Write o e → o.0 ≡ p.0 → ⊥) → found s c j p ≡ Some b → found s d j p ≡ Some b
+        → ((o : Page) (e : EntryNo) → x ≡ Write o e → o.0 ≡ p.0 → ⊥) → page_found s c j p ≡ Some b → page_found s d j p ≡ Some b
     stays x h p j b at other e = request_found s H states l c d q x clear.single sound may h lender number p j b at other e
 
     readable :
         (x : Request) → Carries s H states l q x → ring ≡ before ++ x ∷ after → (p : Page) (j : Lease) → has_lease l j (state_for s states p) ≡ true
-        → has bits p.0 ≡ true → found s d j p ≡ Some (array (zeros s) H p)
+        → has bits p.0 ≡ true → page_found s d j p ≡ Some (array (zeros s) H p)
     readable x h in_ring p j at set = stays x h p j (array (zeros s) H p) at
         (λ o e is same.
         latest_some p e before after
-        (subst (λ (r : List Request). latest p r ≡ None) (in_ring ∙ ap (λ y. before ++ y ∷ after) (is ∙ ap (λ n. Write (record { 0 = n }) e) same))
+        (subst (λ (r : List Request). latest_write p r ≡ None) (in_ring ∙ ap (λ y. before ++ y ∷ after) (is ∙ ap (λ n. Write (record { 0 = n }) e) same))
         (clear.none p j at set)))
         (k.readable p j at set)
 
     written :
         (x : Request) → Carries s H states l q x → ring ≡ before ++ x ∷ after → (p : Page) (j : Lease) (e : EntryNo)
         → has_lease l j (state_for s states p) ≡ true
-        → first_of (entry_to p x) (latest p S) ≡ Some e → IsOut H p e × (found s d j p ≡ Some (bytes_of H e))
+        → first_of (entry_to p x) (latest_write p S) ≡ Some e → IsOut H p e × (page_found s d j p ≡ Some (bytes_of H e))
     written (Query t) h in_ring p j e at is = let was = k.written p j e at is in (was.0, stays (Query t) h p j (bytes_of H e) at (λ o g y same. cc) was.1)
     written (Borrow t) h in_ring p j e at is = let was = k.written p j e at is in (was.0, stays (Borrow t) h p j (bytes_of H e) at (λ o g y same. cc) was.1)
     written (Read a o) h in_ring p j e at is = let was = k.written p j e at is in (was.0, stays (Read a o) h p j (bytes_of H e) at (λ o g y same. cc) was.1)
     written (Write o g) h in_ring p j e at is = go (o.0 == p.0) refl is
       where
-        go : (b : Bool) → (o.0 == p.0) ≡ b → first_of (cond b (Some g) None) (latest p S) ≡ Some e → IsOut H p e × (found s d j p ≡ Some (bytes_of H e))
+        go : (b : Bool) → (o.0 == p.0) ≡ b → first_of (cond b (Some g) None) (latest_write p S) ≡ Some e
+            → IsOut H p e × (page_found s d j p ≡ Some (bytes_of H e))
         go false off is =
             let was = k.written p j e at is in
             (was.0, stays (Write o g) h p j (bytes_of H e) at (λ o' g' y same. eqb-false o.0 p.0 off (page_is o o' g g' y ∙ same)) was.1)
@@ -341,7 +342,7 @@ serves_request s H states bits ring l c d S before after q ps x front sound may 
             ∙ ap (λ (o : Page). write_parcel j (place_of s o.0) (bytes_of H g)) page
             ∙ ap (λ (g : EntryNo). write_parcel j (place_of s p.0) (bytes_of H g)) entry in (
               out,
-              now p j (bytes_of H e) (let P : Parcel → Type 0 = λ r. left_by j (place_of s p.0) r.msg r.page (found s c j p) ≡ Some (bytes_of H e) in
+              now p j (bytes_of H e) (let P : Parcel → Type 0 = λ r. left_by j (place_of s p.0) r.msg r.page (page_found s c j p) ≡ Some (bytes_of H e) in
                   subst P (sym is_parcel)
                   (cond-true ((j.0 == j.0) && (place_of s p.0 == place_of s p.0)) _ _
                   (and_from (j.0 == j.0) (place_of s p.0 == place_of s p.0) (eq-eqb j.0 j.0 refl) (eq-eqb (place_of s p.0) (place_of s p.0) refl)))),
@@ -378,7 +379,7 @@ lent_for k (p ∷ ps) e = go (lends k p.msg) refl e (lent_for k ps)
 lent_new :
     (s : Sizes) (H : History) (states : List SlabState) (bits : List Bool) (l : LenderNo) (c : Channel) (S : List Request) (q : Parcel) → IsSound c.lender
     → ((k : Lease) → k.0 < c.lender.next_lease → lends k q.msg ≡ false) → Stored s H states bits l c S → AreNew states l c.to_device.parcels
-    → AreNew states l (appended c.to_device q).parcels
+    → AreNew states l (append_after c.to_device q).parcels
 lent_new s H states bits l c S q sound new k loans = record {
   fresh = λ j t e. elim (lends-append-or j c.to_device q e) [
     | inl was ↦ loans.fresh j t was
@@ -389,7 +390,8 @@ lent_new s H states bits l c S q sound new k loans = record {
       (λ j e. let one = lent_for j c.to_device.parcels e in new j (seat_given c.lender c.number j one.0 sound (k.lent one.0 j one.1)));
 }
   where
-    lends-append-or : (j : Lease) (b : Lane) (q : Parcel) → lends_in j (appended b q).parcels ≡ true → (lends_in j b.parcels ≡ true) ⊎ (lends j q.msg ≡ true)
+    lends-append-or : (j : Lease) (b : Lane) (q : Parcel) → lends_in j (append_after b q).parcels ≡ true
+        → (lends_in j b.parcels ≡ true) ⊎ (lends j q.msg ≡ true)
     lends-append-or j b q =
         by_append (λ z. lends_in j z.parcels ≡ true → (lends_in j b.parcels ≡ true) ⊎ (lends j q.msg ≡ true)) b q (λ _ e. inl e)
         (λ _. any_last (λ (q : Parcel). lends j q.msg) b.parcels q) (λ _ e. inl e)
@@ -401,8 +403,8 @@ without_first c ps = record c { to_lender = record c.to_lender { parcels = ps } 
 -- what is held for a read stays held, where what is found of its page does
 holds_on :
     (s : Sizes) (H : History) (cs : Calls) (states : List SlabState) (l : LenderNo) (c d : Channel) (x : Request)
-    → ((a : Caller) (p : Page) → x ≡ Read a p → (j : Lease) (b : List ℕ) → has_lease l j (state_for s states p) ≡ true → found s c j p ≡ Some b
-    → found s d j p ≡ Some b)
+    → ((a : Caller) (p : Page) → x ≡ Read a p → (j : Lease) (b : List ℕ) → has_lease l j (state_for s states p) ≡ true → page_found s c j p ≡ Some b
+    → page_found s d j p ≡ Some b)
     → HoldsFor s H cs states l c x → HoldsFor s H cs states l d x
 holds_on s H cs states l c d (Query t) stays h = tt
 holds_on s H cs states l c d (Borrow t) stays h = tt
@@ -429,7 +431,7 @@ joined_fine :
     (ps : List Parcel)
     → JoinedOf s H cs states bits ring l c → c.lender_gone ≡ false → IsSound c.lender → AreSlots c.lender → Clear s states bits ring l
     → c.to_lender.parcels ≡ q ∷ ps → may_send c.lender c.number q.msg ≡ true
-    → JoinedOf s H cs states bits ring l (delivered (without_first c ps) (serve c.lender c.number q.msg q.page))
+    → JoinedOf s H cs states bits ring l (deliver_after (without_first c ps) (serve c.lender c.number q.msg q.page))
 joined_fine s H cs states bits ring l c q ps h stands sound slots clear front may = go (is_request q.msg) refl
   where
     R : Parcel → Request → Type 0
@@ -439,15 +441,15 @@ joined_fine s H cs states bits ring l c q ps h stands sound slots clear front ma
     C = Asked s H cs states l c
 
     d : Channel
-    d = delivered (without_first c ps) (serve c.lender c.number q.msg q.page)
+    d = deliver_after (without_first c ps) (serve c.lender c.number q.msg q.page)
 
-    go : (b : Bool) → is_request q.msg ≡ b → JoinedOf s H cs states bits ring l (delivered (without_first c ps) (serve c.lender c.number q.msg q.page))
+    go : (b : Bool) → is_request q.msg ≡ b → JoinedOf s H cs states bits ring l (deliver_after (without_first c ps) (serve c.lender c.number q.msg q.page))
     go false plain =
-        let noticed : Noticed c.to_lender c.to_device (forwarded c.number c.to_device (serve c.lender c.number q.msg q.page).parcels) =
+        let noticed : Noticed c.to_lender c.to_device (forward_after c.number c.to_device (serve c.lender c.number q.msg q.page).parcels) =
         forwarded_noticed c.to_lender c.to_device c.number (serve c.lender c.number q.msg q.page).parcels
         (serves_quietly c.lender c.number q.msg q.page plain) in
         let quiet_now : Quiet c.to_lender c.to_device (record c.to_lender { parcels = ps })
-        (forwarded c.number c.to_device (serve c.lender c.number q.msg q.page).parcels) =
+        (forward_after c.number c.to_device (serve c.lender c.number q.msg q.page).parcels) =
         record {
           asks = sym (ap (λ (zs : List Parcel). filter asks_by zs) front ∙ filter-drops asks_by q ps plain);
           replies = noticed.quiet.replies;
@@ -456,14 +458,14 @@ joined_fine s H cs states bits ring l c q ps h stands sound slots clear front ma
         }
         in
         let o : OrderedAt s H cs states ring l c (record c.to_lender { parcels = ps })
-        (forwarded c.number c.to_device (serve c.lender c.number q.msg q.page).parcels) (served_of h.order) h.order.under_way =
+        (forward_after c.number c.to_device (serve c.lender c.number q.msg q.page).parcels) (served_of h.order) h.order.under_way =
         order_quiet R C ring c.to_lender c.to_device (record c.to_lender { parcels = ps })
-        (forwarded c.number c.to_device (serve c.lender c.number q.msg q.page).parcels) (served_of h.order) h.order.under_way quiet_now
+        (forward_after c.number c.to_device (serve c.lender c.number q.msg q.page).parcels) (served_of h.order) h.order.under_way quiet_now
         (itself R C ring c.to_lender c.to_device h.order)
         in
         joined s H cs states bits ring l d (served_of h.order) h.order.under_way h.present
         (order_moved s H cs states ring l c d (record c.to_lender { parcels = ps })
-        (forwarded c.number c.to_device (serve c.lender c.number q.msg q.page).parcels) (served_of h.order) h.order.under_way (λ x. Unit {0})
+        (forward_after c.number c.to_device (serve c.lender c.number q.msg q.page).parcels) (served_of h.order) h.order.under_way (λ x. Unit {0})
         (λ x _ held.
         unless-both c.lender_gone _ _ _
         (λ (k : Stored s H states bits l c (served_of h.order)) hold.
@@ -473,13 +475,14 @@ joined_fine s H cs states bits ring l c q ps h stands sound slots clear front ma
         o (all_true o.order.under_way))
         (unless-map c.lender_gone _ _
         (serves_plain s H states bits l c d (served_of h.order) q ps plain front sound may refl refl refl noticed.lends noticed.loans) h.stored)
-        (noticed_new states l c.to_lender c.to_device (forwarded c.number c.to_device (serve c.lender c.number q.msg q.page).parcels) noticed h.loans)
+        (noticed_new states l c.to_lender c.to_device (forward_after c.number c.to_device (serve c.lender c.number q.msg q.page).parcels) noticed h.loans)
     go true asks =
         let f : Carried C q ps h.order.under_way = order_front R C ring c.to_lender c.to_device q ps h.order front asks in
         let r : Reply s H cs states l c (serve c.lender c.number q.msg q.page) f.one = replies s H cs states l c q f.one f.carries.0 may in
-        let lane : forwarded c.number c.to_device (serve c.lender c.number q.msg q.page).parcels ≡ appended c.to_device r.reply =
+        let lane : forward_after c.number c.to_device (serve c.lender c.number q.msg q.page).parcels ≡ append_after c.to_device r.reply =
         forwarded_one c.number c.to_device (serve c.lender c.number q.msg q.page).parcels r.reply r.parcels r.whole in
-        let o : OrderedAt s H cs states ring l c (record c.to_lender { parcels = ps }) (appended c.to_device r.reply) (served_of h.order ++ f.one ∷ []) f.rest =
+        let o : OrderedAt s H cs states ring l c (record c.to_lender { parcels = ps }) (append_after c.to_device r.reply) (served_of h.order
+        ++ f.one ∷ []) f.rest =
         order_served R C ring c.to_lender c.to_device q r.reply ps h.order f r.is (r.answers, r.brings (unless-at c.lender_gone _ stands f.carries.1))
         in
         let in_ring : ring ≡ served_of h.order ++ f.one ∷ (f.rest ++ h.order.dropped) =
@@ -487,9 +490,9 @@ joined_fine s H cs states bits ring l c q ps h stands sound slots clear front ma
         let behind : AllByRecursion (MayPrecede f.one) f.rest =
         all-front (MayPrecede f.one) f.rest h.order.dropped
         (ordered_back (served_of h.order) (f.one ∷ (f.rest ++ h.order.dropped)) (subst AreInOrder in_ring clear.ordered)).0 in
-        let moved : OrderedAt s H cs states ring l d (record c.to_lender { parcels = ps }) (appended c.to_device r.reply)
+        let moved : OrderedAt s H cs states ring l d (record c.to_lender { parcels = ps }) (append_after c.to_device r.reply)
         (served_of h.order ++ f.one ∷ []) f.rest =
-        order_moved s H cs states ring l c d (record c.to_lender { parcels = ps }) (appended c.to_device r.reply) (served_of h.order ++ f.one ∷ []) f.rest
+        order_moved s H cs states ring l c d (record c.to_lender { parcels = ps }) (append_after c.to_device r.reply) (served_of h.order ++ f.one ∷ []) f.rest
         (MayPrecede f.one)
         (λ y before.
         unless-map c.lender_gone _ _
@@ -498,7 +501,7 @@ joined_fine s H cs states bits ring l c q ps h stands sound slots clear front ma
         request_found s H states l c d q f.one clear.single sound may f.carries.0 refl refl p j b at
         (λ w g is_write. apart_from f.one y before a p w g is is_write) e)))
         o
-        (all_at_most R C (MayPrecede f.one) ring (record c.to_lender { parcels = ps }) (appended c.to_device r.reply)
+        (all_at_most R C (MayPrecede f.one) ring (record c.to_lender { parcels = ps }) (append_after c.to_device r.reply)
         (served_of h.order ++ f.one ∷ []) f.rest o behind)
         in
         let P : Lane → Type 0 = λ z. OrderedAt s H cs states ring l d (record c.to_lender { parcels = ps }) z (served_of h.order ++ f.one ∷ []) f.rest in
@@ -520,29 +523,30 @@ pub joined_abandoned :
     (m : Lender)
     (S U : List Request)
     → c.device_gone ≡ false → AreNew states l c.to_device.parcels → OrderedAt s H cs states ring l c a c.to_device S U
-    → JoinedOf s H cs states bits ring l (record c { lender = m; to_lender = cut a 0; to_device = ended c.to_device; lender_gone = true })
+    → JoinedOf s H cs states bits ring l (record c { lender = m; to_lender = cut a 0; to_device = end_lane c.to_device; lender_gone = true })
 joined_abandoned s H cs states bits ring l c a m S U present new h =
-    let o : OrderedAt s H cs states ring l c (cut a 0) (ended c.to_device) S U =
-    order_quiet (Replied s H cs states l) (Asked s H cs states l c) ring (cut a 0) c.to_device (cut a 0) (ended c.to_device) S U
+    let o : OrderedAt s H cs states ring l c (cut a 0) (end_lane c.to_device) S U =
+    order_quiet (Replied s H cs states l) (Asked s H cs states l c) ring (cut a 0) c.to_device (cut a 0) (end_lane c.to_device) S U
     (record { asks = refl; replies = refl; to_lender = λ f. f; to_device = λ f. absurd (both_ways true f refl) })
     (order_cut_to (Replied s H cs states l) (Asked s H cs states l c) ring a c.to_device 0 S U h)
     in
-    joined s H cs states bits ring l (record c { lender = m; to_lender = cut a 0; to_device = ended c.to_device; lender_gone = true }) S U present
-    (order_moved s H cs states ring l c (record c { lender = m; to_lender = cut a 0; to_device = ended c.to_device; lender_gone = true }) (cut a 0)
-    (ended c.to_device) S U (λ x. Unit {0}) (λ x _ held. tt) o (all_true o.order.under_way))
+    joined s H cs states bits ring l (record c { lender = m; to_lender = cut a 0; to_device = end_lane c.to_device; lender_gone = true }) S U present
+    (order_moved s H cs states ring l c (record c { lender = m; to_lender = cut a 0; to_device = end_lane c.to_device; lender_gone = true }) (cut a 0)
+    (end_lane c.to_device) S U (λ x. Unit {0}) (λ x _ held. tt) o (all_true o.order.under_way))
     tt new
 
 pub joined_given :
     (s : Sizes) (H : History) (cs : Calls) (states : List SlabState) (bits : List Bool) (ring : List Request) (l : LenderNo) (c : Channel)
-    → JoinedOf s H cs states bits ring l c → IsSound c.lender → AreSlots c.lender → Clear s states bits ring l → JoinedOf s H cs states bits ring l (given c).1
+    → JoinedOf s H cs states bits ring l c → IsSound c.lender → AreSlots c.lender → Clear s states bits ring l
+    → JoinedOf s H cs states bits ring l (give_after c).1
 joined_given s H cs states bits ring l c h sound slots clear = cond_both c.lender_gone _ _ P (λ _. h) (λ stands. from stands c.to_lender.parcels refl)
   where
     P : Gave × Channel → Type 0
     P x = JoinedOf s H cs states bits ring l x.1
 
-    leaves : JoinedOf s H cs states bits ring l (abandoned c)
+    leaves : JoinedOf s H cs states bits ring l (leave_after c)
     leaves =
-        joined_abandoned s H cs states bits ring l c c.to_lender (gone c.lender c.number).lender (served_of h.order) h.order.under_way h.present h.loans
+        joined_abandoned s H cs states bits ring l c c.to_lender (gone_after c.lender c.number).lender (served_of h.order) h.order.under_way h.present h.loans
         (itself (Replied s H cs states l) (Asked s H cs states l c) ring c.to_lender c.to_device h.order)
 
     from : c.lender_gone ≡ false → (ps : List Parcel) → c.to_lender.parcels ≡ ps → P (given_from c ps)
@@ -550,29 +554,30 @@ joined_given s H cs states bits ring l c h sound slots clear = cond_both c.lende
     from stands (q ∷ ps) e =
         cond_both (may_send c.lender c.number q.msg) _ _ P
         (λ may.
-        subst (λ (t : Turn). JoinedOf s H cs states bits ring l (delivered (without_first c ps) t)) (sym (took-served c.lender c.number q.msg q.page may))
+        subst (λ (t : Turn). JoinedOf s H cs states bits ring l (deliver_after (without_first c ps) t)) (sym (took-served c.lender c.number q.msg q.page may))
         (joined_fine s H cs states bits ring l c q ps h stands sound slots clear e may))
         (λ _. leaves)
 
 -- the host's use is measured
 pub joined_hosted :
     (s : Sizes) (H : History) (cs : Calls) (states : List SlabState) (bits : List Bool) (ring : List Request) (l : LenderNo) (c : Channel) (used word : ℕ)
-    → JoinedOf s H cs states bits ring l c → JoinedOf s H cs states bits ring l (delivered c (host c.lender used word))
+    → JoinedOf s H cs states bits ring l c → JoinedOf s H cs states bits ring l (deliver_after c (host c.lender used word))
 joined_hosted s H cs states bits ring l c used word h =
-    let noticed : Noticed c.to_lender c.to_device (forwarded c.number c.to_device (host c.lender used word).parcels) =
+    let noticed : Noticed c.to_lender c.to_device (forward_after c.number c.to_device (host c.lender used word).parcels) =
     forwarded_noticed c.to_lender c.to_device c.number (host c.lender used word).parcels (hosts_quietly c.lender used word) in
-    let o : OrderedAt s H cs states ring l c c.to_lender (forwarded c.number c.to_device (host c.lender used word).parcels)
+    let o : OrderedAt s H cs states ring l c c.to_lender (forward_after c.number c.to_device (host c.lender used word).parcels)
     (served_of h.order) h.order.under_way =
     order_quiet (Replied s H cs states l) (Asked s H cs states l c) ring c.to_lender c.to_device c.to_lender
-    (forwarded c.number c.to_device (host c.lender used word).parcels) (served_of h.order) h.order.under_way noticed.quiet
+    (forward_after c.number c.to_device (host c.lender used word).parcels) (served_of h.order) h.order.under_way noticed.quiet
     (itself (Replied s H cs states l) (Asked s H cs states l c) ring c.to_lender c.to_device h.order)
     in
-    joined s H cs states bits ring l (delivered c (host c.lender used word)) (served_of h.order) h.order.under_way h.present
-    (order_moved s H cs states ring l c (delivered c (host c.lender used word)) c.to_lender (forwarded c.number c.to_device (host c.lender used word).parcels)
+    joined s H cs states bits ring l (deliver_after c (host c.lender used word)) (served_of h.order) h.order.under_way h.present
+    (order_moved s H cs states ring l c (deliver_after c (host c.lender used word)) c.to_lender
+    (forward_after c.number c.to_device (host c.lender used word).parcels)
     (served_of h.order) h.order.under_way (λ x. Unit {0})
     (λ x _.
     unless-map c.lender_gone _ _
-    (holds_on s H cs states l c (delivered c (host c.lender used word)) x
+    (holds_on s H cs states l c (deliver_after c (host c.lender used word)) x
     (λ a p is j b at e. slot_page-host c.lender used word c.number j (place_of s p.0) ∙ e)))
     o
     (all_true o.order.under_way))
@@ -589,7 +594,7 @@ joined_hosted s H cs states bits ring l c used word h =
             unlent = noticed.lends j ∙ was.unlent;
           };
     }) h.stored)
-    (noticed_new states l c.to_lender c.to_device (forwarded c.number c.to_device (host c.lender used word).parcels) noticed h.loans)
+    (noticed_new states l c.to_lender c.to_device (forward_after c.number c.to_device (host c.lender used word).parcels) noticed h.loans)
 
 -- of a front of the list each lease is lent once
 once_take : (n : ℕ) (ps : List Parcel) → LentOnce ps → LentOnce (take n ps)
@@ -600,9 +605,9 @@ once_take (suc n) (p ∷ ps) once = ((λ k e. none-take (λ (q : Parcel). lends 
 -- the link is cut
 pub joined_cut :
     (s : Sizes) (H : History) (cs : Calls) (states : List SlabState) (bits : List Bool) (ring : List Request) (l : LenderNo) (c : Channel) (m n : ℕ)
-    → JoinedOf s H cs states bits ring l c → JoinedOf s H cs states bits ring l (severed c m n).1
+    → JoinedOf s H cs states bits ring l c → JoinedOf s H cs states bits ring l (cut_after c m n).1
 joined_cut s H cs states bits ring l c m n h =
-    joined s H cs states bits ring l (severed c m n).1 (served_of h.order) h.order.under_way h.present
+    joined s H cs states bits ring l (cut_after c m n).1 (served_of h.order) h.order.under_way h.present
     (order_cut_from (Replied s H cs states l) (Asked s H cs states l c) ring (cut c.to_lender m) c.to_device n (served_of h.order) h.order.under_way
     (order_cut_to (Replied s H cs states l) (Asked s H cs states l c) ring c.to_lender c.to_device m (served_of h.order) h.order.under_way
     (itself (Replied s H cs states l) (Asked s H cs states l c) ring c.to_lender c.to_device h.order)))
@@ -623,7 +628,7 @@ joined_cut s H cs states bits ring l c m n h =
 -- the lender crashes
 pub joined_crashed :
     (s : Sizes) (H : History) (cs : Calls) (states : List SlabState) (bits : List Bool) (ring : List Request) (l : LenderNo) (c : Channel)
-    → JoinedOf s H cs states bits ring l c → JoinedOf s H cs states bits ring l (crashed c)
+    → JoinedOf s H cs states bits ring l c → JoinedOf s H cs states bits ring l (crash_after c)
 joined_crashed s H cs states bits ring l c h =
     cond_both c.lender_gone _ _ (λ (x : Channel). JoinedOf s H cs states bits ring l x)
     (λ left.
@@ -640,10 +645,11 @@ joined_crashed s H cs states bits ring l c h =
 -- a link is made
 pub joined_new :
     (s : Sizes) (H : History) (cs : Calls) (states : List SlabState) (bits : List Bool) (l : LenderNo) (c : Channel) (n : Link)
-    → ((t : Slab) (k : Lease) → has_lease l k (state_of states t) ≡ true → ⊥) → JoinedOf s H cs states bits [] l (connected c n)
+    → ((t : Slab) (k : Lease) → has_lease l k (state_of states t) ≡ true → ⊥) → JoinedOf s H cs states bits [] l (connect_after c n)
 joined_new s H cs states bits l c n none =
-    joined s H cs states bits [] l (connected c n) [] [] refl
-    (order_new (Replied s H cs states l) (Asked s H cs states l (connected c n)) (connected c n).to_lender (connected c n).to_device refl refl) (record {
+    joined s H cs states bits [] l (connect_after c n) [] [] refl
+    (order_new (Replied s H cs states l) (Asked s H cs states l (connect_after c n)) (connect_after c n).to_lender (connect_after c n).to_device refl refl)
+    (record {
       leased = λ t j at. absurd (none t j at);
       lent = λ t j at. cc;
       written = λ p j e at is. absurd (none (slab_for s p) j at);

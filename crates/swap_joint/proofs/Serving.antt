@@ -9,12 +9,12 @@ use Rattle.swap_base.specs.declared.Slab.{Slab}
 use Rattle.swap_base.specs.declared.Link.{Link}
 use Rattle.swap_base.specs.declared.Lease.{Lease}
 use Rattle.swap_choice.specs.Slots.{has}
-use Rattle.swap_evict.specs.Rounds.{Round, answer, waits_for, waiting, ready}
+use Rattle.swap_evict.specs.Rounds.{Round, answer, waits_for, waiting_slots, slots_to_evict}
 use Rattle.swap_evict.proofs.Bits.{has-waiting, no_slot}
 use Rattle.swap_lender.specs.declared.SlotState.{SlotState}
 use Rattle.swap_lender.specs.declared.SlotState.TheVariants.{Free, Held}
 use Rattle.swap_lender.specs.Lender.{Lender, slot_in, slot_of, holds, has_lease, is_for, is_evicting}
-use Rattle.swap_lender.specs.Table.{marked, mark_slot, may_rates, may_done, awaits}
+use Rattle.swap_lender.specs.Table.{mark_slots, mark_slot, may_rates, may_done, is_awaited}
 use Rattle.swap_link.specs.Fits.{IsSound, lease_of, lease_at}
 use Rattle.swap_link.specs.lemmas.Slots.{lease-has}
 use Rattle.swap_joint.specs.Allowed.{HasSlot, Waits}
@@ -75,7 +75,7 @@ done_allowed l n k sound of (i, m, t, is) =
 pub rates_allowed : (l : Lender) (n : Link) (k : Lease) → IsSound l → HeldOf l n → Waits l k → may_rates l n k ≡ true
 rates_allowed l n k sound of w =
     let at : IsAt l n k w.at = slot_found l n k w.at w.link w.slab false sound w.held (of w.at w.link w.slab k false w.held) in
-    and_from (holds l n k) _ (holds_at l n k w.at at) (ap (λ o. awaits o (slot_of l n k)) w.open_ ∙ ap (waits_for w.round) at.is ∙ w.waits)
+    and_from (holds l n k) _ (holds_at l n k w.at at) (ap (λ o. is_awaited o (slot_of l n k)) w.open_ ∙ ap (waits_for w.round) at.is ∙ w.waits)
 
 -- no slot is held for this slab
 pub none_for :
@@ -97,7 +97,7 @@ none_for n t (s ∷ ss) none = or_false (is_for n t s) _ (false_from_ne_true _ (
 -- a slot that was told to go is still held, and stays told
 pub kept_marked :
     (set_ from : ℕ) (slots : List SlotState) (i : ℕ) (m : Link) (t : Slab) (k : Lease) → slot_in slots i ≡ Held m t k true
-    → slot_in (marked set_ from slots) i ≡ Held m t k true
+    → slot_in (mark_slots set_ from slots) i ≡ Held m t k true
 kept_marked set_ from [] i m t k e = e
 kept_marked set_ from (s ∷ ss) zero m t k e = ap (mark_slot (has set_ from)) e ∙ still (has set_ from)
   where
@@ -108,7 +108,7 @@ kept_marked set_ from (s ∷ ss) (suc i) m t k e = kept_marked set_ (from + 1) s
 
 -- a slot that is held once some were marked was held before
 pub was_marked :
-    (set_ from : ℕ) (slots : List SlotState) (i : ℕ) (m : Link) (t : Slab) (k : Lease) (e : Bool) → slot_in (marked set_ from slots) i ≡ Held m t k e
+    (set_ from : ℕ) (slots : List SlotState) (i : ℕ) (m : Link) (t : Slab) (k : Lease) (e : Bool) → slot_in (mark_slots set_ from slots) i ≡ Held m t k e
     → (f : Bool) × (slot_in slots i ≡ Held m t k f)
 was_marked set_ from [] i m t k e is = (e, is)
 was_marked set_ from (s ∷ ss) zero m t k e is = go (has set_ from) s is
@@ -126,7 +126,7 @@ was_marked set_ from (s ∷ ss) zero m t k e is = go (has set_ from) s is
 was_marked set_ from (s ∷ ss) (suc i) m t k e is = was_marked set_ (from + 1) ss i m t k e is
 
 -- a slot that was not of the set stays as it was
-pub unmarked_stays : (set_ from : ℕ) (slots : List SlotState) (i : ℕ) → has set_ (from + i) ≡ false → slot_in (marked set_ from slots) i ≡ slot_in slots i
+pub unmarked_stays : (set_ from : ℕ) (slots : List SlotState) (i : ℕ) → has set_ (from + i) ≡ false → slot_in (mark_slots set_ from slots) i ≡ slot_in slots i
 unmarked_stays set_ from [] i out = refl
 unmarked_stays set_ from (s ∷ ss) zero out = ap (λ b. mark_slot b s) (subst (λ m. has set_ m ≡ false) (omega arith) out)
 unmarked_stays set_ from (s ∷ ss) (suc i) out = unmarked_stays set_ (from + 1) ss i (subst (λ m. has set_ m ≡ false) (omega arith) out)
@@ -134,7 +134,7 @@ unmarked_stays set_ from (s ∷ ss) (suc i) out = unmarked_stays set_ (from + 1)
 -- a slot of the set is told
 pub marked_told :
     (set_ from : ℕ) (slots : List SlotState) (i : ℕ) (m : Link) (t : Slab) (k : Lease) (e : Bool) → has set_ (from + i) ≡ true → slot_in slots i ≡ Held m t k e
-    → slot_in (marked set_ from slots) i ≡ Held m t k true
+    → slot_in (mark_slots set_ from slots) i ≡ Held m t k true
 marked_told set_ from [] i m t k e inside is = cc
 marked_told set_ from (s ∷ ss) zero m t k e inside is = ap (λ b. mark_slot b s) (subst (λ n. has set_ n ≡ true) (omega arith) inside) ∙ ap (mark_slot true) is
 marked_told set_ from (s ∷ ss) (suc i) m t k e inside is = marked_told set_ (from + 1) ss i m t k e (subst (λ n. has set_ n ≡ true) (omega arith) inside) is
@@ -148,10 +148,10 @@ pub still_waits : (r : Round) (slot value i : ℕ) → (i ≡ slot → ⊥) → 
 still_waits r slot value i other e = ap (λ b. (has r.asked i && not b) && not (has r.gone i)) (or_pow r.answered slot i other) ∙ e
 
 -- as long as it waits for a slot it isn't ready
-pub not_ready : (r : Round) (i : ℕ) → i < 64 → r.answered < 2 ^ 64 → r.gone < 2 ^ 64 → waits_for r i ≡ true → ready r ≡ None
+pub not_ready : (r : Round) (i : ℕ) → i < 64 → r.answered < 2 ^ 64 → r.gone < 2 ^ 64 → waits_for r i ≡ true → slots_to_evict r ≡ None
 not_ready r i low answered gone waits =
-    cond-false (waiting r == 0) _ None
+    cond-false (waiting_slots r == 0) _ None
     (false_from_ne_true _
     (λ none.
-    both_ways (has (waiting r) i) (no_slot (waiting r) i (eqb-true (waiting r) 0 none))
+    both_ways (has (waiting_slots r) i) (no_slot (waiting_slots r) i (eqb-true (waiting_slots r) 0 none))
     (has-waiting r.asked r.answered r.gone i answered gone low ∙ waits)))

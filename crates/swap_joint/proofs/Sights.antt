@@ -12,7 +12,7 @@ use Rattle.swap_base.specs.declared.Lender.{Lender}
 use Rattle.swap_base.specs.declared.Lease.{Lease}
 use Rattle.swap_base.specs.Sizes.{Sizes, slab_of, zeros}
 use Rattle.swap_record.specs.declared.Op.TheVariants as op
-use Rattle.swap_record.specs.History.{History, Row, row_of, pushed, array}
+use Rattle.swap_record.specs.History.{History, Row, row_of, with_row, array}
 use Rattle.swap_bits.specs.Bits.{has, without_number}
 use Rattle.std.specs.List.{AllByRecursion}
 use Rattle.swap_base.specs.declared.Via.{Via}
@@ -39,7 +39,7 @@ use Rattle.swap_rings.specs.Rings.{LinkState, link_of, ring_of, is_up}
 use Rattle.swap_remote.specs.Remote as remote
 use Rattle.swap_remote.specs.Remote.{Remote, slab_for, has_page}
 use Rattle.swap_remote.specs.lemmas.Cleared.{get_or-left}
-use Rattle.swap_table.specs.Device.{Device, enter, give, fault, lost}
+use Rattle.swap_table.specs.Device.{Device, enter_entry, give, fault, lost_after}
 use Rattle.swap_table.proofs.Lists.{by_page, by_caller, not_eqb}
 use Rattle.swap_table.proofs.Links.{by_slab, link-other, state-same, state-other}
 use Rattle.swap_table.proofs.Entries.{out_on}
@@ -85,33 +85,33 @@ begun_lease l k (Borrowing m) = refl
 begun_lease l k (Mapped m j f) = refl
 begun_lease l k (Draining m j f) = refl
 
-pub leases_begun : (l : Lender) (states : List SlabState) (t : Slab) → SameLeases l states (slabs.begun states t)
+pub leases_begun : (l : Lender) (states : List SlabState) (t : Slab) → SameLeases l states (slabs.begun_after states t)
 leases_begun l states t = leases_set l states t (slabs.after_begin (state_of states t)) (λ k. begun_lease l k (state_of states t))
 
-pub leases_borrowed : (l m : Lender) (states : List SlabState) (t : Slab) → state_of states t ≡ Local → SameLeases l states (slabs.borrowed states t m)
+pub leases_borrowed : (l m : Lender) (states : List SlabState) (t : Slab) → state_of states t ≡ Local → SameLeases l states (slabs.borrowed_after states t m)
 leases_borrowed l m states t local = leases_set l states t (Borrowing m) (λ k. ap (has_lease l k) (sym local))
 
-pub leases_refused : (l m : Lender) (states : List SlabState) (t : Slab) → state_of states t ≡ Borrowing m → SameLeases l states (slabs.refused states t)
+pub leases_refused : (l m : Lender) (states : List SlabState) (t : Slab) → state_of states t ≡ Borrowing m → SameLeases l states (slabs.refused_after states t)
 leases_refused l m states t is = leases_set l states t Local (λ k. ap (has_lease l k) (sym is))
 
 -- a slab that is asked for, and one of whose lenders has replied
 pub leases_asked :
     (l m : Lender) (states : List SlabState) (t : Slab) (second : Option Lender) → ((k : Lease) → has_lease l k (state_of states t) ≡ false)
-    → SameLeases l states (slabs.asked states t m second)
+    → SameLeases l states (slabs.asked_after states t m second)
 leases_asked l m states t second none = leases_set l states t (Asking (slabs.pair_of m second)) (λ k. sym (none k))
 
 answered_lease : (l m : Lender) (k : Lease) (r : Reply) (x : SlabState) → has_lease l k (slabs.after_answer x m r) ≡ has_lease l k x
 answered_lease l m k r Local = refl
-answered_lease l m k r (Asking pair) = go (slabs.waits (slabs.replied pair m r))
+answered_lease l m k r (Asking pair) = go (slabs.waits (slabs.with_reply pair m r))
   where
-    go : (b : Bool) → has_lease l k (cond b (Asking (slabs.replied pair m r)) Local) ≡ false
+    go : (b : Bool) → has_lease l k (cond b (Asking (slabs.with_reply pair m r)) Local) ≡ false
     go true = refl
     go false = refl
 answered_lease l m k r (Borrowing o) = refl
 answered_lease l m k r (Mapped o j f) = refl
 answered_lease l m k r (Draining o j f) = refl
 
-pub leases_answered : (l m : Lender) (states : List SlabState) (t : Slab) (r : Reply) → SameLeases l states (slabs.answered states t m r)
+pub leases_answered : (l m : Lender) (states : List SlabState) (t : Slab) (r : Reply) → SameLeases l states (slabs.answered_after states t m r)
 leases_answered l m states t r = leases_set l states t (slabs.after_answer (state_of states t) m r) (λ k. answered_lease l m k r (state_of states t))
 
 -- a slab that drains gives its lease up once nothing flies, and no other
@@ -130,7 +130,7 @@ fewer_set l states t x each u k =
     ])
     (λ other at. sym (ap (has_lease l k) (get_or-set_other states t.0 u.0 x Local other)) ∙ at)
 
-drained_fewer : (l m : Lender) (j k : Lease) (f : ℕ) → has_lease l k (slabs.drained m j f) ≡ true → has_lease l k (Mapped m j f) ≡ true
+drained_fewer : (l m : Lender) (j k : Lease) (f : ℕ) → has_lease l k (slabs.drain_to m j f) ≡ true → has_lease l k (Mapped m j f) ≡ true
 drained_fewer l m j k f = go (f == 0)
   where
     go : (b : Bool) → has_lease l k (cond b Local (Draining m j f)) ≡ true → has_lease l k (Mapped m j f) ≡ true
@@ -151,10 +151,10 @@ evicted_fewer l k (Borrowing m) at = at
 evicted_fewer l k (Mapped m j f) at = drained_fewer l m j k f at
 evicted_fewer l k (Draining m j f) at = at
 
-pub fewer_settled : (l : Lender) (states : List SlabState) (t : Slab) → FewerLeases l states (slabs.settled states t)
+pub fewer_settled : (l : Lender) (states : List SlabState) (t : Slab) → FewerLeases l states (slabs.settled_after states t)
 fewer_settled l states t = fewer_set l states t (slabs.after_settled (state_of states t)) (λ k. settled_fewer l k (state_of states t))
 
-pub fewer_evicted : (l : Lender) (states : List SlabState) (t : Slab) → FewerLeases l states (slabs.evicted states t)
+pub fewer_evicted : (l : Lender) (states : List SlabState) (t : Slab) → FewerLeases l states (slabs.evicted_after states t)
 fewer_evicted l states t = fewer_set l states t (slabs.after_evict (state_of states t)) (λ k. evicted_fewer l k (state_of states t))
 
 -- requests for pages of other slabs keep their leases, whatever becomes of this one
@@ -179,11 +179,11 @@ leased_apart s l states t x (request.Read a p ∷ ring) off = (
 pub leased_drained :
     (s : Sizes) (l m : Lender) (j : Lease) (f : ℕ) (states : List SlabState) (t : Slab) (ring : List Request)
     → ((k : Lease) → has_lease l k (state_of states t) ≡ has_lease l k (Mapped m j f)) → (l.0 ≡ m.0 → f ≡ flying_for s t ring)
-    → AllByRecursion (StaysLeased s l states (with_state states t (slabs.drained m j f))) ring
+    → AllByRecursion (StaysLeased s l states (with_state states t (slabs.drain_to m j f))) ring
 leased_drained s l m j f states t ring is flies = elim (cases_eq l.0 m.0) [
   | inl same ↦ go (f == 0) refl same
-  | inr other ↦ leased_all s l states (with_state states t (slabs.drained m j f)) ring
-      (λ u k at. leases_set l states t (slabs.drained m j f) (λ k. off (f == 0) k other ∙ sym (is k ∙ away k other)) u k ∙ at)
+  | inr other ↦ leased_all s l states (with_state states t (slabs.drain_to m j f)) ring
+      (λ u k at. leases_set l states t (slabs.drain_to m j f) (λ k. off (f == 0) k other ∙ sym (is k ∙ away k other)) u k ∙ at)
 ]
   where
     away : (k : Lease) → (l.0 ≡ m.0 → ⊥) → has_lease l k (Mapped m j f) ≡ false
@@ -202,20 +202,20 @@ leased_drained s l m j f states t ring is flies = elim (cases_eq l.0 m.0) [
 pub leased_settled :
     (s : Sizes) (l : Lender) (states : List SlabState) (t : Slab) (ring : List Request)
     → (IsLeasedFrom l (state_of states t) → slabs.flying_of (state_of states t) - 1 ≡ flying_for s t ring)
-    → AllByRecursion (StaysLeased s l states (slabs.settled states t)) ring
+    → AllByRecursion (StaysLeased s l states (slabs.settled_after states t)) ring
 leased_settled s l states t ring flies = go (state_of states t) refl
   where
     same :
         (x : SlabState) → state_of states t ≡ x → ((k : Lease) → has_lease l k (slabs.after_settled x) ≡ has_lease l k x)
-        → AllByRecursion (StaysLeased s l states (slabs.settled states t)) ring
+        → AllByRecursion (StaysLeased s l states (slabs.settled_after states t)) ring
     same x is each =
-        leased_all s l states (slabs.settled states t) ring
+        leased_all s l states (slabs.settled_after states t) ring
         (λ u k at.
         leases_set l states t (slabs.after_settled (state_of states t))
         (λ k. ap (λ y. has_lease l k (slabs.after_settled y)) is ∙ each k ∙ sym (ap (has_lease l k) is)) u k
         ∙ at)
 
-    go : (x : SlabState) → state_of states t ≡ x → AllByRecursion (StaysLeased s l states (slabs.settled states t)) ring
+    go : (x : SlabState) → state_of states t ≡ x → AllByRecursion (StaysLeased s l states (slabs.settled_after states t)) ring
     go Local is = same Local is (λ k. refl)
     go (Asking pair) is = same (Asking pair) is (λ k. refl)
     go (Borrowing m) is = same (Borrowing m) is (λ k. refl)
@@ -228,7 +228,7 @@ leased_settled s l states t ring flies = go (state_of states t) refl
 
 pub leased_evicted :
     (s : Sizes) (l m : Lender) (j : Lease) (f : ℕ) (states : List SlabState) (t : Slab) (ring : List Request) → state_of states t ≡ Mapped m j f
-    → (l.0 ≡ m.0 → f ≡ flying_for s t ring) → AllByRecursion (StaysLeased s l states (slabs.evicted states t)) ring
+    → (l.0 ≡ m.0 → f ≡ flying_for s t ring) → AllByRecursion (StaysLeased s l states (slabs.evicted_after states t)) ring
 leased_evicted s l m j f states t ring is flies =
     let P : SlabState → Type 0 = λ y. AllByRecursion (StaysLeased s l states (with_state states t y)) ring in
     subst P (sym (ap slabs.after_evict is)) (leased_drained s l m j f states t ring (λ k. ap (has_lease l k) is) flies)
@@ -256,12 +256,12 @@ lost_lease l m k (Draining o j f) other = go (o.0 == m.0) refl
     go true e = sym (other_lease o m l j k other (eqb-true o.0 m.0 e))
     go false e = refl
 
-pub state-lost : (states : List SlabState) (m : Lender) (i : ℕ) → get_or (slabs.lost states m) i Local ≡ slabs.after_lost m (get_or states i Local)
+pub state-lost : (states : List SlabState) (m : Lender) (i : ℕ) → get_or (slabs.lost_after states m) i Local ≡ slabs.after_lost m (get_or states i Local)
 state-lost [] m i = refl
 state-lost (x ∷ states) m zero = refl
 state-lost (x ∷ states) m (suc i) = state-lost states m i
 
-pub leases_lost : (l m : Lender) (states : List SlabState) → (l.0 ≡ m.0 → ⊥) → SameLeases l states (slabs.lost states m)
+pub leases_lost : (l m : Lender) (states : List SlabState) → (l.0 ≡ m.0 → ⊥) → SameLeases l states (slabs.lost_after states m)
 leases_lost l m states other t k = ap (has_lease l k) (state-lost states m t.0) ∙ lost_lease l m k (state_of states t) other
 
 -- the entries of the calls that read
@@ -272,18 +272,19 @@ pub still_set :
 still_set cs c call each a e is =
     by_caller (λ a. kept_entry (calls.state_of (calls.with_call cs c call) a) ≡ Some e → kept_entry (calls.state_of cs a) ≡ Some e) c a
     (λ is. elim (cases_lt c.0 (length cs)) [
-      | inl within ↦ each e (sym (ap (λ (x : Call). kept_entry x.state) (get_or-set_same cs c.0 call calls.idle within)) ∙ is)
+      | inl within ↦ each e (sym (ap (λ (x : Call). kept_entry x.state) (get_or-set_same cs c.0 call calls.idle_call within)) ∙ is)
       | inr past ↦
           ap (λ (x : Call). kept_entry x.state)
-          (get_or_past cs c.0 calls.idle past ∙ sym (get_or_past (set cs c.0 call) c.0 calls.idle (subst (λ n. n ≤ c.0) (sym (length-set cs c.0 call)) past)))
+          (get_or_past cs c.0 calls.idle_call past ∙ sym (get_or_past (set cs c.0 call) c.0 calls.idle_call
+          (subst (λ n. n ≤ c.0) (sym (length-set cs c.0 call)) past)))
           ∙ is
     ])
-    (λ other is. sym (ap (λ (x : Call). kept_entry x.state) (get_or-set_other cs c.0 a.0 call calls.idle other)) ∙ is) is
+    (λ other is. sym (ap (λ (x : Call). kept_entry x.state) (get_or-set_other cs c.0 a.0 call calls.idle_call other)) ∙ is) is
 
 pub still_ended :
-    (cs : Calls) (c : Caller) → (a : Caller) (e : EntryNo) → kept_entry (calls.state_of (calls.ended cs c) a) ≡ Some e
+    (cs : Calls) (c : Caller) → (a : Caller) (e : EntryNo) → kept_entry (calls.state_of (calls.end_after cs c) a) ≡ Some e
     → kept_entry (calls.state_of cs a) ≡ Some e
-still_ended cs c = still_set cs c calls.idle (λ e is. cc)
+still_ended cs c = still_set cs c calls.idle_call (λ e is. cc)
 
 newer_entry : (p : Page) (x : CallState) → kept_entry (calls.newer_if_reads p x) ≡ kept_entry x
 newer_entry p Idle = refl
@@ -322,7 +323,8 @@ still_paged :
 still_paged cs p a e is = sym (ap kept_entry (state-paged_out cs p a) ∙ newer_entry p (calls.state_of cs a)) ∙ is
 
 still_lost :
-    (cs : Calls) (m : Lender) (a : Caller) (e : EntryNo) → kept_entry (calls.state_of (calls.lost cs m) a) ≡ Some e → kept_entry (calls.state_of cs a) ≡ Some e
+    (cs : Calls) (m : Lender) (a : Caller) (e : EntryNo) → kept_entry (calls.state_of (calls.lost_after cs m) a) ≡ Some e
+    → kept_entry (calls.state_of cs a) ≡ Some e
 still_lost cs m a e is =
     sym (ap (λ (x : Call). kept_entry x.state) (get_or-map_idle (calls.with_state (calls.lost_if_through m)) cs a.0 refl) ∙ lost_entry m (calls.state_of cs a))
     ∙ is
@@ -344,7 +346,7 @@ still_reads s H cs states l c p n v since (request.Read a q ∷ ring) idles all 
       → kept_entry (calls.state_of cs a) ≡ Some e)
       c a
       (λ waits is. absurd (idles l q waits))
-      (λ other waits is. sym (ap (λ (x : Call). kept_entry x.state) (get_or-set_other cs c.0 a.0 _ calls.idle other)) ∙ is) all.0.3 is,
+      (λ other waits is. sym (ap (λ (x : Call). kept_entry x.state) (get_or-set_other cs c.0 a.0 _ calls.idle_call other)) ∙ is) all.0.3 is,
   still_reads s H cs states l c p n v since ring idles all.1,
 )
 
@@ -365,13 +367,13 @@ sees_same l d d' sizes leases entries bits link still = record {
 
 -- the moves of the device alone, and a loss of another link
 
-pub sees_enter : (l : Lender) (d : Device) (c : Caller) (p : Page) (bytes : List ℕ) → SeesSame l d (enter d c p bytes)
+pub sees_enter : (l : Lender) (d : Device) (c : Caller) (p : Page) (bytes : List ℕ) → SeesSame l d (enter_entry d c p bytes)
 sees_enter l d c p bytes =
-    sees_same l d (enter d c p bytes) refl (leases_stay l d.remote.slabs) (entries_on d.history (row_of d.history c p op.PageOut bytes))
+    sees_same l d (enter_entry d c p bytes) refl (leases_stay l d.remote.slabs) (entries_on d.history (row_of d.history c p op.PageOut bytes))
     (λ q k at set.
     by_page
     (λ q. has (without_number d.remote.bits p.0) q.0 ≡ true
-    → (has d.remote.bits q.0 ≡ true) × (array (zeros d.sizes) (pushed d.history c p op.PageOut bytes) q ≡ array (zeros d.sizes) d.history q))
+    → (has d.remote.bits q.0 ≡ true) × (array (zeros d.sizes) (with_row d.history c p op.PageOut bytes) q ≡ array (zeros d.sizes) d.history q))
     p q
     (λ set. absurd (both_ways (has (without_number d.remote.bits p.0) p.0) (cleared_here d.remote.bits p.0) set))
     (λ other set. (
@@ -380,7 +382,7 @@ sees_enter l d c p bytes =
     ))
     set)
     refl
-    (still_all d.calls (enter d c p bytes).calls (ring_of d.remote.links l)
+    (still_all d.calls (enter_entry d c p bytes).calls (ring_of d.remote.links l)
     (λ a e is. still_paged d.calls p a e (still_ended (calls.paged_out d.calls p) c a e is)))
 
 pub sees_give :
@@ -388,14 +390,14 @@ pub sees_give :
 sees_give l d c p named from bytes =
     sees_same l d (give d c p named from bytes) refl (leases_stay l d.remote.slabs) (entries_on d.history (row_of d.history c p (op.PageIn named from) bytes))
     (λ q k at set. (set, refl)) refl
-    (still_all d.calls (calls.ended d.calls c) (ring_of d.remote.links l) (still_ended d.calls c))
+    (still_all d.calls (calls.end_after d.calls c) (ring_of d.remote.links l) (still_ended d.calls c))
 
 pub sees_fault :
     (l : Lender) (d : Device) (c : Caller) (p : Page) (kind : CallKind) (since at : ℕ) (bytes : List ℕ) → SeesSame l d (fault d c p kind since at bytes)
 sees_fault l d c p kind since at bytes =
     sees_same l d (fault d c p kind since at bytes) refl (leases_stay l d.remote.slabs)
     (entries_on d.history (row_of d.history c p (op.Failed kind since at) bytes)) (λ q k at set. (set, refl)) refl
-    (still_all d.calls (calls.ended d.calls c) (ring_of d.remote.links l) (still_ended d.calls c))
+    (still_all d.calls (calls.end_after d.calls c) (ring_of d.remote.links l) (still_ended d.calls c))
 
 -- what isn't the history, the remote memory or the sizes
 pub sees_other :
@@ -413,11 +415,11 @@ still_same l d = still_all d.calls d.calls (ring_of d.remote.links l) (λ a e is
 pub sees_itself : (l : Lender) (d : Device) → SeesSame l d d
 sees_itself l d = sees_other l d d refl refl refl (still_same l d)
 
-pub sees_lost : (l m : Lender) (d : Device) → (l.0 ≡ m.0 → ⊥) → SeesSame l d (lost d m)
+pub sees_lost : (l m : Lender) (d : Device) → (l.0 ≡ m.0 → ⊥) → SeesSame l d (lost_after d m)
 sees_lost l m d other =
-    sees_same l d (lost d m) refl (leases_lost l m d.remote.slabs other) (entries_stay d.history)
+    sees_same l d (lost_after d m) refl (leases_lost l m d.remote.slabs other) (entries_stay d.history)
     (λ p k at set. (and_first (has_page d.remote p) _ (sym (get_or-left d.sizes d.remote.slabs m d.remote.bits 0 p.0) ∙ set), refl))
-    (link-other d.remote.links m l rings.down other) (still_all d.calls (calls.lost d.calls m) (ring_of d.remote.links l) (still_lost d.calls m))
+    (link-other d.remote.links m l rings.down other) (still_all d.calls (calls.lost_after d.calls m) (ring_of d.remote.links l) (still_lost d.calls m))
   where
     and_first : (a b : Bool) → (a && b) ≡ true → a ≡ true
     and_first true b is = refl
@@ -436,8 +438,8 @@ sees_parts l d states links cs made leases link still =
 pub sees_evicted :
     (l : Lender) (d : Device) (t : Slab) (m : Lender) (j : Lease) (f : ℕ) → state_of d.remote.slabs t ≡ Mapped m j f
     → (l.0 ≡ m.0 → f ≡ flying_for d.sizes t (ring_of d.remote.links l))
-    → ((p : Page) → has_page (remote.evicted d.sizes d.remote t) p ≡ true → has_page d.remote p ≡ true)
-    → SeesSame l d (record d { remote = remote.evicted d.sizes d.remote t })
+    → ((p : Page) → has_page (remote.evicted_after d.sizes d.remote t) p ≡ true → has_page d.remote p ≡ true)
+    → SeesSame l d (record d { remote = remote.evicted_after d.sizes d.remote t })
 sees_evicted l d t m j f is flies bits = record {
   sizes = refl;
   fewer = fewer_evicted l d.remote.slabs t;

@@ -31,7 +31,7 @@ use Rattle.swap_remote.specs.Remote as remote
 use Rattle.swap_remote.specs.Remote.{Remote, slab_for, state_for, has_page}
 use Rattle.swap_remote.specs.lemmas.Cleared.{evicted_bit, length-evicted}
 use Rattle.swap_table.specs.Device.{Device, Heard, query_reply, borrow_reply, write_reply, read_reply, rate_asked, taken_back, is_newest, done_word}
-use Rattle.swap_table.specs.Serves.{is_for_slab, flying_for, entry_to, latest, IsLeasedFrom, IsAwaited, MayPrecede, AreInOrder, SlabFits, PageFits}
+use Rattle.swap_table.specs.Serves.{is_for_slab, flying_for, entry_to, latest_write, IsLeasedFrom, IsAwaited, MayPrecede, AreInOrder, SlabFits, PageFits}
 use Rattle.swap_table.specs.Moves.{words, Hears, roomy, lent, refused, written, brought, asked_rate, told_to_go}
 use Rattle.swap_table.proofs.Lists.{not_eqb, one_if}
 use Rattle.swap_table.proofs.Links.{state-other, entry_to-own, flying-cons}
@@ -41,7 +41,7 @@ use Rattle.swap_table.proofs.Shifts.{latest_out}
 use Rattle.swap_table.proofs.Sends.{slab_within, pages_some}
 use Rattle.swap_table.proofs.Replies.{answered-ring, answered-other, answered-up}
 use Rattle.swap_table.proofs.Evictions.{MappedBy, mapped_by_is, settled_free, evicted_free}
-use Rattle.swap_link.specs.Channel.{Channel, taken, taken_from}
+use Rattle.swap_link.specs.Channel.{Channel, take_after, taken_from}
 use Rattle.swap_link.specs.Harbor as harbor
 use Rattle.swap_link.specs.Harbor.{Harbor, channel_of, KeepsAt}
 use Rattle.swap_link.specs.lemmas.HarborLaws.{called}
@@ -59,23 +59,23 @@ use Rattle.swap_joint.proofs.Joins.{ServesAt, all_but, joins_through, up_within}
 pub record FrontIs (c : Channel) (q : Parcel) : Type 0 where
   pub rest : List Parcel
   pub is : c.to_device.parcels ≡ q ∷ rest
-  pub after : (taken c).1 ≡ without_reply c rest
+  pub after : (take_after c).1 ≡ without_reply c rest
 
-takes : (c : Channel) → c.device_gone ≡ false → taken c ≡ taken_from c c.to_device.parcels
+takes : (c : Channel) → c.device_gone ≡ false → take_after c ≡ taken_from c c.to_device.parcels
 takes c present = cond-false c.device_gone (NothingCame, c) (taken_from c c.to_device.parcels) present
 
-pub taken_brings : (c : Channel) (q : Parcel) → c.device_gone ≡ false → (taken c).0 ≡ Brought q → FrontIs c q
+pub taken_brings : (c : Channel) (q : Parcel) → c.device_gone ≡ false → (take_after c).0 ≡ Brought q → FrontIs c q
 taken_brings c q present e =
     go c.to_device.parcels refl (sym (ap (λ (x : Handed × Channel). x.0) (takes c present)) ∙ e) (ap (λ (x : Handed × Channel). x.1) (takes c present))
   where
     brought : (a b : Parcel) → Brought a ≡ Brought b → a ≡ b
     brought a b e = cc
 
-    go : (ps : List Parcel) → c.to_device.parcels ≡ ps → (taken_from c ps).0 ≡ Brought q → (taken c).1 ≡ (taken_from c ps).1 → FrontIs c q
+    go : (ps : List Parcel) → c.to_device.parcels ≡ ps → (taken_from c ps).0 ≡ Brought q → (take_after c).1 ≡ (taken_from c ps).1 → FrontIs c q
     go [] is e after = absurd (cond_both c.to_device.ended _ _ (λ (x : Handed × Channel). x.0 ≡ Brought q → ⊥) (λ _ e. cc) (λ _ e. cc) e)
     go (p ∷ ps) is e after = record { rest = ps; is = is ∙ ap (λ (x : Parcel). x ∷ ps) (brought p q e); after = after }
 
-pub taken_nothing : (c : Channel) → (taken c).0 ≡ NothingCame → (taken c).1 ≡ c
+pub taken_nothing : (c : Channel) → (take_after c).0 ≡ NothingCame → (take_after c).1 ≡ c
 taken_nothing c e = cond_both c.device_gone _ _ (λ (x : Handed × Channel). x.0 ≡ NothingCame → x.1 ≡ c) (λ _ e. refl) (λ _. from c.to_device.parcels) e
   where
     from : (ps : List Parcel) → (taken_from c ps).0 ≡ NothingCame → (taken_from c ps).1 ≡ c
@@ -110,9 +110,10 @@ back_is _ k e = cc
 
 -- the writes of a page after its last page-out's: there are none
 latest_after :
-    (p : Page) (e : EntryNo) (ring : List Request) (g : EntryNo) → AllByRecursion (MayPrecede (request.Write p e)) ring → latest p ring ≡ Some g → e.0 < g.0
+    (p : Page) (e : EntryNo) (ring : List Request) (g : EntryNo) → AllByRecursion (MayPrecede (request.Write p e)) ring → latest_write p ring ≡ Some g
+    → e.0 < g.0
 latest_after p e [] g all is = cc
-latest_after p e (y ∷ ring) g all is = go (latest p ring) refl is (latest_after p e ring g all.1)
+latest_after p e (y ∷ ring) g all is = go (latest_write p ring) refl is (latest_after p e ring g all.1)
   where
     here : (y : Request) → MayPrecede (request.Write p e) y → entry_to p y ≡ Some g → e.0 < g.0
     here (request.Query u) h is = cc
@@ -124,16 +125,16 @@ latest_after p e (y ∷ ring) g all is = go (latest p ring) refl is (latest_afte
         test true same is = let entry : f ≡ g = cc in subst (λ (x : EntryNo). e.0 < x.0) entry (h (sym (eqb-true q.0 p.0 same)))
         test false same is = cc
 
-    go : (o : Option EntryNo) → latest p ring ≡ o → first_of o (entry_to p y) ≡ Some g → (latest p ring ≡ Some g → e.0 < g.0) → e.0 < g.0
+    go : (o : Option EntryNo) → latest_write p ring ≡ o → first_of o (entry_to p y) ≡ Some g → (latest_write p ring ≡ Some g → e.0 < g.0) → e.0 < g.0
     go (Some f) same is rest = rest (same ∙ is)
     go None same is rest = here y all.0 is
 
 none_after :
     (s : Sizes) (H : History) (cs : Calls) (states : List SlabState) (l : Lender) (p : Page) (e : EntryNo) (ring : List Request)
-    → AllByRecursion (MayPrecede (request.Write p e)) ring → AllByRecursion (IsAwaited s H cs states l) ring → last H p ≡ Some e → latest p ring ≡ None
-none_after s H cs states l p e ring order awaited newest = go (latest p ring) refl
+    → AllByRecursion (MayPrecede (request.Write p e)) ring → AllByRecursion (IsAwaited s H cs states l) ring → last H p ≡ Some e → latest_write p ring ≡ None
+none_after s H cs states l p e ring order awaited newest = go (latest_write p ring) refl
   where
-    go : (o : Option EntryNo) → latest p ring ≡ o → o ≡ None
+    go : (o : Option EntryNo) → latest_write p ring ≡ o → o ≡ None
     go None is = refl
     go (Some g) is = absurd (omega (arith, latest_after p e ring g order is, none_later H p e g newest (latest_out s H cs states l p ring g awaited is)))
 
@@ -148,7 +149,7 @@ and_first false b is = cc
 -- leases of another lender, where a slab is lent
 leases_lent :
     (l m : Lender) (states : List SlabState) (t : Slab) (k : Lease) → (l.0 ≡ m.0 → ⊥) → state_of states t ≡ Borrowing m
-    → SameLeases l states (slabs.lent states t k)
+    → SameLeases l states (slabs.lent_after states t k)
 leases_lent l m states t k other is =
     leases_set l states t (slabs.after_lent (state_of states t) k)
     (λ j. ap (λ x. has_lease l j (slabs.after_lent x k)) is ∙ ap (λ b. b && (k.0 == j.0)) (not_eqb m.0 l.0 (λ e. other (sym e)))
@@ -157,7 +158,7 @@ leases_lent l m states t k other is =
 -- no read under way is of a page of a slab that is borrowed
 new_lent :
     (s : Sizes) (H : History) (cs : Calls) (states : List SlabState) (l : Lender) (u : Slab) (k : Lease) (ring : List Request) → state_of states u ≡ Borrowing l
-    → AllByRecursion (IsAwaited s H cs states l) ring → AllByRecursion (NoNewLease s states (slabs.lent states u k) l) ring
+    → AllByRecursion (IsAwaited s H cs states l) ring → AllByRecursion (NoNewLease s states (slabs.lent_after states u k) l) ring
 new_lent s H cs states l u k [] borrows all = tt
 new_lent s H cs states l u k (request.Query t ∷ ring) borrows all = (tt, new_lent s H cs states l u k ring borrows all.1)
 new_lent s H cs states l u k (request.Borrow t ∷ ring) borrows all = (tt, new_lent s H cs states l u k ring borrows all.1)
@@ -248,7 +249,7 @@ module _ (n : ℕ) (d : Device) (h g : Harbor) (l : Lender) (q : Parcel) (all : 
 
   -- the channel after it
   channel_is : channel_of g l ≡ without_reply (channel_of h l) brings.rest
-  channel_is = ap (λ (x : Handed × Harbor). channel_of x.1 l) (sym moved.1) ∙ called h l (taken (channel_of h l)).1 moved.0.range ∙ brings.after
+  channel_is = ap (λ (x : Handed × Harbor). channel_of x.1 l) (sym moved.1) ∙ called h l (take_after (channel_of h l)).1 moved.0.range ∙ brings.after
 
   -- the link is joined with its message gone, and so are all links
   heard_through :
@@ -273,7 +274,7 @@ module _ (n : ℕ) (d : Device) (h g : Harbor) (l : Lender) (q : Parcel) (all : 
   left t =
       joined_left d.sizes d.history d.calls d.remote.slabs d.remote.bits (ring_of d.remote.links l) l (channel_of h l) q brings.rest brings.is here.present t
 
-  ring_now : (t : Reply) → ring_of (rings.answered d.remote.links l) l ≡ t.rest
+  ring_now : (t : Reply) → ring_of (rings.answered_after d.remote.links l) l ≡ t.rest
   ring_now t = answered-ring d.remote.links l t.one t.rest link_in t.ring_is
 
   -- the request that the reply answers
@@ -293,11 +294,11 @@ module _ (n : ℕ) (d : Device) (h g : Harbor) (l : Lender) (q : Parcel) (all : 
   -- a slab is refused, or a lender told of its free slots: each slab keeps its leases
   same_joins :
       (t : Reply) (states : List SlabState) → ((m : Lender) → SameLeases m d.remote.slabs states)
-      → AllJoined n (record d { remote = record d.remote { slabs = states; links = rings.answered d.remote.links l } }) g
+      → AllJoined n (record d { remote = record d.remote { slabs = states; links = rings.answered_after d.remote.links l } }) g
   same_joins t states leases =
-      heard_through (record d { remote = record d.remote { slabs = states; links = rings.answered d.remote.links l } })
+      heard_through (record d { remote = record d.remote { slabs = states; links = rings.answered_after d.remote.links l } })
       (λ m other.
-      sees_parts m d states (rings.answered d.remote.links l) d.calls d.links_made (leases m) (answered-other d.remote.links l m other) (still_same m d))
+      sees_parts m d states (rings.answered_after d.remote.links l) d.calls d.links_made (leases m) (answered-other d.remote.links l m other) (still_same m d))
       (subst (λ r. JoinedOf d.sizes d.history d.calls states d.remote.bits r l (without_reply (channel_of h l) brings.rest)) (sym (ring_now t))
       (joined_sees d.sizes d.history d.history d.calls d.calls d.remote.slabs states d.remote.bits d.remote.bits t.rest l
       (without_reply (channel_of h l) brings.rest) (λ u k at. sym (leases l u k) ∙ at)
@@ -311,7 +312,7 @@ module _ (n : ℕ) (d : Device) (h g : Harbor) (l : Lender) (q : Parcel) (all : 
     slab_in = slab_within d.sizes p.0 p_in
 
     states' : List SlabState
-    states' = slabs.settled d.remote.slabs (slab_for d.sizes p)
+    states' = slabs.settled_after d.remote.slabs (slab_for d.sizes p)
 
     fewer_by_one : slabs.flying_of (state_for d.sizes d.remote.slabs p) - 1 ≡ flying_for d.sizes (slab_for d.sizes p) t.rest
     fewer_by_one =
@@ -321,12 +322,12 @@ module _ (n : ℕ) (d : Device) (h g : Harbor) (l : Lender) (q : Parcel) (all : 
         ∙ ap (λ b. one_if b + flying_for d.sizes (slab_for d.sizes p) t.rest) for_it in
         omega (arith, all)
 
-    stays_here : AllByRecursion (StaysLeased d.sizes l d.remote.slabs (slabs.settled d.remote.slabs (slab_for d.sizes p))) t.rest
+    stays_here : AllByRecursion (StaysLeased d.sizes l d.remote.slabs (slabs.settled_after d.remote.slabs (slab_for d.sizes p))) t.rest
     stays_here = leased_settled d.sizes l d.remote.slabs (slab_for d.sizes p) t.rest (λ _. fewer_by_one)
 
     stays_there :
         (m : Lender) → (m.0 ≡ l.0 → ⊥)
-        → AllByRecursion (StaysLeased d.sizes m d.remote.slabs (slabs.settled d.remote.slabs (slab_for d.sizes p))) (ring_of d.remote.links m)
+        → AllByRecursion (StaysLeased d.sizes m d.remote.slabs (slabs.settled_after d.remote.slabs (slab_for d.sizes p))) (ring_of d.remote.links m)
     stays_there m other =
         leased_settled d.sizes m d.remote.slabs (slab_for d.sizes p) (ring_of d.remote.links m)
         (λ from. absurd (twice (state_for d.sizes d.remote.slabs p) from leased))
@@ -344,7 +345,7 @@ module _ (n : ℕ) (d : Device) (h g : Harbor) (l : Lender) (q : Parcel) (all : 
         → ((o : Lender) → AllByRecursion (StillReads d.calls cs) (ring_of d.remote.links o))
         → SeesSame m d
         (record d {
-          remote = record { bits = bits; slabs = slabs.settled d.remote.slabs (slab_for d.sizes p); links = rings.answered d.remote.links l };
+          remote = record { bits = bits; slabs = slabs.settled_after d.remote.slabs (slab_for d.sizes p); links = rings.answered_after d.remote.links l };
           calls = cs;
         })
     sees_there m other bits cs lit still = record {
@@ -373,30 +374,31 @@ module _ (n : ℕ) (d : Device) (h g : Harbor) (l : Lender) (q : Parcel) (all : 
         (λ m other. sees_there m other d.remote.bits cs (λ a set. inl set) (λ o. still (ring_of d.remote.links o)))
         (subst
         (λ r.
-        JoinedOf d.sizes d.history cs (slabs.settled d.remote.slabs (slab_for d.sizes p)) d.remote.bits r l (without_reply (channel_of h l) brings.rest))
+        JoinedOf d.sizes d.history cs (slabs.settled_after d.remote.slabs (slab_for d.sizes p)) d.remote.bits r l (without_reply (channel_of h l) brings.rest))
         (sym (ring_now t))
         (joined_sees d.sizes d.history d.history d.calls cs d.remote.slabs
-        (slabs.settled d.remote.slabs (slab_for d.sizes p)) d.remote.bits d.remote.bits t.rest l (without_reply (channel_of h l) brings.rest)
+        (slabs.settled_after d.remote.slabs (slab_for d.sizes p)) d.remote.bits d.remote.bits t.rest l (without_reply (channel_of h l) brings.rest)
         (fewer_settled l d.remote.slabs (slab_for d.sizes p)) stays_here
         (entries_stay d.history) (λ p k at set. inl (set, refl)) (still t.rest) (left t)))
 
     -- the lease that goes with it may be given back
     settled_back :
         (k : Lease) → slabs.settled_lease (state_for d.sizes d.remote.slabs p) ≡ Some k
-        → Unless (channel_of g l).lender_gone (IsGivenBack (slabs.settled d.remote.slabs (slab_for d.sizes p)) l (channel_of g l) k)
+        → Unless (channel_of g l).lender_gone (IsGivenBack (slabs.settled_after d.remote.slabs (slab_for d.sizes p)) l (channel_of g l) k)
     settled_back k gives =
-        back_on (slabs.settled d.remote.slabs (slab_for d.sizes p)) k
-        (given_up d.sizes d.history d.calls d.remote.slabs (slabs.settled d.remote.slabs (slab_for d.sizes p)) d.remote.bits (ring_of d.remote.links l) l
+        back_on (slabs.settled_after d.remote.slabs (slab_for d.sizes p)) k
+        (given_up d.sizes d.history d.calls d.remote.slabs (slabs.settled_after d.remote.slabs (slab_for d.sizes p)) d.remote.bits (ring_of d.remote.links l) l
         (channel_of h l) q brings.rest (slab_for d.sizes p) k brings.is moved.0.channel.sound
         (leased_own l (state_for d.sizes d.remote.slabs p) k leased gives)
         (λ u.
-        unleased (slabs.settled d.remote.slabs (slab_for d.sizes p)) l k u (settled_free d.remote.slabs (slab_for d.sizes p) l k serves.single leased gives))
+        unleased (slabs.settled_after d.remote.slabs (slab_for d.sizes p)) l k u (settled_free d.remote.slabs (slab_for d.sizes p) l k serves.single leased
+        gives))
         here)
 
   -- a write came back
   wrote_joins :
       (t : Reply) (p : Page) (e : EntryNo) (rest : List Request) → ring_of d.remote.links l ≡ request.Write p e ∷ rest
-      → AllJoined n (record d { remote = remote.written d.sizes d.remote l p (is_newest (last d.history p) e) }) g
+      → AllJoined n (record d { remote = remote.written_after d.sizes d.remote l p (is_newest (last d.history p) e) }) g
   wrote_joins t p e rest is =
       go (is_newest (last d.history p) e && slabs.is_mapped (state_for d.sizes d.remote.slabs p))
       (λ yes. newest_is (last d.history p) e (and_first (is_newest (last d.history p) e) (slabs.is_mapped (state_for d.sizes d.remote.slabs p)) yes))
@@ -413,11 +415,11 @@ module _ (n : ℕ) (d : Device) (h g : Harbor) (l : Lender) (q : Parcel) (all : 
       for_it : is_for_slab d.sizes (slab_for d.sizes p) t.one ≡ true
       for_it = ap (is_for_slab d.sizes (slab_for d.sizes p)) one ∙ own_slab d.sizes p
 
-      last_write : last d.history p ≡ Some e → latest p (t.one ∷ t.left) ≡ Some e
+      last_write : last d.history p ≡ Some e → latest_write p (t.one ∷ t.left) ≡ Some e
       last_write newest =
-          let none : latest p t.rest ≡ None = none_after d.sizes d.history d.calls d.remote.slabs l p e t.rest ordered.0 waits.1 newest in
-          let fewer : latest p t.left ≡ None = front_none p t.left t.behind (ap (latest p) (sym t.rest_is) ∙ none) in
-          ap (λ x. latest p (x ∷ t.left)) one ∙ ap (λ o. first_of o (entry_to p (request.Write p e))) fewer ∙ entry_to-own p e
+          let none : latest_write p t.rest ≡ None = none_after d.sizes d.history d.calls d.remote.slabs l p e t.rest ordered.0 waits.1 newest in
+          let fewer : latest_write p t.left ≡ None = front_none p t.left t.behind (ap (latest_write p) (sym t.rest_is) ∙ none) in
+          ap (λ x. latest_write p (x ∷ t.left)) one ∙ ap (λ o. first_of o (entry_to p (request.Write p e))) fewer ∙ entry_to-own p e
         where
           none_second : (a b : Option EntryNo) → first_of a b ≡ None → b ≡ None
           none_second None b e = e
@@ -430,11 +432,11 @@ module _ (n : ℕ) (d : Device) (h g : Harbor) (l : Lender) (q : Parcel) (all : 
           both_none : (a b : Option EntryNo) → a ≡ None → b ≡ None → first_of a b ≡ None
           both_none a b x y = ap (λ o. first_of o b) x ∙ y
 
-          front_none : (p : Page) (xs ys : List Request) → latest p (xs ++ ys) ≡ None → latest p xs ≡ None
+          front_none : (p : Page) (xs ys : List Request) → latest_write p (xs ++ ys) ≡ None → latest_write p xs ≡ None
           front_none p [] ys e = refl
           front_none p (x ∷ xs) ys e =
-              both_none (latest p xs) (entry_to p x) (front_none p xs ys (none_first (latest p (xs ++ ys)) (entry_to p x) e))
-              (none_second (latest p (xs ++ ys)) (entry_to p x) e)
+              both_none (latest_write p xs) (entry_to p x) (front_none p xs ys (none_first (latest_write p (xs ++ ys)) (entry_to p x) e))
+              (none_second (latest_write p (xs ++ ys)) (entry_to p x) e)
 
       go :
           (b : Bool) → (b ≡ true → last d.history p ≡ Some e)
@@ -446,8 +448,8 @@ module _ (n : ℕ) (d : Device) (h g : Harbor) (l : Lender) (q : Parcel) (all : 
             remote =
                 record {
                   bits = with_number d.remote.bits p.0;
-                  slabs = slabs.settled d.remote.slabs (slab_for d.sizes p);
-                  links = rings.answered d.remote.links l;
+                  slabs = slabs.settled_after d.remote.slabs (slab_for d.sizes p);
+                  links = rings.answered_after d.remote.links l;
                 };
           })
           (λ m other.
@@ -455,10 +457,10 @@ module _ (n : ℕ) (d : Device) (h g : Harbor) (l : Lender) (q : Parcel) (all : 
           (λ o. still_same o d))
           (subst
           (λ r.
-          JoinedOf d.sizes d.history d.calls (slabs.settled d.remote.slabs (slab_for d.sizes p)) (with_number d.remote.bits p.0) r l
+          JoinedOf d.sizes d.history d.calls (slabs.settled_after d.remote.slabs (slab_for d.sizes p)) (with_number d.remote.bits p.0) r l
           (without_reply (channel_of h l) brings.rest))
           (sym (ring_now t))
-          (joined_wrote d.sizes d.history d.calls d.remote.slabs (slabs.settled d.remote.slabs (slab_for d.sizes p)) d.remote.bits
+          (joined_wrote d.sizes d.history d.calls d.remote.slabs (slabs.settled_after d.remote.slabs (slab_for d.sizes p)) d.remote.bits
           (with_number d.remote.bits p.0) (ring_of d.remote.links l) l (channel_of h l) q brings.rest p e brings.is here.present t
           (fewer_settled l d.remote.slabs (slab_for d.sizes p))
           (stays_here t p waits.0.0 waits.0.1 for_it) (last_write (newest refl)) (last_bytes (zeros d.sizes) d.history p e (newest refl))
@@ -467,13 +469,14 @@ module _ (n : ℕ) (d : Device) (h g : Harbor) (l : Lender) (q : Parcel) (all : 
   -- a slab is lent
   lent_joins :
       (t : Reply) (u v : Slab) (k : Lease) (rest : List Request) → ring_of d.remote.links l ≡ request.Borrow u ∷ rest → borrow_reply q.msg ≡ Some (v, Some k)
-      → v.0 ≡ u.0 → AllJoined n (record d { remote = remote.lent d.remote l u k }) g
+      → v.0 ≡ u.0 → AllJoined n (record d { remote = remote.lent_after d.remote l u k }) g
   lent_joins t u v k rest is says same =
-      heard_through (record d { remote = remote.lent d.remote l u k })
+      heard_through (record d { remote = remote.lent_after d.remote l u k })
       (λ m other.
-      sees_parts m d (slabs.lent d.remote.slabs u k) (rings.answered d.remote.links l) d.calls d.links_made (leases_lent m l d.remote.slabs u k other borrows)
+      sees_parts m d (slabs.lent_after d.remote.slabs u k) (rings.answered_after d.remote.links l) d.calls d.links_made
+      (leases_lent m l d.remote.slabs u k other borrows)
       (answered-other d.remote.links l m other) (still_same m d))
-      (subst (λ r. JoinedOf d.sizes d.history d.calls (slabs.lent d.remote.slabs u k) d.remote.bits r l (without_reply (channel_of h l) brings.rest))
+      (subst (λ r. JoinedOf d.sizes d.history d.calls (slabs.lent_after d.remote.slabs u k) d.remote.bits r l (without_reply (channel_of h l) brings.rest))
       (sym (ring_now t))
       (joined_lent d.sizes d.history d.calls d.remote.slabs d.remote.bits (ring_of d.remote.links l) l
       (channel_of h l) q brings.rest u v k brings.is here.present t (subst (λ m. u.0 < m) (sym serves.slabs_len) waits.0.0) borrows says same
@@ -521,15 +524,15 @@ module _ (n : ℕ) (d : Device) (h g : Harbor) (l : Lender) (q : Parcel) (all : 
         let fits : SlabFits d.sizes d.remote.links t (Mapped l k m.flying) = subst P m.is (serves.slab t (subst (λ i. t.0 < i) serves.slabs_len m.within)) in
         fits.1 ∙ ap (λ i. flying_for d.sizes t (ring_of d.remote.links (record { 0 = i }))) (sym same)
 
-    bits_fewer : (p : Page) → has_page (remote.evicted d.sizes d.remote t) p ≡ true → has_page d.remote p ≡ true
+    bits_fewer : (p : Page) → has_page (remote.evicted_after d.sizes d.remote t) p ≡ true → has_page d.remote p ≡ true
     bits_fewer p set = elim (cases_lt p.0 (pages_of d.sizes)) [
       | inl within ↦
           kept (slab_of d.sizes p.0 == t.0)
           (sym (evicted_bit d.sizes d.remote t p.0 (subst (λ i. t.0 < i) serves.slabs_len m.within) serves.bits_len (pages_some d.sizes p.0 within)) ∙ set)
       | inr past ↦
           absurd
-          (both_ways (has_page (remote.evicted d.sizes d.remote t) p)
-          (get_or_past (remote.evicted d.sizes d.remote t).bits p.0 false
+          (both_ways (has_page (remote.evicted_after d.sizes d.remote t) p)
+          (get_or_past (remote.evicted_after d.sizes d.remote t).bits p.0 false
           (subst (λ i. i ≤ p.0)
           (sym (length-evicted d.sizes d.remote t (subst (λ i. t.0 < i) serves.slabs_len m.within) serves.bits_len ∙ serves.bits_len)) past))
           set)
@@ -539,26 +542,27 @@ module _ (n : ℕ) (d : Device) (h g : Harbor) (l : Lender) (q : Parcel) (all : 
         kept true e = cc
         kept false e = e
 
-    sees_it : (o : Lender) → SeesSame o d (record d { remote = remote.evicted d.sizes d.remote t })
+    sees_it : (o : Lender) → SeesSame o d (record d { remote = remote.evicted_after d.sizes d.remote t })
     sees_it o = sees_evicted o d t l k m.flying m.is (flies_all o) bits_fewer
 
-    evicted_joins : is_reply q.msg ≡ false → AllJoined n (record d { remote = remote.evicted d.sizes d.remote t }) g
+    evicted_joins : is_reply q.msg ≡ false → AllJoined n (record d { remote = remote.evicted_after d.sizes d.remote t }) g
     evicted_joins plain =
-        heard_through (record d { remote = remote.evicted d.sizes d.remote t }) (λ o other. sees_it o)
-        (joined_same l d (record d { remote = remote.evicted d.sizes d.remote t }) (without_reply (channel_of h l) brings.rest) (sees_it l) (noticed plain))
+        heard_through (record d { remote = remote.evicted_after d.sizes d.remote t }) (λ o other. sees_it o)
+        (joined_same l d (record d { remote = remote.evicted_after d.sizes d.remote t }) (without_reply (channel_of h l) brings.rest) (sees_it l)
+        (noticed plain))
 
     evicted_back :
         (j : Lease) → slabs.evicted_lease (state_of d.remote.slabs t) ≡ Some j
-        → Unless (channel_of g l).lender_gone (IsGivenBack (slabs.evicted d.remote.slabs t) l (channel_of g l) j)
+        → Unless (channel_of g l).lender_gone (IsGivenBack (slabs.evicted_after d.remote.slabs t) l (channel_of g l) j)
     evicted_back j gives =
         let own : has_lease l j (state_of d.remote.slabs t) ≡ true =
         ap (has_lease l j) m.is
         ∙ and_from (l.0 == l.0) (k.0 == j.0) (eq-eqb l.0 l.0 refl)
         (eq-eqb k.0 j.0 (lease_is (m.flying == 0) (sym (ap slabs.evicted_lease m.is) ∙ gives))) in
-        back_on (slabs.evicted d.remote.slabs t) j
-        (given_up d.sizes d.history d.calls d.remote.slabs (slabs.evicted d.remote.slabs t) d.remote.bits (ring_of d.remote.links l) l
+        back_on (slabs.evicted_after d.remote.slabs t) j
+        (given_up d.sizes d.history d.calls d.remote.slabs (slabs.evicted_after d.remote.slabs t) d.remote.bits (ring_of d.remote.links l) l
         (channel_of h l) q brings.rest t j brings.is moved.0.channel.sound own
-        (λ u. unleased (slabs.evicted d.remote.slabs t) l j u (evicted_free d.remote.slabs t l k j m.flying serves.single m.is gives)) here)
+        (λ u. unleased (slabs.evicted_after d.remote.slabs t) l j u (evicted_free d.remote.slabs t l k j m.flying serves.single m.is gives)) here)
       where
         lease_is : (b : Bool) → cond b (Some k) None ≡ Some j → k.0 ≡ j.0
         lease_is true e = cc
@@ -567,17 +571,17 @@ module _ (n : ℕ) (d : Device) (h g : Harbor) (l : Lender) (q : Parcel) (all : 
   -- each message that is heard
   pub heard_joins : (x : Heard) → Hears d l q x → JoinedOwing n x.device g (words l x.word)
   heard_joins x (roomy {t = t} {u = u} {free = free} {rest = rest} is says same) =
-      same_joins (reply_taken (room_is q.msg (u, free) says)) (slabs.answered d.remote.slabs t l (reply.Free free))
+      same_joins (reply_taken (room_is q.msg (u, free) says)) (slabs.answered_after d.remote.slabs t l (reply.Free free))
       (λ m. leases_answered m l d.remote.slabs t (reply.Free free))
   heard_joins x (lent {t = t} {u = u} {k = k} {rest = rest} is says same none) =
       lent_joins (reply_taken (borrow_is q.msg (u, Some k) says)) t u k rest is says (eqb-true u.0 t.0 same)
   heard_joins x (refused {t = t} {u = u} {rest = rest} is says same) =
       let r : Reply = reply_taken (borrow_is q.msg (u, None) says) in
-      same_joins r (slabs.refused d.remote.slabs t) (λ m. leases_refused m l d.remote.slabs t (awaited r (request.Borrow t) rest is).0.1)
+      same_joins r (slabs.refused_after d.remote.slabs t) (λ m. leases_refused m l d.remote.slabs t (awaited r (request.Borrow t) rest is).0.1)
   heard_joins x (written {p = p} {e = e} {at = at} {rest = rest} is says named) =
       let r : Reply = reply_taken (write_is q.msg at says) in
       let waits = awaited r (request.Write p e) rest is in
-      owing_done n (record d { remote = remote.written d.sizes d.remote l p (is_newest (last d.history p) e) }) g l
+      owing_done n (record d { remote = remote.written_after d.sizes d.remote l p (is_newest (last d.history p) e) }) g l
       (slabs.settled_lease (state_for d.sizes d.remote.slabs p)) (wrote_joins r p e rest is)
       (ap (λ links. is_up links l)
       (with_page_links (is_newest (last d.history p) e && slabs.is_mapped (state_for d.sizes d.remote.slabs p)) (remote.settled_for d.sizes d.remote l p) p)
@@ -593,13 +597,13 @@ module _ (n : ℕ) (d : Device) (h g : Harbor) (l : Lender) (q : Parcel) (all : 
       let r : Reply = reply_taken (read_is q.msg at says) in
       let waits = awaited r (request.Read a p) rest is in
       let for_it = ap (is_for_slab d.sizes (slab_for d.sizes p)) (one_is r (request.Read a p) rest is) ∙ own_slab d.sizes p in
-      owing_done n (record d { remote = remote.settled_for d.sizes d.remote l p; calls = calls.came d.calls a q.page }) g l
+      owing_done n (record d { remote = remote.settled_for d.sizes d.remote l p; calls = calls.came_after d.calls a q.page }) g l
       (slabs.settled_lease (state_for d.sizes d.remote.slabs p))
-      (settled_joins r p waits.0.1 waits.0.2 for_it (calls.came d.calls a q.page)
-      (λ xs. still_all d.calls (calls.came d.calls a q.page) xs (still_arrives arrived.Came q.page d.calls a)))
+      (settled_joins r p waits.0.1 waits.0.2 for_it (calls.came_after d.calls a q.page)
+      (λ xs. still_all d.calls (calls.came_after d.calls a q.page) xs (still_arrives arrived.Came q.page d.calls a)))
       (answered-up d.remote.links l l link_in ∙ up) (settled_back r p waits.0.1 waits.0.2 for_it)
   heard_joins x (asked_rate {t = t} {k = k} says at) = (rate_joins (rate_is q.msg k says), up, λ j e. cc)
   heard_joins x (told_to_go {t = t} {k = k} says at) =
       let m : MappedBy d.remote.slabs l k t = mapped_by_is d.remote.slabs l k t at in
-      owing_done n (record d { remote = remote.evicted d.sizes d.remote t }) g l (slabs.evicted_lease (state_of d.remote.slabs t))
+      owing_done n (record d { remote = remote.evicted_after d.sizes d.remote t }) g l (slabs.evicted_lease (state_of d.remote.slabs t))
       (evicted_joins t k m (back_is q.msg k says)) up (evicted_back t k m)

@@ -112,7 +112,7 @@ pub allows_settled :
     → has_lease l j (state_of states t) ≡ true → ((k : Lease) → gives_back k out ≡ true → (u : Slab) → has_lease l k (state_of states u) ≡ false)
     → ((k : Lease) → HasSlot table.slots k true → has_greeted table n ≡ true) → ((u : Slab) → borrows_in u ring ≡ true → borrows_in u ring' ≡ true)
     → Allows s states ring l table n come ended out
-    → Allows s (slabs.settled states t) ring' l table n come ended (out ++ saying (done_word (slabs.settled_lease (state_of states t))))
+    → Allows s (slabs.settled_after states t) ring' l table n come ended (out ++ saying (done_word (slabs.settled_lease (state_of states t))))
 allows_settled s states ring ring' l table n come ended out t j at unleased greeted rings h = go (state_of states t) refl at
   where
     leaves : (x : SlabState) → Holds l states (with_state states t x) → Allows s (with_state states t x) ring' l table n come ended (out ++ [])
@@ -167,7 +167,7 @@ pub allows_evicted :
     (out : List Parcel) (t : Slab) (k : Lease) (f : ℕ)
     → state_of states t ≡ Mapped l k f → HasSlot table.slots k true → gives_back k out ≡ false → evicts_in k come ≡ false → has_greeted table n ≡ true
     → Allows s states ring l table n come ended out
-    → Allows s (slabs.evicted states t) ring l table n come ended (out ++ saying (done_word (slabs.evicted_lease (state_of states t))))
+    → Allows s (slabs.evicted_after states t) ring l table n come ended (out ++ saying (done_word (slabs.evicted_lease (state_of states t))))
 allows_evicted s states ring l table n come ended out t k f is slot ungiven untold greeted h =
     let P : SlabState → Type 0 =
     λ x. Allows s (with_state states t (slabs.after_evict x)) ring l table n come ended (out ++ saying (done_word (slabs.evicted_lease x))) in
@@ -205,7 +205,7 @@ pub allows_lent :
     (out : List Parcel) (t : Slab) (k : Lease)
     → t.0 < length states → state_of states t ≡ Borrowing l → ring ≡ request.Borrow t ∷ rest
     → ((i : ℕ) (m : Link) (j : Lease) (e : Bool) → slot_in table.slots i ≡ Held m t j e → k.0 ≡ j.0) → Allows s states ring l table n come ended out
-    → Allows s (slabs.lent states t k) rest l table n come ended out
+    → Allows s (slabs.lent_after states t k) rest l table n come ended out
 allows_lent s states ring rest l table n come ended out t k within borrows is only h =
     let P : SlabState → Type 0 = λ x. Allows s (with_state states t (slabs.after_lent x k)) rest l table n come ended out in
     subst P (sym borrows)
@@ -237,7 +237,7 @@ pub allows_refused :
     (s : Sizes) (states : List SlabState) (ring rest : List Request) (l : Lender) (table : lender.Lender) (n : Link) (come : List Parcel) (ended : Bool)
     (out : List Parcel) (t : Slab)
     → state_of states t ≡ Borrowing l → ring ≡ request.Borrow t ∷ rest → ((i : ℕ) (m : Link) (j : Lease) (e : Bool) → slot_in table.slots i ≡ Held m t j e → ⊥)
-    → Allows s states ring l table n come ended out → Allows s (slabs.refused states t) rest l table n come ended out
+    → Allows s states ring l table n come ended out → Allows s (slabs.refused_after states t) rest l table n come ended out
 allows_refused s states ring rest l table n come ended out t borrows is none h =
     allows_states s states (with_state states t Local) ring rest l table n come ended out
     (drains_by (λ u j. HasSlot table.slots j true × (evicts_in j come ≡ true → ⊥)) l states t Local (λ j f e. absurd (local_draining l j f e))

@@ -36,7 +36,7 @@ use Rattle.swap_rings.specs.declared.Request.TheVariants as request
 use Rattle.swap_remote.specs.Remote as remote
 use Rattle.swap_remote.specs.Remote.{Remote, slab_for}
 use Rattle.swap_table.specs.Device as device
-use Rattle.swap_table.specs.Device.{Device, Heard, lost, raised, next_link, query_reply, borrow_reply, write_reply, read_reply, rate_asked, taken_back}
+use Rattle.swap_table.specs.Device.{Device, Heard, lost_after, raised_after, next_link, query_reply, borrow_reply, write_reply, read_reply, rate_asked, taken_back}
 use Rattle.swap_table.specs.Serves.{IsAwaited}
 use Rattle.swap_table.specs.Goes.{stay, by_disk, by_fabric, EachKeepsWhere}
 use Rattle.swap_table.specs.Moves.{Within, of_sizes, Speaker, words, Sends, write, read, borrow, query, query_too, Hears, roomy, lent, refused, written, brought, asked_rate, told_to_go, IsFar, far_give, far_cut, far_crash, far_host, Move, enters, gives, faults, waits_for_room, rates_change, lets_go, gives_up, starts, waits_for_disk, takes, lets_finish, sends, finds_down, raises, speaks, speaks_to_nobody, hears, hears_nothing, loses, misunderstands, breaks_off, far}
@@ -50,7 +50,7 @@ use Rattle.swap_table.proofs.Evictions.{MappedBy, mapped_by_is}
 use Rattle.swap_lender.specs.Table.{Turn, serve, may_send, host}
 use Rattle.swap_lender.specs.Calls.{tenant}
 use Rattle.swap_link.specs.Fits.{IsSound}
-use Rattle.swap_link.specs.Channel.{Channel, sent, taken, given, given_from, severed, crashed, connected, delivered, on_channel}
+use Rattle.swap_link.specs.Channel.{Channel, send_after, take_after, give_after, given_from, cut_after, crash_after, connect_after, deliver_after, on_channel}
 use Rattle.swap_link.specs.Harbor as harbor
 use Rattle.swap_link.specs.Harbor.{Harbor, channel_of, lender_of}
 use Rattle.swap_link.specs.lemmas.HarborLaws.{called, other_channel}
@@ -87,13 +87,13 @@ mapped_set l states t x each k (u, f, is) =
     ])
     (λ other is. (u, f, state-other states t u x other ∙ is)) is
 
-mapped_begun : (l : Lender) (states : List SlabState) (t : Slab) → KeepsMapped l states (slabs.begun states t)
+mapped_begun : (l : Lender) (states : List SlabState) (t : Slab) → KeepsMapped l states (slabs.begun_after states t)
 mapped_begun l states t = mapped_set l states t (slabs.after_begin (state_of states t)) (λ k f is. (f + 1, ap slabs.after_begin is))
 
-mapped_settled : (l : Lender) (states : List SlabState) (t : Slab) → KeepsMapped l states (slabs.settled states t)
+mapped_settled : (l : Lender) (states : List SlabState) (t : Slab) → KeepsMapped l states (slabs.settled_after states t)
 mapped_settled l states t = mapped_set l states t (slabs.after_settled (state_of states t)) (λ k f is. (f - 1, ap slabs.after_settled is))
 
-mapped_answered : (l m : Lender) (states : List SlabState) (t : Slab) (r : Reply) → KeepsMapped l states (slabs.answered states t m r)
+mapped_answered : (l m : Lender) (states : List SlabState) (t : Slab) (r : Reply) → KeepsMapped l states (slabs.answered_after states t m r)
 mapped_answered l m states t r = mapped_set l states t (slabs.after_answer (state_of states t) m r) (λ k f is. (f, ap (λ x. slabs.after_answer x m r) is))
 
 -- a slab that isn't mapped may change
@@ -102,7 +102,7 @@ mapped_apart :
     → KeepsMapped l states (with_state states t x)
 mapped_apart l states t x off = mapped_set l states t x (λ k f is. absurd (off k f is))
 
-mapped_lost : (l m : Lender) (states : List SlabState) → (l.0 ≡ m.0 → ⊥) → KeepsMapped l states (slabs.lost states m)
+mapped_lost : (l m : Lender) (states : List SlabState) → (l.0 ≡ m.0 → ⊥) → KeepsMapped l states (slabs.lost_after states m)
 mapped_lost l m states other k (u, f, is) =
     (u, f, state-lost states m u.0 ∙ ap (slabs.after_lost m) is ∙ cond-false (l.0 == m.0) Local (Mapped l k f) (not_eqb l.0 m.0 other))
 
@@ -164,16 +164,17 @@ through_call n d d' f g c r moved sees all here l within up = elim (cases_eq l.0
   | inr other ↦ others n d d' f g c r moved sees all l within other up
 ]
 
-sees_lost : (l m : Lender) (d : Device) → (l.0 ≡ m.0 → ⊥) → Sees l d (lost d m)
+sees_lost : (l m : Lender) (d : Device) → (l.0 ≡ m.0 → ⊥) → Sees l d (lost_after d m)
 sees_lost l m d other =
     record { mapped = mapped_lost l m d.remote.slabs other; up = ap (λ (k : LinkState). k.up) (link-other d.remote.links m l rings.down other) }
 
-after_loss : (n : ℕ) (d : Device) (h : Harbor) (m : Lender) → AllTurnedBut m n d h → AllTurned n (lost d m) h
+after_loss : (n : ℕ) (d : Device) (h : Harbor) (m : Lender) → AllTurnedBut m n d h → AllTurned n (lost_after d m) h
 after_loss n d h m all l within up = elim (cases_eq l.0 m.0) [
   | inl e ↦
-      absurd (both_ways (is_up (lost d m).remote.links l) (subst (λ k. is_up (lost d m).remote.links (record { 0 = k }) ≡ false) (sym e) (lost_down d m)) up)
+      absurd (both_ways (is_up (lost_after d m).remote.links l) (subst (λ k. is_up (lost_after d m).remote.links (record { 0 = k })
+      ≡ false) (sym e) (lost_down d m)) up)
   | inr other ↦
-      turned_on d.remote.slabs (lost d m).remote.slabs l (channel_of h l) (mapped_lost l m d.remote.slabs other)
+      turned_on d.remote.slabs (lost_after d m).remote.slabs l (channel_of h l) (mapped_lost l m d.remote.slabs other)
       (all l within other (sym (sees_lost l m d other).up ∙ up))
 ]
 
@@ -182,12 +183,12 @@ itself l d = sees_same l d d refl
 
 down :
     (n : ℕ) (d : Device) (f g : Harbor) (c : FabricCall) (r : FabricAnswer c) → harbor.Moves f c r g → AllTurnedBut (lender_of c) n d f
-    → AllTurned n (lost d (lender_of c)) g
+    → AllTurned n (lost_after d (lender_of c)) g
 down n d f g c r moved all = after_loss n d g (lender_of c) (others n d d f g c r moved (λ l other. itself l d) all)
 
 -- the channel that was called
 
-turned_sent : (states : List SlabState) (l : Lender) (c : Channel) (q : Parcel) → Turned states l c → Turned states l (sent c q).1
+turned_sent : (states : List SlabState) (l : Lender) (c : Channel) (q : Parcel) → Turned states l c → Turned states l (send_after c q).1
 turned_sent states l c q h = cond_both c.device_gone _ _ (λ (x : Sent × Channel). Turned states l x.1) (λ _. h) (λ _. record { turn = h.turn; stays = h.stays })
 
 -- all its slots stay for it, where the lender's end stands; and none are held where it is gone
@@ -206,13 +207,13 @@ stands_so false P p = p
 
 turned_given :
     (states : List SlabState) (l : Lender) (c : Channel) → IsSound c.lender → AsksUntold c.lender.round c.lender.slots → Lodges c → Turned states l c
-    → Turned states l (given c).1
+    → Turned states l (give_after c).1
 turned_given states l c sound untold lodges h =
     cond_both c.lender_gone _ _ (λ (x : Gave × Channel). Turned states l x.1) (λ _. h) (λ stands. from c.to_lender.parcels)
   where
     fine :
         (q : Parcel) (ps : List Parcel)
-        → Turned states l (delivered (record c { to_lender = record c.to_lender { parcels = ps } }) (serve c.lender c.number q.msg q.page))
+        → Turned states l (deliver_after (record c { to_lender = record c.to_lender { parcels = ps } }) (serve c.lender c.number q.msg q.page))
     fine q ps =
         let both = served_turns (λ k. IsMappedAt states l k) c.number c.lender q.msg q.page c.to_device sound untold h.turn (stays_here states l c lodges h) in
         record { turn = both.0; stays = stands_so c.lender_gone _ both.1 }
@@ -222,33 +223,33 @@ turned_given states l c sound untold lodges h =
     from (q ∷ ps) =
         cond_both (may_send c.lender c.number q.msg) _ _ (λ (x : Gave × Channel). Turned states l x.1)
         (λ may.
-        subst (λ (t : Turn). Turned states l (delivered (record c { to_lender = record c.to_lender { parcels = ps } }) t))
+        subst (λ (t : Turn). Turned states l (deliver_after (record c { to_lender = record c.to_lender { parcels = ps } }) t))
         (sym (took-served c.lender c.number q.msg q.page may)) (fine q ps))
         (λ _. record { turn = h.turn; stays = tt })
 
 turned_hosted :
     (states : List SlabState) (l : Lender) (c : Channel) (used word : ℕ) → IsReached c.lender → Lodges c → Turned states l c
-    → Turned states l (delivered c (host c.lender used word))
+    → Turned states l (deliver_after c (host c.lender used word))
 turned_hosted states l c used word reached lodges h =
     let both =
     host_turns (λ k. IsMappedAt states l k) c.number c.lender used word c.to_device reached (λ m r. (are_owned m r).round) h.turn
     (stays_here states l c lodges h) in
     record { turn = both.0; stays = stands_so c.lender_gone _ both.1 }
 
-turned_cut : (states : List SlabState) (l : Lender) (c : Channel) (m n : ℕ) → Turned states l c → Turned states l (severed c m n).1
+turned_cut : (states : List SlabState) (l : Lender) (c : Channel) (m n : ℕ) → Turned states l c → Turned states l (cut_after c m n).1
 turned_cut states l c m n h =
     record {
       turn = turn_take (λ k. IsMappedAt states l k) n c.to_device.parcels h.turn;
       stays = stands_so c.lender_gone _ (λ e i n t k held. absurd (both_ways true e refl));
     }
 
-turned_crashed : (states : List SlabState) (l : Lender) (c : Channel) → Turned states l c → Turned states l (crashed c)
+turned_crashed : (states : List SlabState) (l : Lender) (c : Channel) → Turned states l c → Turned states l (crash_after c)
 turned_crashed states l c h =
     cond_both c.lender_gone _ _ (λ (x : Channel). Turned states l x)
     (λ left. record { turn = h.turn; stays = unless c.lender_gone _ (λ f. absurd (both_ways c.lender_gone f left)) })
     (λ _. record { turn = h.turn; stays = tt })
 
-turned_new : (states : List SlabState) (l : Lender) (c : Channel) (n : Link) → Lodges c → Turned states l (connected c n)
+turned_new : (states : List SlabState) (l : Lender) (c : Channel) (n : Link) → Lodges c → Turned states l (connect_after c n)
 turned_new states l c n lodges =
     record { turn = tt; stays = λ e i m t k held. absurd (connected_none c n lodges i (record { link = m; slab = t; lease = k }) (ap tenant held)) }
 
@@ -350,7 +351,7 @@ module _ (n : ℕ) (d : Device) (h g : Harbor) (l : Lender) (q : Parcel) (all : 
 
   answered_up :
       (m : Lender) (states : List SlabState) (bits : List Bool) → (m.0 ≡ l.0 → ⊥) → KeepsMapped m d.remote.slabs states
-      → Sees m d (record d { remote = record { bits = bits; slabs = states; links = rings.answered d.remote.links l } })
+      → Sees m d (record d { remote = record { bits = bits; slabs = states; links = rings.answered_after d.remote.links l } })
   answered_up m states bits other mapped = record { mapped = mapped; up = ap (λ (k : LinkState). k.up) (answered-other d.remote.links l m other) }
 
   borrows :
@@ -371,19 +372,19 @@ module _ (n : ℕ) (d : Device) (h g : Harbor) (l : Lender) (q : Parcel) (all : 
 
   pub heard_turned : (x : Heard) → Hears d l q x → AllTurned n x.device g
   heard_turned x (roomy {t = t} {u = u} {free = free} is says same) =
-      heard_via (record d { remote = remote.told d.remote l t free })
+      heard_via (record d { remote = remote.told_after d.remote l t free })
       (λ m other.
-      answered_up m (slabs.answered d.remote.slabs t l (reply.Free free)) d.remote.bits other (mapped_answered m l d.remote.slabs t (reply.Free free)))
+      answered_up m (slabs.answered_after d.remote.slabs t l (reply.Free free)) d.remote.bits other (mapped_answered m l d.remote.slabs t (reply.Free free)))
       (λ k at. mapped_answered l l d.remote.slabs t (reply.Free free) k (room_then (λ j. IsMappedAt d.remote.slabs l j) q.msg (u, free) k says at))
   heard_turned x (lent {t = t} {u = u} {k = j} {rest = rest} is says same none) =
       let was = borrows t rest is in
       let within : t.0 < length d.remote.slabs = subst (λ m. t.0 < m) (sym serves.slabs_len) was.0 in
-      let states : List SlabState = slabs.lent d.remote.slabs t j in
+      let states : List SlabState = slabs.lent_after d.remote.slabs t j in
       let apart : (m : Lender) → KeepsMapped m d.remote.slabs states =
       λ m.
       mapped_apart m d.remote.slabs t (slabs.after_lent (state_of d.remote.slabs t) j)
       (λ k f at. borrowing_mapped (state_of d.remote.slabs t) l m k f was.1 at) in
-      heard_via (record d { remote = remote.lent d.remote l t j }) (λ m other. answered_up m states d.remote.bits other (apart m))
+      heard_via (record d { remote = remote.lent_after d.remote l t j }) (λ m other. answered_up m states d.remote.bits other (apart m))
       (λ k at. elim (lent_then (λ j. IsMappedAt d.remote.slabs l j) q.msg u j k says at) [
         | inl old ↦ apart l k old
         | inr new ↦ (
@@ -395,13 +396,14 @@ module _ (n : ℕ) (d : Device) (h g : Harbor) (l : Lender) (q : Parcel) (all : 
       ])
   heard_turned x (refused {t = t} {u = u} {rest = rest} is says same) =
       let was = borrows t rest is in
-      let apart : (m : Lender) → KeepsMapped m d.remote.slabs (slabs.refused d.remote.slabs t) =
+      let apart : (m : Lender) → KeepsMapped m d.remote.slabs (slabs.refused_after d.remote.slabs t) =
       λ m. mapped_apart m d.remote.slabs t Local (λ k f at. borrowing_mapped (state_of d.remote.slabs t) l m k f was.1 at) in
-      heard_via (record d { remote = remote.refused d.remote l t }) (λ m other. answered_up m (slabs.refused d.remote.slabs t) d.remote.bits other (apart m))
+      heard_via (record d { remote = remote.refused_after d.remote l t }) (λ m other. answered_up m (slabs.refused_after d.remote.slabs t) d.remote.bits other
+      (apart m))
       (λ k at. apart l k (refused_then (λ j. IsMappedAt d.remote.slabs l j) q.msg u k says at))
   heard_turned x (written {p = p} {e = e} {at = at} is says named) =
       let b : Bool = device.is_newest (last d.history p) e && slabs.is_mapped (remote.state_for d.sizes d.remote.slabs p) in
-      heard_via (record d { remote = remote.written d.sizes d.remote l p (device.is_newest (last d.history p) e) })
+      heard_via (record d { remote = remote.written_after d.sizes d.remote l p (device.is_newest (last d.history p) e) })
       (λ m other. written_sees m (device.is_newest (last d.history p) e && slabs.is_mapped (remote.state_for d.sizes d.remote.slabs p)) p other)
       (λ k held.
       subst (λ states. IsMappedAt states l k)
@@ -410,7 +412,7 @@ module _ (n : ℕ) (d : Device) (h g : Harbor) (l : Lender) (q : Parcel) (all : 
       (remote.settled_for d.sizes d.remote l p) p))
       (mapped_settled l d.remote.slabs (slab_for d.sizes p) k (wrote_then (λ j. IsMappedAt d.remote.slabs l j) q.msg at k says held)))
   heard_turned x (brought {c = a} {p = p} {at = at} is says named) =
-      heard_via (record d { remote = remote.settled_for d.sizes d.remote l p; calls = calls.came d.calls a q.page })
+      heard_via (record d { remote = remote.settled_for d.sizes d.remote l p; calls = calls.came_after d.calls a q.page })
       (λ m other.
       record { mapped = mapped_settled m d.remote.slabs (slab_for d.sizes p); up = ap (λ (k : LinkState). k.up) (answered-other d.remote.links l m other) })
       (λ k held. mapped_settled l d.remote.slabs (slab_for d.sizes p) k (page_then (λ j. IsMappedAt d.remote.slabs l j) q.msg at k says held))
@@ -418,7 +420,7 @@ module _ (n : ℕ) (d : Device) (h g : Harbor) (l : Lender) (q : Parcel) (all : 
       heard_via d (λ m other. itself m d) (λ k held. rate_then (λ j. IsMappedAt d.remote.slabs l j) q.msg j k says held)
   heard_turned x (told_to_go {t = t} {k = j} says at) =
       let m : MappedBy d.remote.slabs l j t = mapped_by_is d.remote.slabs l j t at in
-      heard_via (record d { remote = remote.evicted d.sizes d.remote t })
+      heard_via (record d { remote = remote.evicted_after d.sizes d.remote t })
       (λ o other.
       record {
         mapped =
@@ -477,12 +479,12 @@ base_mapped W d l m q e base (borrow within may) = itself m d
 base_mapped W d l m q e base (query within may) = itself m d
 base_mapped W d l m q e base (query_too within state other may) = itself m d
 
-wrote_remote : (d : Device) (p : Page) (copy : Option Copy) (ok : Bool) → (device.wrote d p copy ok).0.remote ≡ d.remote
+wrote_remote : (d : Device) (p : Page) (copy : Option Copy) (ok : Bool) → (device.wrote_after d p copy ok).0.remote ≡ d.remote
 wrote_remote d p None ok = refl
 wrote_remote d p (Some copy) true = refl
 wrote_remote d p (Some copy) false = refl
 
-took_remote : (d : Device) (w : DiskWhich) (p : Page) (ok : Bool) (bytes : List ℕ) → (device.took d w p ok bytes).0.remote ≡ d.remote
+took_remote : (d : Device) (w : DiskWhich) (p : Page) (ok : Bool) (bytes : List ℕ) → (device.took_after d w p ok bytes).0.remote ≡ d.remote
 took_remote d (which.Write q) p ok bytes = wrote_remote d p (queue.flying d.queue p) ok
 took_remote d (which.Read c) p true bytes = refl
 took_remote d (which.Read c) p false bytes = refl
@@ -537,8 +539,8 @@ module _ {D : Type 0} (disk : DiskMeaning D) (follows : FollowsItsMoves disk) (l
 
   pub each_turned : EachKeepsWhere disk.moves harbor.Moves (Move There) Before TurnedAt
   each_turned x asked y k k' f f' (enters {d = d} {c = c} {p = p} {bytes = bytes} outs) stay before all =
-      turned_alone o.lenders d (device.enter d c p bytes) f (λ l. record { mapped = λ k h. h; up = refl }) all
-  each_turned x asked y k k' f f' (gives {d = d} {c = c} {p = p} {named = named} {from = from} {bytes = bytes} given) stay before all =
+      turned_alone o.lenders d (device.enter_entry d c p bytes) f (λ l. record { mapped = λ k h. h; up = refl }) all
+  each_turned x asked y k k' f f' (gives {d = d} {c = c} {p = p} {named = named} {from = from} {bytes = bytes} give_after) stay before all =
       alone d (device.give d c p named from bytes) f refl all
   each_turned x asked y k k' f f' (faults {d = d} {c = c} {p = p} {k = kind} {since = since} {at = at} {bytes = bytes} fails) stay before all =
       alone d (device.fault d c p kind since at bytes) f refl all
@@ -546,25 +548,27 @@ module _ {D : Type 0} (disk : DiskMeaning D) (follows : FollowsItsMoves disk) (l
   each_turned x asked y k k' f f' (rates_change {d = d} rates) stay before all = alone d (record d { rates = rates }) f refl all
   each_turned x asked y k k' f f' (lets_go {d = d} l within up) stay before all = after_loss o.lenders d f l (but l o.lenders d f all)
   each_turned x asked y k k' f f' (gives_up {d = d} l t off asks) stay before all =
-      turned_alone o.lenders d (record d { remote = remote.gone d.remote l t }) f
+      turned_alone o.lenders d (record d { remote = remote.gone_after d.remote l t }) f
       (λ m. record { mapped = mapped_answered m l d.remote.slabs t reply.Gone; up = refl }) all
   each_turned x asked y k k' f f' (starts {d = d} el ec) (by_disk moved) before all = alone d (record d { queue = queue.start d.queue }) f refl all
   each_turned x asked y k k' f f' (waits_for_disk {d = d} {c = c} {p = p} {n = e} ins within is none) (by_disk moved) before all =
       alone d (device.wait_for_disk d c p e) f refl all
-  each_turned x asked y k k' f f' (takes {d = d} {taken = taken}) (by_disk moved) before all = alone d (device.took_back d taken).0 f (back_remote d taken) all
+  each_turned x asked y k k' f f' (takes {d = d} {taken = take_after}) (by_disk moved) before all =
+      alone d (device.took_back d take_after).0 f (back_remote d take_after) all
   each_turned x asked y k k' f f' lets_finish (by_disk moved) before all = all
   each_turned x asked y k k' f f' (sends {d = d} {e = e} {base = base} {l = l} {q = q} one) (by_fabric moved) before all =
       through_call o.lenders d e f f' (Send l q) sent_is.Sent moved
       (λ m other. record { mapped = sent_mapped There d l m q e base one; up = sent_up There d l m q e base one other }) (but l o.lenders d f all)
       (λ within up.
-      turned_on d.remote.slabs e.remote.slabs l (sent (channel_of f l) q).1 (sent_mapped There d l l q e base one)
+      turned_on d.remote.slabs e.remote.slabs l (send_after (channel_of f l) q).1 (sent_mapped There d l l q e base one)
       (turned_sent d.remote.slabs l (channel_of f l) q (all l within (keep.sends_up There d l q e base one))))
   each_turned x asked y k k' f f' (finds_down {d = d} {e = e} {base = base} {l = l} {q = q} one) (by_fabric moved) before all =
       down o.lenders base f f' (Send l q) sent_is.Down moved
       (but l o.lenders base f (turned_alone o.lenders d base f (λ m. base_mapped There d l m q e base one) all))
   each_turned x asked y k k' f f' (raises {d = d} {l = l} {r = r} within off) (by_fabric moved) before all =
-      through_call o.lenders d (raised d l) f f' (Connect l (next_link d)) r moved
-      (λ m other. record { mapped = λ k h. h; up = ap (λ (k : LinkState). k.up) (link-other d.remote.links l m rings.fresh other) }) (but l o.lenders d f all)
+      through_call o.lenders d (raised_after d l) f f' (Connect l (next_link d)) r moved
+      (λ m other. record { mapped = λ k h. h; up = ap (λ (k : LinkState). k.up) (link-other d.remote.links l m rings.link_at_start other) })
+      (but l o.lenders d f all)
       (λ _ up. turned_new d.remote.slabs l (channel_of f l) (next_link d) (before.1.0.lodged l moved.0.range))
   each_turned x asked y k k' f f' (speaks {d = d} {l = l} {q = q} word) (by_fabric moved) before all = said_turned d f f' l q all moved
   each_turned x asked y k k' f f' (speaks_to_nobody {d = d} {l = l} {q = q} word) (by_fabric moved) before all =

@@ -24,9 +24,9 @@ use Rattle.swap_lender.specs.declared.Notice.{Notice}
 use Rattle.swap_lender.specs.declared.Notice.TheVariants as notice
 use Rattle.swap_lender.specs.Lender.{Lender, slot_of}
 use Rattle.swap_lender.specs.Lender as lender
-use Rattle.swap_lender.specs.Table.{Turn, tell_slot, told, settle_with, due, serve, lend, may_reach, may_send, host, measured, opens}
-use Rattle.swap_link.specs.Lane.{Lane, appended}
-use Rattle.swap_link.specs.Channel.{Channel, posted, forwarded}
+use Rattle.swap_lender.specs.Table.{Turn, tell_slot, parcels_told, settle_with, slots_due, serve, lend, may_reach, may_send, host, measure_after, opens}
+use Rattle.swap_link.specs.Lane.{Lane, append_after}
+use Rattle.swap_link.specs.Channel.{Channel, post_after, forward_after}
 use Rattle.swap_link.specs.lemmas.Sound.{some-same}
 use Rattle.swap_joint.specs.Order.{is_request, is_reply, Answers, Carries}
 use Rattle.swap_calls.specs.Calls.{Calls}
@@ -66,7 +66,7 @@ pub any-append : {X : Type 0} (test : X → Bool) (xs : List X) (x : X) → test
 any-append test [] x e = ap (λ b. b || false) e
 any-append test (y ∷ xs) x e = ap (λ b. test y || b) (any-append test xs x e)
 
-pub lends-append : (k : Lease) (b : Lane) (q : Parcel) → lends k q.msg ≡ false → lends_in k (appended b q).parcels ≡ lends_in k b.parcels
+pub lends-append : (k : Lease) (b : Lane) (q : Parcel) → lends k q.msg ≡ false → lends_in k (append_after b q).parcels ≡ lends_in k b.parcels
 lends-append k b q e =
     by_append (λ z. lends_in k z.parcels ≡ lends_in k b.parcels) b q (λ _. refl) (λ _. any-append (λ (q : Parcel). lends k q.msg) b.parcels q e) (λ _. refl)
 
@@ -74,7 +74,8 @@ no_loan_to : (t : Slab) (k : Lease) (m : Msg) → is_notice m ≡ true → lends
 no_loan_to t k (msg.Lent slab lease) e = cc
 no_loan_to t k _ e = refl
 
-lends_to-append : (t : Slab) (k : Lease) (b : Lane) (q : Parcel) → lends_slab t k q.msg ≡ false → lends_to t k (appended b q).parcels ≡ lends_to t k b.parcels
+lends_to-append : (t : Slab) (k : Lease) (b : Lane) (q : Parcel) → lends_slab t k q.msg ≡ false
+    → lends_to t k (append_after b q).parcels ≡ lends_to t k b.parcels
 lends_to-append t k b q e =
     by_append (λ z. lends_to t k z.parcels ≡ lends_to t k b.parcels) b q (λ _. refl) (λ _. any-append (λ (q : Parcel). lends_slab t k q.msg) b.parcels q e)
     (λ _. refl)
@@ -95,7 +96,7 @@ any_last test (y ∷ xs) x e = go (test y) e (any_last test xs x)
     go false e rest = rest e
 
 pub loan-append :
-    (t : Slab) (k : Lease) (b : Lane) (q : Parcel) → lends_to t k (appended b q).parcels ≡ true
+    (t : Slab) (k : Lease) (b : Lane) (q : Parcel) → lends_to t k (append_after b q).parcels ≡ true
     → (lends_to t k b.parcels ≡ true) ⊎ (lends_slab t k q.msg ≡ true)
 loan-append t k b q =
     by_append (λ z. lends_to t k z.parcels ≡ true → (lends_to t k b.parcels ≡ true) ⊎ (lends_slab t k q.msg ≡ true)) b q (λ _ e. inl e)
@@ -118,7 +119,7 @@ once_last (p ∷ ps) q once other = (
     rest false b e = e
 
 pub once-append :
-    (b : Lane) (q : Parcel) → LentOnce b.parcels → ((k : Lease) → lends_in k b.parcels ≡ true → lends k q.msg ≡ false) → LentOnce (appended b q).parcels
+    (b : Lane) (q : Parcel) → LentOnce b.parcels → ((k : Lease) → lends_in k b.parcels ≡ true → lends k q.msg ≡ false) → LentOnce (append_after b q).parcels
 once-append b q once other = by_append (λ z. LentOnce z.parcels) b q (λ _. once) (λ _. once_last b.parcels q once other) (λ _. once)
 
 -- notices are appended, or dropped
@@ -128,7 +129,7 @@ pub record Noticed (a b b' : Lane) : Type 0 where
   pub loans : (t : Slab) (k : Lease) → lends_to t k b'.parcels ≡ lends_to t k b.parcels
   pub once : LentOnce b.parcels → LentOnce b'.parcels
 
-posted_noticed : (a b : Lane) (n link : Link) (q : Parcel) → is_notice q.msg ≡ true → Noticed a b (posted n b link q)
+posted_noticed : (a b : Lane) (n link : Link) (q : Parcel) → is_notice q.msg ≡ true → Noticed a b (post_after n b link q)
 posted_noticed a b n link q is =
     cond_both (link.0 == n.0) _ _ (λ z. Noticed a b z)
     (λ _.
@@ -146,7 +147,7 @@ posted_noticed a b n link q is =
       once = λ once. once;
     })
 
-pub forwarded_noticed : (a b : Lane) (n : Link) (ps : List (Link × Parcel)) → AllByRecursion IsNotice ps → Noticed a b (forwarded n b ps)
+pub forwarded_noticed : (a b : Lane) (n : Link) (ps : List (Link × Parcel)) → AllByRecursion IsNotice ps → Noticed a b (forward_after n b ps)
 forwarded_noticed a b n [] all =
     record {
       quiet = record { asks = refl; replies = refl; to_lender = λ f. f; to_device = λ f. f };
@@ -156,10 +157,10 @@ forwarded_noticed a b n [] all =
     }
 forwarded_noticed a b n (p ∷ ps) all =
     let q : Parcel = parcel_of p.1.msg p.1.page in
-    let one : Noticed a b (posted n b p.0 q) = posted_noticed a b n p.0 q all.0 in
-    let rest : Noticed a (posted n b p.0 q) (forwarded n (posted n b p.0 q) ps) = forwarded_noticed a (posted n b p.0 q) n ps all.1 in
+    let one : Noticed a b (post_after n b p.0 q) = posted_noticed a b n p.0 q all.0 in
+    let rest : Noticed a (post_after n b p.0 q) (forward_after n (post_after n b p.0 q) ps) = forwarded_noticed a (post_after n b p.0 q) n ps all.1 in
     record {
-      quiet = quiet-trans a b a (posted n b p.0 q) a (forwarded n (posted n b p.0 q) ps) one.quiet rest.quiet;
+      quiet = quiet-trans a b a (post_after n b p.0 q) a (forward_after n (post_after n b p.0 q) ps) one.quiet rest.quiet;
       lends = λ k. rest.lends k ∙ one.lends k;
       loans = λ t k. rest.loans t k ∙ one.loans t k;
       once = λ once. rest.once (one.once once);
@@ -171,10 +172,10 @@ told_notice kind true Free = tt
 told_notice notice.AskRates true (Held link slab lease evicting) = (refl, tt)
 told_notice notice.Evict true (Held link slab lease evicting) = (refl, tt)
 
-all_told : (kind : Notice) (set from : ℕ) (states : List SlotState) → AllByRecursion IsNotice (told kind set from states)
+all_told : (kind : Notice) (set from : ℕ) (states : List SlotState) → AllByRecursion IsNotice (parcels_told kind set from states)
 all_told kind set from [] = tt
 all_told kind set from (state ∷ states) =
-    All-append IsNotice (tell_slot kind (has set from) state) (told kind set (from + 1) states) (told_notice kind (has set from) state)
+    All-append IsNotice (tell_slot kind (has set from) state) (parcels_told kind set (from + 1) states) (told_notice kind (has set from) state)
     (all_told kind set (from + 1) states)
 
 settled_notices : (l : Lender) (o : Option ℕ) → AllByRecursion IsNotice (settle_with l o).parcels
@@ -188,12 +189,13 @@ serves_quietly l n (msg.Borrow slab) page e = cc
 serves_quietly l n (msg.Write lease place) page e = cc
 serves_quietly l n (msg.Read lease place) page e = cc
 serves_quietly l n (msg.Rates lease value) page e =
-    settled_notices (record l { round = option_map (answer (slot_of l n lease) value) l.round }) (due (option_map (answer (slot_of l n lease) value) l.round))
+    settled_notices (record l { round = option_map (answer (slot_of l n lease) value) l.round })
+    (slots_due (option_map (answer (slot_of l n lease) value) l.round))
 serves_quietly l n _ page e = tt
 
 pub hosts_quietly : (l : Lender) (used word : ℕ) → AllByRecursion IsNotice (host l used word).parcels
 hosts_quietly l used word =
-    cond_both (opens (measured l used)) _ _ (λ (t : Turn). AllByRecursion IsNotice t.parcels) (λ _. all_told notice.AskRates _ 0 l.slots) (λ _. tt)
+    cond_both (opens (measure_after l used)) _ _ (λ (t : Turn). AllByRecursion IsNotice t.parcels) (λ _. all_told notice.AskRates _ 0 l.slots) (λ _. tt)
 
 -- the lender that lent a slab
 abbrev lender_lend : Lender → Link → Slab → Lender
@@ -218,7 +220,7 @@ replies s H cs states o c q (Query t) carries =
     subst P (sym carries)
     (λ may.
     record {
-      reply = parcel_of (msg.Room t (lender.free c.lender)) [];
+      reply = parcel_of (msg.Room t (lender.slots_free c.lender)) [];
       parcels = refl;
       whole = refl;
       is = refl;
@@ -294,7 +296,7 @@ replies s H cs states o c q (Read a p) carries =
     })
 
 pub forwarded_one :
-    (n : Link) (b : Lane) (ps : List (Link × Parcel)) (q : Parcel) → ps ≡ (n, q) ∷ [] → parcel_of q.msg q.page ≡ q → forwarded n b ps ≡ appended b q
+    (n : Link) (b : Lane) (ps : List (Link × Parcel)) (q : Parcel) → ps ≡ (n, q) ∷ [] → parcel_of q.msg q.page ≡ q → forward_after n b ps ≡ append_after b q
 forwarded_one n b ps q is whole =
-    ap (λ (xs : List (Link × Parcel)). forwarded n b xs) is ∙ cond-true (n.0 == n.0) (appended b (parcel_of q.msg q.page)) b (eq-eqb n.0 n.0 refl)
-    ∙ ap (λ r. appended b r) whole
+    ap (λ (xs : List (Link × Parcel)). forward_after n b xs) is ∙ cond-true (n.0 == n.0) (append_after b (parcel_of q.msg q.page)) b (eq-eqb n.0 n.0 refl)
+    ∙ ap (λ r. append_after b r) whole

@@ -7,7 +7,7 @@ use Rattle.swap_base.specs.declared.Lease.{Lease}
 use Rattle.swap_wire.specs.declared.Msg.{Msg}
 use Rattle.swap_wire.specs.Fabric.{FabricCall, FabricAnswer, FabricOf}
 use Rattle.swap_lender.specs.declared.Lending.{Lending}
-use Rattle.swap_lender.specs.Lender.{Lender, fresh, lends, first_where, is_free}
+use Rattle.swap_lender.specs.Lender.{Lender, lender_at_start, lends, first_where, is_free}
 use Rattle.swap_lender.specs.Table.{lend, may_send, serve, host}
 use Rattle.swap_lender.specs.Calls.{Call, run, IsOwned, AsksStaying}
 use Rattle.swap_link.specs.Fits.{IsSound}
@@ -37,7 +37,7 @@ AreWhole h = (l : LenderNo) → l.0 < length h.channels → AreSlots (channel_of
 pub record IsReached (l : Lender) : Type 0 where
   pub lending : Lending
   pub calls : List Call
-  pub is : l ≡ run (fresh lending) calls
+  pub is : l ≡ run (lender_at_start lending) calls
 
 abbrev pub AreReached : Harbor → Type 0
 AreReached h = (l : LenderNo) → l.0 < length h.channels → IsReached (channel_of h l).lender

@@ -20,13 +20,13 @@ use Rattle.swap_rings.specs.declared.Request.{Request}
 use Rattle.swap_remote.specs.Remote.{state_for}
 use Rattle.swap_table.specs.Device.{Device}
 use Rattle.swap_table.specs.Moves.{Owed, Says, Ends}
-use Rattle.swap_table.specs.Serves.{latest, IsOut, bytes_of}
+use Rattle.swap_table.specs.Serves.{latest_write, IsOut, bytes_of}
 use Rattle.swap_link.specs.Channel.{Channel}
 use Rattle.swap_link.specs.Keeping.{Unless}
 use Rattle.swap_link.specs.Harbor.{Harbor, channel_of}
 use Rattle.swap_joint.specs.Order.{OrderOf, served_of}
 use Rattle.swap_joint.specs.Seats.{HasSeat, is_done}
-use Rattle.swap_joint.specs.Brought.{found, Replied, Asked}
+use Rattle.swap_joint.specs.Brought.{page_found, Replied, Asked}
 
 -- whether a lease is being given back, and whether it is being lent
 abbrev pub gives_back : Lease → List Parcel → Bool
@@ -65,11 +65,12 @@ pub record Stored (s : Sizes) (H : History) (states : List SlabState) (bits : Li
   pub leased : (t : Slab) (k : Lease) → has_lease l k (state_of states t) ≡ true → HasSeat c.lender c.number k t
   pub lent : (t : Slab) (k : Lease) → lends_to t k c.to_device.parcels ≡ true → HasSeat c.lender c.number k t
   pub written :
-      (p : Page) (k : Lease) (e : EntryNo) → has_lease l k (state_for s states p) ≡ true → latest p served ≡ Some e
-      → IsOut H p e × (found s c k p ≡ Some (bytes_of H e))
+      (p : Page) (k : Lease) (e : EntryNo) → has_lease l k (state_for s states p) ≡ true
+      → latest_write p served ≡ Some e
+      → IsOut H p e × (page_found s c k p ≡ Some (bytes_of H e))
   pub readable :
       (p : Page) (k : Lease) → has_lease l k (state_for s states p) ≡ true → has bits p.0 ≡ true
-      → found s c k p ≡ Some (array (zeros s) H p)
+      → page_found s c k p ≡ Some (array (zeros s) H p)
   pub given : (k : Lease) → gives_back k c.to_lender.parcels ≡ true → IsGivenBack states l c k
 
 -- a link that is up, with its lender

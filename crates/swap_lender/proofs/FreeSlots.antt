@@ -6,7 +6,7 @@ use Rattle.std.proofs.lemmas.List.Sums.{sum_by-cons}
 use Rattle.std.proofs.lemmas.Bool.{lt-ltb, ltb-true}
 use Rattle.swap_lender.specs.declared.SlotState.{SlotState}
 use Rattle.swap_lender.specs.declared.SlotState.TheVariants.{Free, Held}
-use Rattle.swap_lender.specs.Lender.{Lender, is_free, is_held, used, held, lends}
+use Rattle.swap_lender.specs.Lender.{Lender, is_free, is_held, used_slots, held_slots, lends}
 use Rattle.swap_lender.specs.declared.TheConstants.{LEASES}
 
 pub free_there : (slots : List SlotState) → count_by is_held slots < length slots → position_or_len is_free slots < length slots
@@ -31,11 +31,11 @@ and_second true b e = e
 and_second false b e = absurd (cc)
 
 -- a lender that lends has a slot that isn't held, and a lease
-pub lends_room : (l : Lender) → lends l ≡ true → (used l + held l + l.lending.spec.headroom < l.lending.spec.slots) × (l.next_lease < LEASES)
+pub lends_room : (l : Lender) → lends l ≡ true → (used_slots l + held_slots l + l.lending.spec.headroom < l.lending.spec.slots) × (l.next_lease < LEASES)
 lends_room l e =
-    let a = nat_lt (used l + held l + l.lending.spec.headroom) l.lending.spec.slots in
+    let a = nat_lt (used_slots l + held_slots l + l.lending.spec.headroom) l.lending.spec.slots in
     let b = nat_lt l.next_lease LEASES in
-    (ltb-true (used l + held l + l.lending.spec.headroom) l.lending.spec.slots (and_first a b e), ltb-true l.next_lease LEASES (and_second a b e))
+    (ltb-true (used_slots l + held_slots l + l.lending.spec.headroom) l.lending.spec.slots (and_first a b e), ltb-true l.next_lease LEASES (and_second a b e))
 
 pub room_there : (l : Lender) → lends l ≡ true → length l.slots ≡ l.lending.spec.slots → position is_free l.slots ≡ Some (position_or_len is_free l.slots)
 room_there l e size = let room = lends_room l e in lowest_there l.slots (omega (arith, room.0, size))

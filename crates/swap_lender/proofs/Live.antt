@@ -14,8 +14,8 @@ use Rattle.swap_choice.specs.Picks.{first_picks, picks}
 use Rattle.swap_evict.specs.Rounds.{Round, answer, leave, waits_for}
 use Rattle.swap_lender.specs.declared.SlotState.{SlotState}
 use Rattle.swap_lender.specs.declared.SlotState.TheVariants.{Free, Held}
-use Rattle.swap_lender.specs.Lender.{Lender, fresh, slot_in, is_free, is_of, is_staying, is_evicting, first_where, numbers_where, slot_of, holds, lends}
-use Rattle.swap_lender.specs.Table.{Turn, took, host, gone, settle, freed, left, without_peer, lend, measured, has_room, staying, to_ask, asked}
+use Rattle.swap_lender.specs.Lender.{Lender, lender_at_start, slot_in, is_free, is_of, is_staying, is_evicting, first_where, numbers_where, slot_of, holds, lends}
+use Rattle.swap_lender.specs.Table.{Turn, took_after, host, gone_after, settle, free_slot, round_left, without_peer, lend, measure_after, has_room, staying_slots, to_ask, asked_slots}
 use Rattle.swap_lender.specs.Calls.{Call, Arrive, Took, Host, Gone, Restart, step, run, IsLive, AsksStaying, LiveRounds}
 use Rattle.swap_lender.proofs.Steps.{choose, took_each, settle_each, host_each}
 
@@ -110,12 +110,12 @@ each_number P test from (state ∷ states) here =
     (each_number P test (from + 1) states (λ i e. subst P (omega arith) (here (suc i) e)))
 
 -- the slots that a round asks stay
-asked_stay : (l : Lender) (word i : ℕ) → has (asked l word) i ≡ true → is_staying (slot_in l.slots i) ≡ true
+asked_stay : (l : Lender) (word i : ℕ) → has (asked_slots l word) i ≡ true → is_staying (slot_in l.slots i) ≡ true
 asked_stay l word i e =
-    let kept : has (staying l) i ≡ true =
-    in_set_of (λ k. has (staying l) k ≡ true) i (take (to_ask l) (picks word (slots (staying l))))
-    (each_take (λ k. has (staying l) k ≡ true) (to_ask l) (picks word (slots (staying l)))
-    (each_pick (λ k. has (staying l) k ≡ true) (length (slots (staying l))) word (slots (staying l)) (each_slot (staying l))))
+    let kept : has (staying_slots l) i ≡ true =
+    in_set_of (λ k. has (staying_slots l) k ≡ true) i (take (to_ask l) (picks word (slots (staying_slots l))))
+    (each_take (λ k. has (staying_slots l) k ≡ true) (to_ask l) (picks word (slots (staying_slots l)))
+    (each_pick (λ k. has (staying_slots l) k ≡ true) (length (slots (staying_slots l))) word (slots (staying_slots l)) (each_slot (staying_slots l))))
     e in
     in_set_of (λ k. is_staying (slot_in l.slots k) ≡ true) i (numbers_where is_staying 0 l.slots)
     (each_number (λ k. is_staying (slot_in l.slots k) ≡ true) is_staying 0 l.slots
@@ -199,7 +199,7 @@ last_of a b c e f = not_true c (second_true (a && not b) (not c) e) f
 
 freed_stays :
     (link : Link) (states : List SlotState) (i : ℕ) → (is_of link (get_or states i Free) ≡ true → ⊥) → is_staying (get_or states i Free) ≡ true
-    → is_staying (get_or (map (freed link) states) i Free) ≡ true
+    → is_staying (get_or (map (free_slot link) states) i Free) ≡ true
 freed_stays link [] i other e = e
 freed_stays link (state ∷ states) zero other e =
     elim (is_of link state) as (λ b. (b ≡ true → ⊥) → is_staying (if b then Free else state) ≡ true) [ true ↦ λ o. absurd (o refl) | false ↦ λ o. e ] other
@@ -251,19 +251,20 @@ rates_live None states slot value live = tt
 rates_live (Some r) states slot value live = live_on r (answer slot value r) states states (λ i e. answer_waits r slot value i e) (λ i e f. f) live
 
 left_live :
-    (o : Option Round) (link : Link) (states : List SlotState) → AsksStaying o states → AsksStaying (option_map (left link states) o) (map (freed link) states)
+    (o : Option Round) (link : Link) (states : List SlotState) → AsksStaying o states
+    → AsksStaying (option_map (round_left link states) o) (map (free_slot link) states)
 left_live None link states live = tt
 left_live (Some r) link states live =
-    live_on r (left link states r) states (map (freed link) states) (λ i e. left_waits (numbers_where (is_of link) 0 states) r i e)
+    live_on r (round_left link states r) states (map (free_slot link) states) (λ i e. left_waits (numbers_where (is_of link) 0 states) r i e)
     (λ i e f.
     freed_stays link states i
     (λ mine.
-    last_of (has (left link states r).asked i) (has (left link states r).answered i) (has (left link states r).gone i) e
-    (subst (λ n. has (left link states r).gone n ≡ true) (omega arith) (gone_there link states 0 i r mine)))
+    last_of (has (round_left link states r).asked i) (has (round_left link states r).answered i) (has (round_left link states r).gone i) e
+    (subst (λ n. has (round_left link states r).gone n ≡ true) (omega arith) (gone_there link states 0 i r mine)))
     f)
     live
 
-took_live : (l : Lender) (link : Link) (m : Msg) (page : List ℕ) → AsksStaying l.round l.slots → TurnLive (took l link m page)
+took_live : (l : Lender) (link : Link) (m : Msg) (page : List ℕ) → AsksStaying l.round l.slots → TurnLive (took_after l link m page)
 took_live l link m page live =
     took_each TurnLive l link m page
     (record {
@@ -292,11 +293,11 @@ took_live l link m page live =
 host_live : (l : Lender) (usage word : ℕ) → AsksStaying l.round l.slots → TurnLive (host l usage word)
 host_live l usage word live =
     host_each TurnLive l usage word live
-    (record { waits = λ i e. asked_stay (measured l usage) word i (first_of (has (asked (measured l usage) word) i) (has 0 i) (has 0 i) e) })
+    (record { waits = λ i e. asked_stay (measure_after l usage) word i (first_of (has (asked_slots (measure_after l usage) word) i) (has 0 i) (has 0 i) e) })
 
-gone_live : (l : Lender) (link : Link) → AsksStaying l.round l.slots → TurnLive (gone l link)
+gone_live : (l : Lender) (link : Link) → AsksStaying l.round l.slots → TurnLive (gone_after l link)
 gone_live l link live =
-    settle_live (record l { slots = map (freed link) l.slots; peers = without_peer link l.peers; round = option_map (left link l.slots) l.round })
+    settle_live (record l { slots = map (free_slot link) l.slots; peers = without_peer link l.peers; round = option_map (round_left link l.slots) l.round })
     (left_live l.round link l.slots live)
 
 if_live :
@@ -316,4 +317,4 @@ run_live l [] live = live
 run_live l (call ∷ calls) live = run_live (step l call).lender calls (step_live l call live)
 
 pub live_rounds : LiveRounds
-live_rounds s calls = run_live (fresh s) calls tt
+live_rounds s calls = run_live (lender_at_start s) calls tt

@@ -3,7 +3,7 @@ use Rattle.std.proofs.Common.{◌≡◌, ℕ, zero, suc, ◌+◌, ◌<◌, Bool,
 use Rattle.std.specs.List.{filter, range_with_len}
 use Rattle.std.proofs.lemmas.Nat.Bits.{bit_at-zero}
 use Rattle.swap_choice.specs.Slots.{has, slots, size}
-use Rattle.swap_evict.specs.Rounds.{opened, IsOpen}
+use Rattle.swap_evict.specs.Rounds.{round_at_start, IsOpen}
 
 -- a number below the end of which the test holds
 pub record IsSomewhere (test : ℕ → Bool) (high : ℕ) : Type 0 where
@@ -35,7 +35,7 @@ has_none slot = ap (λ b. eqb b 1) (bit_at-zero slot)
 waits_there : (a b c : Bool) → a ≡ true → b ≡ false → c ≡ false → (a && not b && not c) ≡ true
 waits_there a b c e f g = cc
 
-pub opened_waits : (asked count : ℕ) → 0 < size asked → IsOpen (opened asked count)
+pub opened_waits : (asked count : ℕ) → 0 < size asked → IsOpen (round_at_start asked count)
 opened_waits asked count some =
     let there = somewhere (has asked) 0 64 (omega (arith, some, sized asked)) in (
       there.number,

@@ -8,7 +8,7 @@ use Rattle.swap_choice.specs.Slots.{has}
 use Rattle.swap_lender.specs.declared.SlotState.{SlotState}
 use Rattle.swap_lender.specs.declared.SlotState.TheVariants.{Free, Held}
 use Rattle.swap_lender.specs.Lender.{slot_in, is_for}
-use Rattle.swap_lender.specs.Table.{mark_slot, marked, freed}
+use Rattle.swap_lender.specs.Table.{mark_slot, mark_slots, free_slot}
 use Rattle.swap_lender.specs.Calls.{Tenant, tenant, IsOwned}
 
 -- who has a slot after a change had it before
@@ -37,7 +37,7 @@ pub part_free : (slots : List SlotState) (k : ℕ) → IsPart (set slots k Free)
 part_free slots k = record { kept = λ i a e. kept_free slots k i a e }
 
 -- slots of a link are free
-freed_keeps : (link : Link) (state : SlotState) (a : Tenant) → tenant (freed link state) ≡ Some a → tenant state ≡ Some a
+freed_keeps : (link : Link) (state : SlotState) (a : Tenant) → tenant (free_slot link state) ≡ Some a → tenant state ≡ Some a
 freed_keeps link Free a e = e
 freed_keeps link (Held other slab lease evicting) a e =
     elim (other.0 == link.0) as
@@ -45,13 +45,13 @@ freed_keeps link (Held other slab lease evicting) a e =
     [ true ↦ λ h. absurd (nobody a h) | false ↦ λ h. h ] e
 
 kept_freed :
-    (link : Link) (slots : List SlotState) (i : ℕ) (a : Tenant) → tenant (get_or (map (freed link) slots) i Free) ≡ Some a
+    (link : Link) (slots : List SlotState) (i : ℕ) (a : Tenant) → tenant (get_or (map (free_slot link) slots) i Free) ≡ Some a
     → tenant (get_or slots i Free) ≡ Some a
 kept_freed link [] i a e = e
 kept_freed link (state ∷ slots) zero a e = freed_keeps link state a e
 kept_freed link (state ∷ slots) (suc i) a e = kept_freed link slots i a e
 
-pub part_freed : (link : Link) (slots : List SlotState) → IsPart (map (freed link) slots) slots
+pub part_freed : (link : Link) (slots : List SlotState) → IsPart (map (free_slot link) slots) slots
 part_freed link slots = record { kept = λ i a e. kept_freed link slots i a e }
 
 -- slots are marked
@@ -61,13 +61,13 @@ mark_keeps true Free a e = e
 mark_keeps true (Held link slab lease evicting) a e = e
 
 kept_marked :
-    (told from : ℕ) (slots : List SlotState) (i : ℕ) (a : Tenant) → tenant (get_or (marked told from slots) i Free) ≡ Some a
+    (told from : ℕ) (slots : List SlotState) (i : ℕ) (a : Tenant) → tenant (get_or (mark_slots told from slots) i Free) ≡ Some a
     → tenant (get_or slots i Free) ≡ Some a
 kept_marked told from [] i a e = e
 kept_marked told from (state ∷ slots) zero a e = mark_keeps (has told from) state a e
 kept_marked told from (state ∷ slots) (suc i) a e = kept_marked told (from + 1) slots i a e
 
-pub part_marked : (told : ℕ) (slots : List SlotState) → IsPart (marked told 0 slots) slots
+pub part_marked : (told : ℕ) (slots : List SlotState) → IsPart (mark_slots told 0 slots) slots
 part_marked told slots = record { kept = λ i a e. kept_marked told 0 slots i a e }
 
 -- a slot is lent

@@ -9,7 +9,7 @@ use Rattle.swap_choice.specs.Slots.{has}
 use Rattle.swap_lender.specs.declared.SlotState.{SlotState}
 use Rattle.swap_lender.specs.declared.SlotState.TheVariants.{Free, Held}
 use Rattle.swap_lender.specs.Lender.{Lender, is_free, has_lease}
-use Rattle.swap_lender.specs.Table.{mark_slot, marked, may_reach, settle_with, due}
+use Rattle.swap_lender.specs.Table.{mark_slot, mark_slots, may_reach, settle_with, slots_due}
 use Rattle.swap_lender.specs.Calls.{LendsFreeSlots, ServedUntilDone}
 use Rattle.swap_lender.proofs.FreeSlots.{free_there, lends_room}
 
@@ -26,23 +26,24 @@ mark_leased link lease true (Held other slab held evicting) = refl
 
 marked_first :
     (link : Link) (lease : Lease) (told_to from : ℕ) (slots : List SlotState)
-    → position_or_len (has_lease link lease) (marked told_to from slots) ≡ position_or_len (has_lease link lease) slots
+    → position_or_len (has_lease link lease) (mark_slots told_to from slots) ≡ position_or_len (has_lease link lease) slots
 marked_first link lease told_to from [] = refl
 marked_first link lease told_to from (state ∷ slots) =
-    ap (λ b. cond (not b) (1 + position_or_len (has_lease link lease) (marked told_to (from + 1) slots)) 0) (mark_leased link lease (has told_to from) state)
+    ap (λ b. cond (not b) (1 + position_or_len (has_lease link lease) (mark_slots told_to (from
+    + 1) slots)) 0) (mark_leased link lease (has told_to from) state)
     ∙ ap (λ n. cond (not (has_lease link lease state)) (1 + n) 0) (marked_first link lease told_to (from + 1) slots)
 
-marked_length : (told_to from : ℕ) (slots : List SlotState) → length (marked told_to from slots) ≡ length slots
+marked_length : (told_to from : ℕ) (slots : List SlotState) → length (mark_slots told_to from slots) ≡ length slots
 marked_length told_to from [] = refl
 marked_length told_to from (state ∷ slots) =
-    let rest : length (marked told_to (from + 1) slots) ≡ length slots = marked_length told_to (from + 1) slots in omega (arith, rest)
+    let rest : length (mark_slots told_to (from + 1) slots) ≡ length slots = marked_length told_to (from + 1) slots in omega (arith, rest)
 
 settled :
     (l : Lender) (link : Link) (lease : Lease) (place : ℕ) (o : Option ℕ) → may_reach (settle_with l o).lender link lease place ≡ may_reach l link lease place
 settled l link lease place None = refl
 settled l link lease place (Some told_to) =
-    ap (λ n. nat_lt n (length (marked told_to 0 l.slots)) && nat_lt place l.lending.pages_per_slab) (marked_first link lease told_to 0 l.slots)
+    ap (λ n. nat_lt n (length (mark_slots told_to 0 l.slots)) && nat_lt place l.lending.pages_per_slab) (marked_first link lease told_to 0 l.slots)
     ∙ ap (λ n. nat_lt (position_or_len (has_lease link lease) l.slots) n && nat_lt place l.lending.pages_per_slab) (marked_length told_to 0 l.slots)
 
 pub served_until_done : ServedUntilDone
-served_until_done l link lease place = settled l link lease place (due l.round)
+served_until_done l link lease place = settled l link lease place (slots_due l.round)

@@ -12,9 +12,9 @@ use Rattle.swap_lender.specs.declared.Notice.{Notice}
 use Rattle.swap_lender.specs.declared.Notice.TheVariants.{AskRates, Evict}
 use Rattle.swap_lender.specs.declared.SlotState.{SlotState}
 use Rattle.swap_lender.specs.declared.SlotState.TheVariants.{Free, Held}
-use Rattle.swap_lender.specs.Lender.{Lender, fresh, is_for, is_free, first_where, slot_of, has_greeted, lends}
-use Rattle.swap_lender.specs.Table.{Turn, took, gone, settle, freed, left, without_peer, may_borrow, lend, borrow, tell_slot, told, has_room}
-use Rattle.swap_lender.specs.Calls.{IsOwned, Call, Arrive, Took, Host, Gone, Restart, step, run, lent_in, lent, is_restart, AlwaysOwned, LeasesInOrder, SizesStay}
+use Rattle.swap_lender.specs.Lender.{Lender, lender_at_start, is_for, is_free, first_where, slot_of, has_greeted, lends}
+use Rattle.swap_lender.specs.Table.{Turn, took_after, gone_after, settle, free_slot, round_left, without_peer, may_borrow, lend, borrow, tell_slot, parcels_told, has_room}
+use Rattle.swap_lender.specs.Calls.{IsOwned, Call, Arrive, Took, Host, Gone, Restart, step, run, lent_in, leases_lent, is_restart, AlwaysOwned, LeasesInOrder, SizesStay}
 use Rattle.swap_lender.proofs.Steps.{choose, took_each, settle_each, host_each, took_lending, host_lending, gone_lending}
 use Rattle.swap_lender.proofs.Owned.{owned_part, part_free, part_freed, part_marked, owned_lent, owned_fresh}
 
@@ -38,7 +38,7 @@ borrow_owned l link slab owned may =
     owned_lent l.slots (first_where is_free l.slots) link slab l.next_lease (not_both (has_greeted l link) (list_any (is_for link slab) l.slots) may) owned)
     owned
 
-took_owned : (l : Lender) (link : Link) (m : Msg) (page : List ℕ) → IsOwned l.slots l.next_lease → TurnOwned (took l link m page)
+took_owned : (l : Lender) (link : Link) (m : Msg) (page : List ℕ) → IsOwned l.slots l.next_lease → TurnOwned (took_after l link m page)
 took_owned l link m page owned =
     took_each TurnOwned l link m page
     (record {
@@ -52,9 +52,9 @@ took_owned l link m page owned =
       done = λ lease may. owned_part _ l.slots l.next_lease (part_free l.slots (slot_of l link lease)) owned;
     })
 
-gone_owned : (l : Lender) (link : Link) → IsOwned l.slots l.next_lease → TurnOwned (gone l link)
+gone_owned : (l : Lender) (link : Link) → IsOwned l.slots l.next_lease → TurnOwned (gone_after l link)
 gone_owned l link owned =
-    settle_owned (record l { slots = map (freed link) l.slots; peers = without_peer link l.peers; round = option_map (left link l.slots) l.round })
+    settle_owned (record l { slots = map (free_slot link) l.slots; peers = without_peer link l.peers; round = option_map (round_left link l.slots) l.round })
     (owned_part _ l.slots l.next_lease (part_freed link l.slots) owned)
 
 if_lender : (P : Lender → Type 0) (b : Bool) (l m : Lender) → P l → P m → P (if b then l else m)
@@ -73,7 +73,7 @@ run_owned l [] owned = owned
 run_owned l (call ∷ calls) owned = run_owned (step l call).lender calls (step_owned l call owned)
 
 pub always_owned : AlwaysOwned
-always_owned s calls = run_owned (fresh s) calls (owned_fresh s.spec.slots 0)
+always_owned s calls = run_owned (lender_at_start s) calls (owned_fresh s.spec.slots 0)
 
 -- leases
 
@@ -88,15 +88,15 @@ tell_lends_none kind true Free rest = refl
 tell_lends_none AskRates true (Held link slab lease evicting) rest = refl
 tell_lends_none Evict true (Held link slab lease evicting) rest = refl
 
-told_lends_none : (kind : Notice) (told_to from : ℕ) (slots : List SlotState) → lent_in (told kind told_to from slots) ≡ []
+told_lends_none : (kind : Notice) (told_to from : ℕ) (slots : List SlotState) → lent_in (parcels_told kind told_to from slots) ≡ []
 told_lends_none kind told_to from [] = refl
 told_lends_none kind told_to from (state ∷ slots) =
-    tell_lends_none kind (has told_to from) state (told kind told_to (from + 1) slots) ∙ told_lends_none kind told_to (from + 1) slots
+    tell_lends_none kind (has told_to from) state (parcels_told kind told_to (from + 1) slots) ∙ told_lends_none kind told_to (from + 1) slots
 
 settle_lends : (l m : Lender) → m.next_lease ≡ l.next_lease → LendsNext l (settle m)
 settle_lends l m same = settle_each (LendsNext l) m (inl (refl, same)) (λ told_to. inl (told_lends_none Evict told_to 0 m.slots, same))
 
-took_lends : (l : Lender) (link : Link) (m : Msg) (page : List ℕ) → LendsNext l (took l link m page)
+took_lends : (l : Lender) (link : Link) (m : Msg) (page : List ℕ) → LendsNext l (took_after l link m page)
 took_lends l link m page =
     took_each (LendsNext l) l link m page
     (record {
@@ -115,7 +115,8 @@ step_lends l (Arrive link) e = inl (refl, if_lender (λ m. m.next_lease ≡ l.ne
 step_lends l (Took link m page) e = took_lends l link m page
 step_lends l (Host usage word) e = host_each (LendsNext l) l usage word (inl (refl, refl)) (inl (told_lends_none AskRates _ 0 l.slots, refl))
 step_lends l (Gone link) e =
-    settle_lends l (record l { slots = map (freed link) l.slots; peers = without_peer link l.peers; round = option_map (left link l.slots) l.round }) refl
+    settle_lends l (record l { slots = map (free_slot link) l.slots; peers = without_peer link l.peers; round = option_map (round_left link l.slots) l.round })
+    refl
 step_lends l Restart e = absurd (cc)
 
 or_first : (a b : Bool) → (a || b) ≡ false → a ≡ false
@@ -151,7 +152,7 @@ pub leases_in_order : LeasesInOrder
 leases_in_order l [] none = (refl, omega arith)
 leases_in_order l (call ∷ calls) none =
     order_step l.next_lease (step l call).lender.next_lease (run (step l call).lender calls).next_lease (lent_in (step l call).parcels)
-    (lent (step l call).lender calls) (step_lends l call (or_first (is_restart call) (list_any is_restart calls) none))
+    (leases_lent (step l call).lender calls) (step_lends l call (or_first (is_restart call) (list_any is_restart calls) none))
     (leases_in_order (step l call).lender calls (or_rest (is_restart call) (list_any is_restart calls) none))
 
 pub sizes_stay : SizesStay

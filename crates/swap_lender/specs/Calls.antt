@@ -14,8 +14,8 @@ use Rattle.swap_lender.specs.declared.Lending.{Lending}
 use Rattle.swap_lender.specs.declared.SlotState.{SlotState}
 use Rattle.swap_lender.specs.declared.SlotState.TheVariants.{Free, Held}
 use Rattle.swap_lender.specs.Core.{IsLending}
-use Rattle.swap_lender.specs.Lender.{Lender, fresh, slot_in, is_free, is_staying, first_where, lends}
-use Rattle.swap_lender.specs.Table.{Turn, quiet, took, host, arrive, gone, restart, may_reach, settle}
+use Rattle.swap_lender.specs.Lender.{Lender, lender_at_start, slot_in, is_free, is_staying, first_where, lends}
+use Rattle.swap_lender.specs.Table.{Turn, quiet_turn, took_after, host, arrive, gone_after, restart, may_reach, settle}
 
 -- whom a slot is held for, and by which lease
 pub record Tenant : Type 0 where
@@ -54,11 +54,11 @@ pub data Call : Type 0 where
   Restart : Call
 
 abbrev pub step : Lender → Call → Turn
-step l (Arrive link) = quiet (arrive l link)
-step l (Took link m page) = took l link m page
+step l (Arrive link) = quiet_turn (arrive l link)
+step l (Took link m page) = took_after l link m page
 step l (Host usage word) = host l usage word
-step l (Gone link) = gone l link
-step l Restart = quiet (restart l)
+step l (Gone link) = gone_after l link
+step l Restart = quiet_turn (restart l)
 
 -- the lender after a list of calls, the first call first
 abbrev pub run : Lender → List Call → Lender
@@ -74,9 +74,9 @@ abbrev pub lent_in : List (Link × Parcel) → List ℕ
 lent_in [] = []
 lent_in (parcel ∷ parcels) = lent_by parcel.1.msg ++ lent_in parcels
 
-abbrev pub lent : Lender → List Call → List ℕ
-lent l [] = []
-lent l (call ∷ calls) = lent_in (step l call).parcels ++ lent (step l call).lender calls
+abbrev pub leases_lent : Lender → List Call → List ℕ
+leases_lent l [] = []
+leases_lent l (call ∷ calls) = lent_in (step l call).parcels ++ leases_lent (step l call).lender calls
 
 abbrev pub is_restart : Call → Bool
 is_restart Restart = true
@@ -87,14 +87,16 @@ is_restart (Gone link) = false
 
 -- whatever is called of a lender as it was made, its slots are owned
 abbrev pub AlwaysOwned : Type 0
-AlwaysOwned = (s : Lending) (calls : List Call) → IsOwned (run (fresh s) calls).slots (run (fresh s) calls).next_lease
+AlwaysOwned =
+    (s : Lending) (calls : List Call) → IsOwned (run (lender_at_start s) calls).slots
+    (run (lender_at_start s) calls).next_lease
 
 -- leases never repeat until a restart: those that are lent are the numbers from the next lease on, each once
 abbrev pub LeasesInOrder : Type 0
 LeasesInOrder =
     (l : Lender) (calls : List Call) → list_any is_restart calls ≡ false
-    → (lent l calls ≡ range_with_len l.next_lease (length (lent l calls)))
-    × ((run l calls).next_lease ≡ l.next_lease + length (lent l calls))
+    → (leases_lent l calls ≡ range_with_len l.next_lease (length (leases_lent l calls)))
+    × ((run l calls).next_lease ≡ l.next_lease + length (leases_lent l calls))
 
 -- no call changes what a lender is made for
 abbrev pub SizesStay : Type 0
@@ -118,4 +120,6 @@ CheckedSpecsFit = (s : Lending) → first_beyond (lender_limits s.spec) ≡ None
 
 -- whatever is called of a lender as it was made, an open round waits for slots that stay
 abbrev pub LiveRounds : Type 0
-LiveRounds = (s : Lending) (calls : List Call) → AsksStaying (run (fresh s) calls).round (run (fresh s) calls).slots
+LiveRounds =
+    (s : Lending) (calls : List Call) → AsksStaying (run (lender_at_start s) calls).round
+    (run (lender_at_start s) calls).slots

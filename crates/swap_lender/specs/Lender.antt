@@ -24,15 +24,15 @@ pub record Lender : Type 0 where
   pub round : Option Round
 
 -- a slot's pages when it is lent
-abbrev pub blank : Lending → List (List ℕ)
-blank s = replicate s.pages_per_slab (replicate s.page_bytes 0)
+abbrev pub blank_slab : Lending → List (List ℕ)
+blank_slab s = replicate s.pages_per_slab (replicate s.page_bytes 0)
 
-abbrev pub fresh : Lending → Lender
-fresh s =
+abbrev pub lender_at_start : Lending → Lender
+lender_at_start s =
     record {
       lending = s;
       slots = replicate s.spec.slots Free;
-      contents = replicate s.spec.slots (blank s);
+      contents = replicate s.spec.slots (blank_slab s);
       peers = [];
       usage = 0;
       next_lease = 0;
@@ -115,15 +115,17 @@ abbrev pub has_greeted : Lender → Link → Bool
 has_greeted l link = list_any (is_greeted link) l.peers
 
 -- the host's use in slots, and how many slots are held, those being evicted too
-abbrev pub used : Lender → ℕ
-used l = ceiling l.usage
+abbrev pub used_slots : Lender → ℕ
+used_slots l = ceiling l.usage
 
-abbrev pub held : Lender → ℕ
-held l = count_by is_held l.slots
+abbrev pub held_slots : Lender → ℕ
+held_slots l = count_by is_held l.slots
 
 -- whether a slot may be lent, and how many are free to be
 abbrev pub lends : Lender → Bool
-lends l = nat_lt (used l + held l + l.lending.spec.headroom) l.lending.spec.slots && nat_lt l.next_lease LEASES
+lends l =
+    nat_lt (used_slots l + held_slots l + l.lending.spec.headroom) l.lending.spec.slots && nat_lt l.next_lease LEASES
 
-abbrev pub free : Lender → ℕ
-free l = if nat_lt l.next_lease LEASES then l.lending.spec.slots - (used l + held l + l.lending.spec.headroom) else 0
+abbrev pub slots_free : Lender → ℕ
+slots_free l = if nat_lt l.next_lease LEASES then l.lending.spec.slots - (used_slots l + held_slots l
+    + l.lending.spec.headroom) else 0

@@ -7,21 +7,21 @@ use Rattle.swap_lender.specs.declared.Lending.{Lending}
 
 -- the messages with their pages, the set of slots that the last call told to go, how many messages it has room for, and
 -- the length of a page
-pub record Outgoing : Type 0 where
+pub record OutboxView : Type 0 where
   pub parcels : List (Link × Parcel)
   pub evicted : ℕ
   pub room : ℕ
   pub page_bytes : ℕ
 
-abbrev pub nothing_outgoing : ℕ → ℕ → Outgoing
+abbrev pub nothing_outgoing : ℕ → ℕ → OutboxView
 nothing_outgoing slots page_bytes = record { parcels = []; evicted = 0; room = slots; page_bytes = page_bytes }
 
 -- an outbox with these messages and slots in place of its own
-abbrev pub leaving : Outgoing → List (Link × Parcel) → ℕ → Outgoing
-leaving o parcels evicted = record o { parcels = parcels; evicted = evicted }
+abbrev pub outbox_with : OutboxView → List (Link × Parcel) → ℕ → OutboxView
+outbox_with o parcels evicted = record o { parcels = parcels; evicted = evicted }
 
 -- nothing is left in it, and it is made for a lender of these sizes
-pub record IsReady (o : Outgoing) (s : Lending) : Type 0 where
+pub record IsReady (o : OutboxView) (s : Lending) : Type 0 where
   pub empty : o.parcels ≡ []
   pub slots : s.spec.slots ≤ o.room
   pub page : o.page_bytes ≡ s.page_bytes
@@ -37,5 +37,5 @@ first_page [] page = page
 first_page (parcel ∷ parcels) page = if carries_page parcel.1.msg then parcel.1.page else page
 
 -- the outbox without its first message
-abbrev pub popped : Outgoing → Outgoing
-popped o = record o { parcels = drop 1 o.parcels }
+abbrev pub pop_after : OutboxView → OutboxView
+pop_after o = record o { parcels = drop 1 o.parcels }

@@ -11,7 +11,7 @@ use Rattle.swap_wire.specs.Fabric.{Parcel, parcel_of}
 use Rattle.swap_activity.specs.Rates.{average}
 use Rattle.swap_choice.specs.Slots.{has, slots, size, set_of}
 use Rattle.swap_choice.specs.Picks.{picks}
-use Rattle.swap_evict.specs.Rounds.{Round, opened, answer, leave, waits_for, ready}
+use Rattle.swap_evict.specs.Rounds.{Round, round_at_start, answer, leave, waits_for, slots_to_evict}
 use Rattle.swap_lender.specs.declared.Served.{Served}
 use Rattle.swap_lender.specs.declared.Served.TheVariants as served
 use Rattle.swap_lender.specs.declared.SlotState.{SlotState}
@@ -19,7 +19,7 @@ use Rattle.swap_lender.specs.declared.SlotState.TheVariants.{Free, Held}
 use Rattle.swap_lender.specs.declared.Peer.{Peer}
 use Rattle.swap_lender.specs.declared.Notice.{Notice}
 use Rattle.swap_lender.specs.declared.Notice.TheVariants as notice
-use Rattle.swap_lender.specs.Lender.{Lender, fresh, slot_in, is_free, is_staying, is_evicting, is_of, is_for, first_where, numbers_where, holds, slot_of, page_in, with_page, blank, is_peer, has_greeted, used, lends, free}
+use Rattle.swap_lender.specs.Lender.{Lender, lender_at_start, slot_in, is_free, is_staying, is_evicting, is_of, is_for, first_where, numbers_where, holds, slot_of, page_in, with_page, blank_slab, is_peer, has_greeted, used_slots, lends, slots_free}
 
 -- what a call makes of a lender: the lender after it, the messages in their order with the links they go to, the set of
 -- slots told to go, and the round that it closed
@@ -29,8 +29,8 @@ pub record Turn : Type 0 where
   pub evicted : ℕ
   pub closed : Option Round
 
-abbrev pub quiet : Lender → Turn
-quiet l = record { lender = l; parcels = []; evicted = 0; closed = None }
+abbrev pub quiet_turn : Lender → Turn
+quiet_turn l = record { lender = l; parcels = []; evicted = 0; closed = None }
 
 abbrev pub replying : Lender → Link → Msg → List ℕ → Turn
 replying l link m page = record { lender = l; parcels = (link, parcel_of m page) ∷ []; evicted = 0; closed = None }
@@ -47,9 +47,10 @@ tell_slot kind false state = []
 tell_slot kind true Free = []
 tell_slot kind true (Held link slab lease evicting) = (link, parcel_of (message_of kind lease) []) ∷ []
 
-abbrev pub told : Notice → ℕ → ℕ → List SlotState → List (Link × Parcel)
-told kind set from [] = []
-told kind set from (state ∷ states) = tell_slot kind (has set from) state ++ told kind set (from + 1) states
+abbrev pub parcels_told : Notice → ℕ → ℕ → List SlotState → List (Link × Parcel)
+parcels_told kind set from [] = []
+parcels_told kind set from (state ∷ states) =
+    tell_slot kind (has set from) state ++ parcels_told kind set (from + 1) states
 
 -- each held slot of the set is marked as being evicted
 abbrev pub mark_slot : Bool → SlotState → SlotState
@@ -57,28 +58,28 @@ mark_slot false state = state
 mark_slot true Free = Free
 mark_slot true (Held link slab lease evicting) = Held link slab lease true
 
-abbrev pub marked : ℕ → ℕ → List SlotState → List SlotState
-marked set from [] = []
-marked set from (state ∷ states) = mark_slot (has set from) state ∷ marked set (from + 1) states
+abbrev pub mark_slots : ℕ → ℕ → List SlotState → List SlotState
+mark_slots set from [] = []
+mark_slots set from (state ∷ states) = mark_slot (has set from) state ∷ mark_slots set (from + 1) states
 
 -- the slots to evict, once the open round is ready
-abbrev pub due : Option Round → Option ℕ
-due None = None
-due (Some r) = ready r
+abbrev pub slots_due : Option Round → Option ℕ
+slots_due None = None
+slots_due (Some r) = slots_to_evict r
 
 -- the round is closed as soon as it is ready: each slot that it gives is marked and told to go
 abbrev pub settle_with : Lender → Option ℕ → Turn
-settle_with l None = quiet l
+settle_with l None = quiet_turn l
 settle_with l (Some set) =
     record {
-      lender = record l { slots = marked set 0 l.slots; round = None };
-      parcels = told notice.Evict set 0 l.slots;
+      lender = record l { slots = mark_slots set 0 l.slots; round = None };
+      parcels = parcels_told notice.Evict set 0 l.slots;
       evicted = set;
       closed = l.round;
     }
 
 abbrev pub settle : Lender → Turn
-settle l = settle_with l (due l.round)
+settle l = settle_with l (slots_due l.round)
 
 -- Hello: from a link that hasn't greeted, of version 1 and with the lender's sizes; it has greeted
 abbrev pub may_hello : Lender → Link → ℕ → ℕ → ℕ → Bool
@@ -90,11 +91,11 @@ abbrev pub greet_peer : Link → Peer → Peer
 greet_peer link peer = if is_peer link peer then record { link = peer.link; greeted = true } else peer
 
 abbrev pub hello : Lender → Link → Turn
-hello l link = quiet (record l { peers = map (greet_peer link) l.peers })
+hello l link = quiet_turn (record l { peers = map (greet_peer link) l.peers })
 
 -- Query: from a link that has greeted; it is told how many slots are free
 abbrev pub query : Lender → Link → Slab → Turn
-query l link slab = replying l link (msg.Room slab (free l)) []
+query l link slab = replying l link (msg.Room slab (slots_free l)) []
 
 -- Borrow: from a link that has greeted and holds no slot for the slab; where the lender lends, the lowest free slot is
 -- held by the next lease, all zeros
@@ -106,7 +107,7 @@ lend l link slab slot =
     replying
     (record l {
       slots = slice_set l.slots slot (Held link slab (record { 0 = l.next_lease }) false);
-      contents = slice_set l.contents slot (blank l.lending);
+      contents = slice_set l.contents slot (blank_slab l.lending);
       next_lease = l.next_lease + 1;
     })
     link
@@ -129,12 +130,12 @@ abbrev pub read : Lender → Link → Lease → ℕ → Turn
 read l link lease place = replying l link (msg.PageIs lease place) (page_in l.contents (slot_of l link lease) place)
 
 -- Rates: from a link that holds a slot by the lease for which the open round waits; the round notes the value
-abbrev pub awaits : Option Round → ℕ → Bool
-awaits None slot = false
-awaits (Some r) slot = waits_for r slot
+abbrev pub is_awaited : Option Round → ℕ → Bool
+is_awaited None slot = false
+is_awaited (Some r) slot = waits_for r slot
 
 abbrev pub may_rates : Lender → Link → Lease → Bool
-may_rates l link lease = holds l link lease && awaits l.round (slot_of l link lease)
+may_rates l link lease = holds l link lease && is_awaited l.round (slot_of l link lease)
 
 abbrev pub rates : Lender → Link → Lease → ℕ → Turn
 rates l link lease value = settle (record l { round = option_map (answer (slot_of l link lease) value) l.round })
@@ -143,8 +144,8 @@ rates l link lease value = settle (record l { round = option_map (answer (slot_o
 abbrev pub may_done : Lender → Link → Lease → Bool
 may_done l link lease = holds l link lease && is_evicting (slot_in l.slots (slot_of l link lease))
 
-abbrev pub done : Lender → Link → Lease → Turn
-done l link lease = quiet (record l { slots = slice_set l.slots (slot_of l link lease) Free })
+abbrev pub done_after : Lender → Link → Lease → Turn
+done_after l link lease = quiet_turn (record l { slots = slice_set l.slots (slot_of l link lease) Free })
 
 -- whether a link may send a message now
 abbrev pub may_send : Lender → Link → Msg → Bool
@@ -165,36 +166,36 @@ serve l link (msg.Borrow slab) page = borrow l link slab
 serve l link (msg.Write lease place) page = write l link lease place page
 serve l link (msg.Read lease place) page = read l link lease place
 serve l link (msg.Rates lease value) page = rates l link lease value
-serve l link (msg.Done lease) page = done l link lease
-serve l link _ page = quiet l
+serve l link (msg.Done lease) page = done_after l link lease
+serve l link _ page = quiet_turn l
 
 -- a message that the link may not send changes nothing and ends the link
-abbrev pub took : Lender → Link → Msg → List ℕ → Turn
-took l link m page = if may_send l link m then serve l link m page else quiet l
+abbrev pub took_after : Lender → Link → Msg → List ℕ → Turn
+took_after l link m page = if may_send l link m then serve l link m page else quiet_turn l
 
-abbrev pub answered : Bool → Served
-answered may = if may then served.Fine else served.End
+abbrev pub served_by : Bool → Served
+served_by may = if may then served.Fine else served.End
 
 -- the host's use is measured; where no round is open and slots are missing, the held slots that the word picks are
 -- asked, and some more than have to go
 
-abbrev pub measured : Lender → ℕ → Lender
-measured l usage = record l { usage = average l.usage usage }
+abbrev pub measure_after : Lender → ℕ → Lender
+measure_after l usage = record l { usage = average l.usage usage }
 
-abbrev pub staying : Lender → ℕ
-staying l = set_of (numbers_where is_staying 0 l.slots)
+abbrev pub staying_slots : Lender → ℕ
+staying_slots l = set_of (numbers_where is_staying 0 l.slots)
 
 abbrev pub missing : Lender → ℕ
-missing l = (l.lending.spec.headroom + used l + size (staying l)) - l.lending.spec.slots
+missing l = (l.lending.spec.headroom + used_slots l + size (staying_slots l)) - l.lending.spec.slots
 
 abbrev pub to_evict : Lender → ℕ
-to_evict l = min (missing l) (size (staying l))
+to_evict l = min (missing l) (size (staying_slots l))
 
 abbrev pub to_ask : Lender → ℕ
-to_ask l = min (to_evict l + l.lending.spec.extra) (size (staying l))
+to_ask l = min (to_evict l + l.lending.spec.extra) (size (staying_slots l))
 
-abbrev pub asked : Lender → ℕ → ℕ
-asked l word = set_of (take (to_ask l) (picks word (slots (staying l))))
+abbrev pub asked_slots : Lender → ℕ → ℕ
+asked_slots l word = set_of (take (to_ask l) (picks word (slots (staying_slots l))))
 
 abbrev pub opens : Lender → Bool
 opens l = is_none l.round && nat_lt 0 (to_evict l)
@@ -202,24 +203,24 @@ opens l = is_none l.round && nat_lt 0 (to_evict l)
 abbrev pub open_round : Lender → ℕ → Turn
 open_round l set =
     record {
-      lender = record l { round = Some (opened set (to_evict l)) };
-      parcels = told notice.AskRates set 0 l.slots;
+      lender = record l { round = Some (round_at_start set (to_evict l)) };
+      parcels = parcels_told notice.AskRates set 0 l.slots;
       evicted = 0;
       closed = None;
     }
 
 abbrev pub host_after : Lender → ℕ → Turn
-host_after l word = if opens l then open_round l (asked l word) else quiet l
+host_after l word = if opens l then open_round l (asked_slots l word) else quiet_turn l
 
 abbrev pub host : Lender → ℕ → ℕ → Turn
-host l usage word = host_after (measured l usage) word
+host l usage word = host_after (measure_after l usage) word
 
 -- the host's use in slots, and the slots that are asked
-abbrev pub hosted_after : Lender → ℕ → Hosted
-hosted_after l word = record { mean = used l; asked = if opens l then asked l word else 0 }
+abbrev pub host_result_after : Lender → ℕ → Hosted
+host_result_after l word = record { mean = used_slots l; asked = if opens l then asked_slots l word else 0 }
 
-abbrev pub hosted : Lender → ℕ → ℕ → Hosted
-hosted l usage word = hosted_after (measured l usage) word
+abbrev pub host_result : Lender → ℕ → ℕ → Hosted
+host_result l usage word = host_result_after (measure_after l usage) word
 
 -- a link arrives where there is room for it
 abbrev pub has_room : Lender → Bool
@@ -229,24 +230,24 @@ abbrev pub arrive : Lender → Link → Lender
 arrive l link = if has_room l then record l { peers = l.peers ++ record { link = link; greeted = false } ∷ [] } else l
 
 -- a link is gone: its slots are free, and gone for the round
-abbrev pub freed : Link → SlotState → SlotState
-freed link state = if is_of link state then Free else state
+abbrev pub free_slot : Link → SlotState → SlotState
+free_slot link state = if is_of link state then Free else state
 
-abbrev pub left : Link → List SlotState → Round → Round
-left link states r = fold (λ r slot. leave slot r) r (numbers_where (is_of link) 0 states)
+abbrev pub round_left : Link → List SlotState → Round → Round
+round_left link states r = fold (λ r slot. leave slot r) r (numbers_where (is_of link) 0 states)
 
 abbrev pub without_peer : Link → List Peer → List Peer
 without_peer link peers = filter (λ peer. not (is_peer link peer)) peers
 
-abbrev pub gone : Lender → Link → Turn
-gone l link =
+abbrev pub gone_after : Lender → Link → Turn
+gone_after l link =
     settle
     (record l {
-      slots = map (freed link) l.slots;
+      slots = map (free_slot link) l.slots;
       peers = without_peer link l.peers;
-      round = option_map (left link l.slots) l.round;
+      round = option_map (round_left link l.slots) l.round;
     })
 
 -- a lender that crashed is as it was made
 abbrev pub restart : Lender → Lender
-restart l = fresh l.lending
+restart l = lender_at_start l.lending

@@ -3,10 +3,10 @@ ghost use Rattle.std.specs.List.{list_any};
 ghost use Rattle.swap_wire.specs.declared.Msg.TheVariants as msg;
 ghost use Rattle.swap_activity.specs.Rates.{ceiling};
 ghost use Rattle.swap_choice.specs.Slots.{size};
-ghost use Rattle.swap_evict.specs.Rounds.{opened, answer, waits_for};
-ghost use Rattle.swap_lender.specs.Lender.{fresh, is_evicting, is_free, first_where, has_lease, slot_in, holds, slot_of, stands, has_greeted, used, held, lends, free};
-ghost use Rattle.swap_lender.specs.Outbox.{leaving, IsReady};
-ghost use Rattle.swap_lender.specs.Table.{marked, quiet, hello, may_hello, query, may_borrow, borrow, lend, may_reach, write, read, awaits, may_rates, rates, may_done, done, may_send, serve, took, answered, measured, staying, missing, to_evict, to_ask, asked, opens, open_round, host_after, hosted_after, host, hosted, has_room, arrive, freed, left, without_peer, gone, restart, due, settle};
+ghost use Rattle.swap_evict.specs.Rounds.{round_at_start, answer, waits_for};
+ghost use Rattle.swap_lender.specs.Lender.{lender_at_start, is_evicting, is_free, first_where, has_lease, slot_in, holds, slot_of, stands, has_greeted, used_slots, held_slots, lends, slots_free};
+ghost use Rattle.swap_lender.specs.Outbox.{outbox_with, IsReady};
+ghost use Rattle.swap_lender.specs.Table.{mark_slots, quiet_turn, hello, may_hello, query, may_borrow, borrow, lend, may_reach, write, read, is_awaited, may_rates, rates, may_done, done_after, may_send, serve, took_after, served_by, measure_after, staying_slots, missing, to_evict, to_ask, asked_slots, opens, open_round, host_after, host_result_after, host, host_result, has_room, arrive, free_slot, round_left, without_peer, gone_after, restart, slots_due, settle};
 ghost use Rattle.swap_lender.specs.Core.{IsLending, IsLender, IsBatch, IsWaiting};
 
 use crate::peers::{forget, greet, has_greeted, stands};
@@ -85,7 +85,7 @@ impl LenderCore {
         requires bytes { spec.slots * (pages_per_slab * page_bytes) < 2 ^ 64 }
         ensures { IfOk result
             (λ l. l
-            ≡ fresh
+            ≡ lender_at_start
             (record {
               spec = spec;
               page_bytes = page_bytes;
@@ -132,7 +132,7 @@ impl LenderCore {
 
     /// How many slots are free to be lent.
     pub fn free(&self) -> u32
-        ensures { result ≡ free self.now }
+        ensures { result ≡ slots_free self.now }
     {
         if self.next_lease == LEASES {
             return 0;
@@ -144,7 +144,7 @@ impl LenderCore {
     fn vacancies(&self) -> u32
         ensures { result
             ≡ self.now.lending.spec.slots
-            - (used self.now + held self.now + self.now.lending.spec.headroom) }
+            - (used_slots self.now + held_slots self.now + self.now.lending.spec.headroom) }
     {
         let slots = u64::from(self.lending.spec.slots);
         let taken = whole(self.usage)
@@ -193,15 +193,15 @@ impl LenderCore {
         requires link { IsTrue (stands self.old link) }
         requires page { length page.now ≡ self.old.lending.page_bytes }
         requires out { IsReady out.old self.old.lending }
-        ensures served { result ≡ answered (may_send self.old link msg.now) }
-        ensures state { self.new ≡ (took self.old link msg.now page.now).lender }
+        ensures served { result ≡ served_by (may_send self.old link msg.now) }
+        ensures state { self.new ≡ (took_after self.old link msg.now page.now).lender }
         ensures lending { self.new.lending ≡ self.old.lending }
         ensures waits { IsWaiting self.old.round → IsWaiting self.new.round }
         ensures outbox { out.new
-            ≡ leaving out.old (took self.old link msg.now page.now).parcels
-            (took self.old link msg.now page.now).evicted }
-        ensures batch { IsBatch (took self.old link msg.now page.now).closed
-            (took self.old link msg.now page.now).evicted }
+            ≡ outbox_with out.old (took_after self.old link msg.now page.now).parcels
+            (took_after self.old link msg.now page.now).evicted }
+        ensures batch { IsBatch (took_after self.old link msg.now page.now).closed
+            (took_after self.old link msg.now page.now).evicted }
     {
         out.begin();
         match *msg {
@@ -223,10 +223,10 @@ impl LenderCore {
     /// The link greets.
     fn hello(&mut self, link: Link, version: u32, page_bytes: u32, pages_per_slab: u32) -> Served
         ensures served { result
-            ≡ answered (may_hello self.old link version page_bytes pages_per_slab) }
+            ≡ served_by (may_hello self.old link version page_bytes pages_per_slab) }
         ensures state { self.new
             ≡ (if may_hello self.old link version page_bytes pages_per_slab
-            then hello self.old link else quiet self.old).lender }
+            then hello self.old link else quiet_turn self.old).lender }
         ensures lending { self.new.lending ≡ self.old.lending }
         ensures round { self.new.round ≡ self.old.round }
     {
@@ -244,16 +244,16 @@ impl LenderCore {
     /// The link asks how many slots are free.
     fn query(&mut self, link: Link, slab: Slab, out: &mut Outbox) -> Served
         requires out { IsReady out.old self.old.lending }
-        ensures served { result ≡ answered (has_greeted self.old link) }
+        ensures served { result ≡ served_by (has_greeted self.old link) }
         ensures state { self.new
             ≡ (if has_greeted self.old link then query self.old link slab
-            else quiet self.old).lender }
+            else quiet_turn self.old).lender }
         ensures lending { self.new.lending ≡ self.old.lending }
         ensures round { self.new.round ≡ self.old.round }
         ensures outbox { out.new
-            ≡ leaving out.old
+            ≡ outbox_with out.old
             (if has_greeted self.old link then query self.old link slab
-            else quiet self.old).parcels
+            else quiet_turn self.old).parcels
             out.old.evicted }
     {
         if !has_greeted(&self.peers, link) {
@@ -267,16 +267,16 @@ impl LenderCore {
     /// The link borrows a slot for a slab.
     fn borrow(&mut self, link: Link, slab: Slab, out: &mut Outbox) -> Served
         requires out { IsReady out.old self.old.lending }
-        ensures served { result ≡ answered (may_borrow self.old link slab) }
+        ensures served { result ≡ served_by (may_borrow self.old link slab) }
         ensures state { self.new
             ≡ (if may_borrow self.old link slab then borrow self.old link slab
-            else quiet self.old).lender }
+            else quiet_turn self.old).lender }
         ensures lending { self.new.lending ≡ self.old.lending }
         ensures round { self.new.round ≡ self.old.round }
         ensures outbox { out.new
-            ≡ leaving out.old
+            ≡ outbox_with out.old
             (if may_borrow self.old link slab then borrow self.old link slab
-            else quiet self.old).parcels
+            else quiet_turn self.old).parcels
             out.old.evicted }
     {
         if !has_greeted(&self.peers, link) || has_slab(&self.slots, link, slab) {
@@ -323,16 +323,16 @@ impl LenderCore {
     ) -> Served
         requires page { length page.now ≡ self.old.lending.page_bytes }
         requires out { IsReady out.old self.old.lending }
-        ensures served { result ≡ answered (may_reach self.old link lease place) }
+        ensures served { result ≡ served_by (may_reach self.old link lease place) }
         ensures state { self.new
             ≡ (if may_reach self.old link lease place
-            then write self.old link lease place page.now else quiet self.old).lender }
+            then write self.old link lease place page.now else quiet_turn self.old).lender }
         ensures lending { self.new.lending ≡ self.old.lending }
         ensures round { self.new.round ≡ self.old.round }
         ensures outbox { out.new
-            ≡ leaving out.old
+            ≡ outbox_with out.old
             (if may_reach self.old link lease place
-            then write self.old link lease place page.now else quiet self.old).parcels
+            then write self.old link lease place page.now else quiet_turn self.old).parcels
             out.old.evicted }
     {
         let Some(slot) = slot_by_lease(&self.slots, link, lease) else {
@@ -349,16 +349,16 @@ impl LenderCore {
     /// The link reads a page.
     fn read(&mut self, link: Link, lease: Lease, place: u32, out: &mut Outbox) -> Served
         requires out { IsReady out.old self.old.lending }
-        ensures served { result ≡ answered (may_reach self.old link lease place) }
+        ensures served { result ≡ served_by (may_reach self.old link lease place) }
         ensures state { self.new
             ≡ (if may_reach self.old link lease place then read self.old link lease place
-            else quiet self.old).lender }
+            else quiet_turn self.old).lender }
         ensures lending { self.new.lending ≡ self.old.lending }
         ensures round { self.new.round ≡ self.old.round }
         ensures outbox { out.new
-            ≡ leaving out.old
+            ≡ outbox_with out.old
             (if may_reach self.old link lease place then read self.old link lease place
-            else quiet self.old).parcels
+            else quiet_turn self.old).parcels
             out.old.evicted }
     {
         let Some(slot) = slot_by_lease(&self.slots, link, lease) else {
@@ -375,23 +375,23 @@ impl LenderCore {
     fn rates(&mut self, link: Link, lease: Lease, value: u64, out: &mut Outbox) -> Served
         requires out { IsReady out.old self.old.lending }
         requires none { out.old.evicted ≡ 0 }
-        ensures served { result ≡ answered (may_rates self.old link lease) }
+        ensures served { result ≡ served_by (may_rates self.old link lease) }
         ensures state { self.new
             ≡ (if may_rates self.old link lease then rates self.old link lease value
-            else quiet self.old).lender }
+            else quiet_turn self.old).lender }
         ensures lending { self.new.lending ≡ self.old.lending }
         ensures waits { IsWaiting self.old.round → IsWaiting self.new.round }
         ensures outbox { out.new
-            ≡ leaving out.old
+            ≡ outbox_with out.old
             (if may_rates self.old link lease then rates self.old link lease value
-            else quiet self.old).parcels
+            else quiet_turn self.old).parcels
             (if may_rates self.old link lease then rates self.old link lease value
-            else quiet self.old).evicted }
+            else quiet_turn self.old).evicted }
         ensures batch { IsBatch
             (if may_rates self.old link lease then rates self.old link lease value
-            else quiet self.old).closed
+            else quiet_turn self.old).closed
             (if may_rates self.old link lease then rates self.old link lease value
-            else quiet self.old).evicted }
+            else quiet_turn self.old).evicted }
     {
         let Some(slot) = slot_by_lease(&self.slots, link, lease) else {
             return Served::End;
@@ -406,9 +406,9 @@ impl LenderCore {
     /// Notes a rate, where the open round waits for it.
     fn note_rate(&mut self, slot: usize, value: u64) -> bool
         requires { slot < length self.old.slots }
-        ensures waits { result ≡ awaits self.old.round slot }
+        ensures waits { result ≡ is_awaited self.old.round slot }
         ensures state { self.new
-            ≡ (if awaits self.old.round slot
+            ≡ (if is_awaited self.old.round slot
             then record self.old { round = option_map (answer slot value) self.old.round }
             else self.old) }
         ensures lending { self.new.lending ≡ self.old.lending }
@@ -425,10 +425,10 @@ impl LenderCore {
 
     /// The link gives back a slot that it was told to.
     fn done(&mut self, link: Link, lease: Lease) -> Served
-        ensures served { result ≡ answered (may_done self.old link lease) }
+        ensures served { result ≡ served_by (may_done self.old link lease) }
         ensures state { self.new
-            ≡ (if may_done self.old link lease then done self.old link lease
-            else quiet self.old).lender }
+            ≡ (if may_done self.old link lease then done_after self.old link lease
+            else quiet_turn self.old).lender }
         ensures lending { self.new.lending ≡ self.old.lending }
         ensures round { self.new.round ≡ self.old.round }
     {
@@ -444,7 +444,7 @@ impl LenderCore {
 
     /// The slots to evict, once the open round is ready.
     fn due(&self) -> Option<u64>
-        ensures value { result ≡ due self.now.round }
+        ensures value { result ≡ slots_due self.now.round }
         ensures batch { MatchOption result (IsWaiting self.now.round)
             (λ set. IsBatch self.now.round set) }
     {
@@ -462,7 +462,7 @@ impl LenderCore {
         ensures lending { self.new.lending ≡ self.old.lending }
         ensures waits { IsWaiting self.new.round }
         ensures outbox { out.new
-            ≡ leaving out.old (settle self.old).parcels (settle self.old).evicted }
+            ≡ outbox_with out.old (settle self.old).parcels (settle self.old).evicted }
         ensures batch { IsBatch (settle self.old).closed (settle self.old).evicted }
     {
         let Some(set) = self.due() else {
@@ -474,7 +474,7 @@ impl LenderCore {
 
     /// The round is over, and these slots are being evicted.
     fn close(&mut self, set: u64)
-        ensures { self.new ≡ record self.old { slots = marked set 0 self.old.slots; round = None } }
+        ensures { self.new ≡ record self.old { slots = mark_slots set 0 self.old.slots; round = None } }
     {
         mark(&mut self.slots, set);
         self.round = None;
@@ -485,11 +485,11 @@ impl LenderCore {
     /// the host's average, rounded up, and the asked slots.
     pub fn host(&mut self, used: u32, word: u64, out: &mut Outbox) -> Hosted
         requires out { IsReady out.old self.old.lending }
-        ensures answer { result ≡ hosted self.old used word }
+        ensures answer { result ≡ host_result self.old used word }
         ensures state { self.new ≡ (host self.old used word).lender }
         ensures lending { self.new.lending ≡ self.old.lending }
         ensures waits { IsWaiting self.old.round → IsWaiting self.new.round }
-        ensures outbox { out.new ≡ leaving out.old (host self.old used word).parcels 0 }
+        ensures outbox { out.new ≡ outbox_with out.old (host self.old used word).parcels 0 }
     {
         out.begin();
         self.measure(used);
@@ -497,14 +497,14 @@ impl LenderCore {
     }
 
     fn measure(&mut self, used: u32)
-        ensures { self.new ≡ measured self.old used }
+        ensures { self.new ≡ measure_after self.old used }
     {
         self.usage = average(self.usage, used);
     }
 
     /// How many of the held slots have to go, of so many that stay.
     fn to_evict(&self, count: u32) -> u32
-        requires { count ≡ size (staying self.now) }
+        requires { count ≡ size (staying_slots self.now) }
         ensures value { result ≡ to_evict self.now }
         ensures few { result ≤ count }
     {
@@ -517,11 +517,11 @@ impl LenderCore {
     fn ask(&mut self, word: u64, out: &mut Outbox) -> Hosted
         requires out { IsReady out.old self.old.lending }
         requires none { out.old.evicted ≡ 0 }
-        ensures answer { result ≡ hosted_after self.old word }
+        ensures answer { result ≡ host_result_after self.old word }
         ensures state { self.new ≡ (host_after self.old word).lender }
         ensures lending { self.new.lending ≡ self.old.lending }
         ensures waits { IsWaiting self.old.round → IsWaiting self.new.round }
-        ensures outbox { out.new ≡ leaving out.old (host_after self.old word).parcels 0 }
+        ensures outbox { out.new ≡ outbox_with out.old (host_after self.old word).parcels 0 }
     {
         let mean = whole(self.usage);
         let staying = staying(&self.slots);
@@ -544,12 +544,12 @@ impl LenderCore {
     /// where it is over, what goes to the links of its slots is left in the outbox.
     pub fn gone(&mut self, link: Link, out: &mut Outbox)
         requires out { IsReady out.old self.old.lending }
-        ensures state { self.new ≡ (gone self.old link).lender }
+        ensures state { self.new ≡ (gone_after self.old link).lender }
         ensures lending { self.new.lending ≡ self.old.lending }
         ensures waits { IsWaiting self.new.round }
         ensures outbox { out.new
-            ≡ leaving out.old (gone self.old link).parcels (gone self.old link).evicted }
-        ensures batch { IsBatch (gone self.old link).closed (gone self.old link).evicted }
+            ≡ outbox_with out.old (gone_after self.old link).parcels (gone_after self.old link).evicted }
+        ensures batch { IsBatch (gone_after self.old link).closed (gone_after self.old link).evicted }
     {
         out.begin();
         self.leave_round(link);
@@ -560,7 +560,7 @@ impl LenderCore {
 
     fn leave_round(&mut self, link: Link)
         ensures { self.new
-            ≡ record self.old { round = option_map (left link self.old.slots) self.old.round } }
+            ≡ record self.old { round = option_map (round_left link self.old.slots) self.old.round } }
     {
         if let Some(round) = &mut self.round {
             leave(round, &self.slots, link);
@@ -569,7 +569,7 @@ impl LenderCore {
 
     fn free_slots(&mut self, link: Link)
         ensures { self.new
-            ≡ record self.old { slots = map (λ state. freed link state) self.old.slots } }
+            ≡ record self.old { slots = map (λ state. free_slot link state) self.old.slots } }
     {
         free_all(&mut self.slots, link);
     }

@@ -1,8 +1,8 @@
 ghost use Rattle.std.specs.Prelude.{◌≡◌, ℕ, ◌+◌, ◌<◌, ◌≤◌, ◌++◌, false, [], ◌∷◌, length, IfOk, if◌then◌else◌};
 ghost use Rattle.swap_wire.specs.declared.Msg.TheVariants as msg;
 ghost use Rattle.swap_wire.specs.Fabric.{carries_page, parcel_of};
-ghost use Rattle.swap_lender.specs.Outbox.{nothing_outgoing, leaving, first_message, first_page, popped};
-ghost use Rattle.swap_lender.specs.Table.{message_of, tell_slot, told};
+ghost use Rattle.swap_lender.specs.Outbox.{nothing_outgoing, outbox_with, first_message, first_page, pop_after};
+ghost use Rattle.swap_lender.specs.Table.{message_of, tell_slot, parcels_told};
 
 use crate::{Notice, SlotState};
 use std::alloc::Global;
@@ -31,10 +31,10 @@ pub struct Outbox {
 
 impl Model for Outbox {
     ghost use Rattle.std.specs.Prelude.{◌≤◌, vec_capacity, length};
-    ghost use Rattle.swap_lender.specs.Outbox.{Outgoing};
+    ghost use Rattle.swap_lender.specs.Outbox.{OutboxView};
     ghost use Rattle.swap_lender.specs.Letters.{parcels_in};
 
-    ghost Value = { Outgoing };
+    ghost Value = { OutboxView };
 
     ghost view = { λ o.
         record {
@@ -82,7 +82,7 @@ impl Outbox {
         requires { length page.old ≡ self.old.page_bytes }
         ensures message { result ≡ first_message self.old.parcels }
         ensures page { page.new ≡ first_page self.old.parcels page.old }
-        ensures rest { self.new ≡ popped self.old }
+        ensures rest { self.new ≡ pop_after self.old }
     {
         if self.letters.is_empty() {
             return None;
@@ -101,7 +101,7 @@ impl Outbox {
 
     /// A call begins: no slot is told to go.
     pub(crate) fn begin(&mut self)
-        ensures { self.new ≡ leaving self.old self.old.parcels 0 }
+        ensures { self.new ≡ outbox_with self.old self.old.parcels 0 }
     {
         self.evicted = 0;
     }
@@ -111,7 +111,7 @@ impl Outbox {
         requires room { length self.old.parcels < self.old.room }
         requires plain { carries_page msg ≡ false }
         ensures { self.new
-            ≡ leaving self.old
+            ≡ outbox_with self.old
             (self.old.parcels ++ (link, parcel_of msg []) ∷ []) self.old.evicted }
     {
         self.letters.push_reserved(Letter { link, msg });
@@ -123,7 +123,7 @@ impl Outbox {
         requires empty { self.old.parcels ≡ [] }
         requires page { length page.now ≡ self.old.page_bytes }
         ensures { self.new
-            ≡ leaving self.old
+            ≡ outbox_with self.old
             ((link, parcel_of (msg.PageIs lease place) page.now) ∷ []) self.old.evicted }
     {
         self.page.as_mut_slice().copy_from_slice(page);
@@ -136,7 +136,7 @@ impl Outbox {
     fn tell_slot(&mut self, notice: Notice, has: bool, state: SlotState)
         requires { length self.old.parcels < self.old.room }
         ensures { self.new
-            ≡ leaving self.old (self.old.parcels ++ tell_slot notice has state) self.old.evicted }
+            ≡ outbox_with self.old (self.old.parcels ++ tell_slot notice has state) self.old.evicted }
     {
         if let SlotState::Held { link, lease, .. } = state {
             if has {
@@ -150,7 +150,7 @@ impl Outbox {
         requires few { length slots.now ≤ 64 }
         requires room { length slots.now ≤ self.old.room }
         requires empty { self.old.parcels ≡ [] }
-        ensures { self.new ≡ leaving self.old (told notice set 0 slots.now) self.old.evicted }
+        ensures { self.new ≡ outbox_with self.old (parcels_told notice set 0 slots.now) self.old.evicted }
     {
         for slot in 0..slots.len() {
             self.tell_slot(notice, has_slot(set, slot as u32), slots[slot]);
@@ -162,7 +162,7 @@ impl Outbox {
         requires few { length slots.now ≤ 64 }
         requires room { length slots.now ≤ self.old.room }
         requires empty { self.old.parcels ≡ [] }
-        ensures { self.new ≡ leaving self.old (told Notice.Evict set 0 slots.now) set }
+        ensures { self.new ≡ outbox_with self.old (parcels_told Notice.Evict set 0 slots.now) set }
     {
         self.tell(Notice::Evict, set, slots);
         self.evicted = set;

@@ -3,7 +3,7 @@ ghost use Rattle.std.specs.List.{list_any};
 ghost use Rattle.swap_choice.specs.Slots.{set_of};
 ghost use Rattle.swap_evict.specs.Rounds.{leave};
 ghost use Rattle.swap_lender.specs.Lender.{is_free, is_held, is_evicting, is_staying, is_of, is_for, has_lease, numbers_where};
-ghost use Rattle.swap_lender.specs.Table.{mark_slot, marked, freed, left};
+ghost use Rattle.swap_lender.specs.Table.{mark_slot, mark_slots, free_slot, round_left};
 
 use crate::SlotState;
 use swap_base::{Lease, Link, Slab};
@@ -146,7 +146,7 @@ fn mark_slot(told: bool, state: SlotState) -> SlotState
 /// Each held slot of the set is marked as being evicted.
 pub(crate) fn mark(slots: &mut [SlotState], set: u64)
     requires { length slots.old ≤ 64 }
-    ensures { slots.new ≡ marked set 0 slots.old }
+    ensures { slots.new ≡ mark_slots set 0 slots.old }
 {
     for slot in 0..slots.len() {
         slots[slot] = mark_slot(has_slot(set, slot as u32), slots[slot]);
@@ -154,7 +154,7 @@ pub(crate) fn mark(slots: &mut [SlotState], set: u64)
 }
 
 fn freed(link: Link, state: SlotState) -> SlotState
-    ensures { result ≡ freed link state }
+    ensures { result ≡ free_slot link state }
 {
     if is_of(link, state) {
         SlotState::Free
@@ -165,7 +165,7 @@ fn freed(link: Link, state: SlotState) -> SlotState
 
 /// Each slot of a link is free.
 pub(crate) fn free_all(slots: &mut [SlotState], link: Link)
-    ensures { slots.new ≡ map (λ state. freed link state) slots.old }
+    ensures { slots.new ≡ map (λ state. free_slot link state) slots.old }
 {
     for state in slots.iter_mut() {
         *state = freed(link, *state);
@@ -185,7 +185,7 @@ fn leave_where(round: &mut EvictRound, slot: u32, goes: bool)
 /// The slots of a link are gone for the round.
 pub(crate) fn leave(round: &mut EvictRound, slots: &[SlotState], link: Link)
     requires { length slots.now ≤ 64 }
-    ensures { round.new ≡ left link slots.now round.old }
+    ensures { round.new ≡ round_left link slots.now round.old }
 {
     for slot in 0..slots.len() {
         leave_where(round, slot as u32, is_of(link, slots[slot]));

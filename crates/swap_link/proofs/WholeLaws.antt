@@ -19,10 +19,10 @@ use Rattle.swap_lender.specs.declared.SlotState.{SlotState}
 use Rattle.swap_lender.specs.declared.SlotState.TheVariants.{Free, Held}
 use Rattle.swap_lender.specs.declared.Notice.{Notice}
 use Rattle.swap_lender.specs.declared.Notice.TheVariants as notice
-use Rattle.swap_lender.specs.Lender.{Lender, blank, fresh, free, lends, slot_of, page_in, is_free, first_where}
-use Rattle.swap_lender.specs.Table.{Turn, told, tell_slot, message_of, settle_with, due, serve, may_send, host, opens, measured, asked, gone, arrive, has_room}
-use Rattle.swap_link.specs.Lane.{Lane, appended}
-use Rattle.swap_link.specs.Channel.{Channel, unconnected, let_go, connected, sent, taken, taken_from, closed, posted, forwarded, served, given, given_from, delivered, abandoned, severed, crashed, on_channel}
+use Rattle.swap_lender.specs.Lender.{Lender, blank_slab, lender_at_start, slots_free, lends, slot_of, page_in, is_free, first_where}
+use Rattle.swap_lender.specs.Table.{Turn, parcels_told, tell_slot, message_of, settle_with, slots_due, serve, may_send, host, opens, measure_after, asked_slots, gone_after, arrive, has_room}
+use Rattle.swap_link.specs.Lane.{Lane, append_after}
+use Rattle.swap_link.specs.Channel.{Channel, channel_at_start, let_go, connect_after, send_after, take_after, taken_from, end_after, post_after, forward_after, serve_after, give_after, given_from, deliver_after, leave_after, cut_after, crash_after, on_channel}
 use Rattle.swap_link.specs.Fits.{IsChannel}
 use Rattle.swap_link.specs.Harbor.{lending_for, new_channel, no_channel, channel_of, lender_of}
 use Rattle.swap_lender.specs.declared.Lending.{Lending}
@@ -33,14 +33,14 @@ use Rattle.swap_link.specs.Whole.{ParcelFits, SlabFits, IsStored, IsWhole, CallF
 
 -- lanes
 
-append-fits : (n : ℕ) (l : Lane) (p : Parcel) → ParcelFits n p → All (ParcelFits n) l.parcels → All (ParcelFits n) (appended l p).parcels
+append-fits : (n : ℕ) (l : Lane) (p : Parcel) → ParcelFits n p → All (ParcelFits n) l.parcels → All (ParcelFits n) (append_after l p).parcels
 append-fits n l p fit all =
     cond_both l.ended _ _ (λ (x : Lane). All (ParcelFits n) x.parcels) (λ _. all)
     (λ _.
     cond_both (nat_lt (length l.parcels) l.room) _ _ (λ (x : Lane). All (ParcelFits n) x.parcels) (λ _. All-push (ParcelFits n) l.parcels p all fit)
     (λ _. all))
 
-append-page : (l : Lane) (p : Parcel) → (appended l p).page_bytes ≡ l.page_bytes
+append-page : (l : Lane) (p : Parcel) → (append_after l p).page_bytes ≡ l.page_bytes
 append-page l p =
     cond_both l.ended _ _ (λ (x : Lane). x.page_bytes ≡ l.page_bytes) (λ _. refl)
     (λ _. cond_both (nat_lt (length l.parcels) l.room) _ _ (λ (x : Lane). x.page_bytes ≡ l.page_bytes) (λ _. refl) (λ _. refl))
@@ -50,17 +50,17 @@ PostFits n q = ParcelFits n (parcel_of q.1.msg q.1.page)
 
 forward-fits :
     (n : ℕ) (k : Link) (l : Lane) (qs : List (Link × Parcel)) → All (PostFits n) qs → All (ParcelFits n) l.parcels
-    → All (ParcelFits n) (forwarded k l qs).parcels
+    → All (ParcelFits n) (forward_after k l qs).parcels
 forward-fits n k l [] fit all = all
 forward-fits n k l (q ∷ qs) fit all =
-    forward-fits n k (posted k l q.0 (parcel_of q.1.msg q.1.page)) qs (All-tail (PostFits n) q qs fit)
+    forward-fits n k (post_after k l q.0 (parcel_of q.1.msg q.1.page)) qs (All-tail (PostFits n) q qs fit)
     (cond_both (q.0.0 == k.0) _ _ (λ (x : Lane). All (ParcelFits n) x.parcels)
     (λ _. append-fits n l (parcel_of q.1.msg q.1.page) (All-head (PostFits n) q qs fit) all) (λ _. all))
 
-forward-page : (k : Link) (l : Lane) (qs : List (Link × Parcel)) → (forwarded k l qs).page_bytes ≡ l.page_bytes
+forward-page : (k : Link) (l : Lane) (qs : List (Link × Parcel)) → (forward_after k l qs).page_bytes ≡ l.page_bytes
 forward-page k l [] = refl
 forward-page k l (q ∷ qs) =
-    forward-page k (posted k l q.0 (parcel_of q.1.msg q.1.page)) qs
+    forward-page k (post_after k l q.0 (parcel_of q.1.msg q.1.page)) qs
     ∙ cond_both (q.0.0 == k.0) _ _ (λ (x : Lane). x.page_bytes ≡ l.page_bytes) (λ _. append-page l (parcel_of q.1.msg q.1.page)) (λ _. refl)
 
 -- what a lender sends
@@ -77,10 +77,10 @@ tell-fits n kind false s = All-nil (PostFits n)
 tell-fits n kind true Free = All-nil (PostFits n)
 tell-fits n kind true (Held link slab lease evicting) = one-fits n (link, parcel_of (message_of kind lease) []) (notice-fits n kind link lease)
 
-told-fits : (n : ℕ) (kind : Notice) (set from : ℕ) (slots : List SlotState) → All (PostFits n) (told kind set from slots)
+told-fits : (n : ℕ) (kind : Notice) (set from : ℕ) (slots : List SlotState) → All (PostFits n) (parcels_told kind set from slots)
 told-fits n kind set from [] = All-nil (PostFits n)
 told-fits n kind set from (s ∷ ss) =
-    All-append (PostFits n) (tell_slot kind (has set from) s) (told kind set (from + 1) ss) (tell-fits n kind (has set from) s)
+    All-append (PostFits n) (tell_slot kind (has set from) s) (parcels_told kind set (from + 1) ss) (tell-fits n kind (has set from) s)
     (told-fits n kind set (from + 1) ss)
 
 settle-fits : (n : ℕ) (l : Lender) (o : Option ℕ) → All (PostFits n) (settle_with l o).parcels
@@ -88,7 +88,7 @@ settle-fits n l None = All-nil (PostFits n)
 settle-fits n l (Some set) = told-fits n notice.Evict set 0 l.slots
 
 serve-fits : (n : ℕ) (l : Lender) (k : Link) (m : Msg) (page : List ℕ) → IsStored n l → may_send l k m ≡ true → All (PostFits n) (serve l k m page).parcels
-serve-fits n l k (msg.Query slab) page s may = one-fits n (k, parcel_of (msg.Room slab (free l)) []) (λ e. cc)
+serve-fits n l k (msg.Query slab) page s may = one-fits n (k, parcel_of (msg.Room slab (slots_free l)) []) (λ e. cc)
 serve-fits n l k (msg.Borrow slab) page s may =
     cond_both (lends l) _ _ (λ (t : Turn). All (PostFits n) t.parcels)
     (λ _. one-fits n (k, parcel_of (msg.Lent slab (record { 0 = l.next_lease })) []) (λ e. cc))
@@ -103,13 +103,14 @@ serve-fits n l k (msg.Read lease place) page s may =
     one-fits n (k, parcel_of (msg.PageIs lease place) (page_in l.contents (slot_of l k lease) place))
     (λ _. All-get_or (λ page. length page ≡ n) (get_or l.contents (slot_of l k lease) []) place [] lt slab)
 serve-fits n l k (msg.Rates lease value) page s may =
-    settle-fits n (record l { round = option_map (answer (slot_of l k lease) value) l.round }) (due (option_map (answer (slot_of l k lease) value) l.round))
+    settle-fits n (record l { round = option_map (answer (slot_of l k lease) value) l.round })
+    (slots_due (option_map (answer (slot_of l k lease) value) l.round))
 serve-fits n l k _ page s may = All-nil (PostFits n)
 
 host-fits : (n : ℕ) (l : Lender) (used word : ℕ) → All (PostFits n) (host l used word).parcels
 host-fits n l used word =
-    cond_both (opens (measured l used)) _ _ (λ (t : Turn). All (PostFits n) t.parcels)
-    (λ _. told-fits n notice.AskRates (asked (measured l used) word) 0 (measured l used).slots) (λ _. All-nil (PostFits n))
+    cond_both (opens (measure_after l used)) _ _ (λ (t : Turn). All (PostFits n) t.parcels)
+    (λ _. told-fits n notice.AskRates (asked_slots (measure_after l used) word) 0 (measure_after l used).slots) (λ _. All-nil (PostFits n))
 
 -- what a lender keeps
 
@@ -117,7 +118,7 @@ contents-settle : (l : Lender) (o : Option ℕ) → (settle_with l o).lender.con
 contents-settle l None = refl
 contents-settle l (Some set) = refl
 
-blank-fits : (n : ℕ) (l : Lender) → l.lending.page_bytes ≡ n → SlabFits n (blank l.lending)
+blank-fits : (n : ℕ) (l : Lender) → l.lending.page_bytes ≡ n → SlabFits n (blank_slab l.lending)
 blank-fits n l e =
     All-replicate (λ page. length page ≡ n) l.lending.pages_per_slab (replicate l.lending.page_bytes 0) (length-replicate l.lending.page_bytes 0 ∙ e)
 
@@ -126,7 +127,7 @@ contents-serve :
     → All (SlabFits n) (serve l k m page).lender.contents
 contents-serve n l k (msg.Borrow slab) page s may fit =
     cond_both (lends l) _ _ (λ (t : Turn). All (SlabFits n) t.lender.contents)
-    (λ _. All-set (SlabFits n) l.contents (first_where is_free l.slots) (blank l.lending) (blank-fits n l s.page) s.contents) (λ _. s.contents)
+    (λ _. All-set (SlabFits n) l.contents (first_where is_free l.slots) (blank_slab l.lending) (blank-fits n l s.page) s.contents) (λ _. s.contents)
 contents-serve n l k (msg.Write lease place) page s may fit =
     let at = reached l k lease place s.sound may in
     let slab : SlabFits n (get_or l.contents (slot_of l k lease) []) = All-get_or (SlabFits n) l.contents (slot_of l k lease) [] at.0 s.contents in
@@ -136,7 +137,7 @@ contents-serve n l k (msg.Rates lease value) page s may fit =
     subst (λ cs. All (SlabFits n) cs)
     (sym
     (contents-settle (record l { round = option_map (answer (slot_of l k lease) value) l.round })
-    (due (option_map (answer (slot_of l k lease) value) l.round))))
+    (slots_due (option_map (answer (slot_of l k lease) value) l.round))))
     s.contents
 contents-serve n l k _ page s may fit = s.contents
 
@@ -150,7 +151,7 @@ stored-serve n l k m page s may fit = record {
 }
 
 contents-host : (l : Lender) (used word : ℕ) → (host l used word).lender.contents ≡ l.contents
-contents-host l used word = cond_both (opens (measured l used)) _ _ (λ (t : Turn). t.lender.contents ≡ l.contents) (λ _. refl) (λ _. refl)
+contents-host l used word = cond_both (opens (measure_after l used)) _ _ (λ (t : Turn). t.lender.contents ≡ l.contents) (λ _. refl) (λ _. refl)
 
 stored-host : (n : ℕ) (l : Lender) (used word : ℕ) → IsStored n l → IsStored n (host l used word).lender
 stored-host n l used word s = record {
@@ -159,18 +160,18 @@ stored-host n l used word s = record {
   contents = subst (λ cs. All (SlabFits n) cs) (sym (contents-host l used word)) s.contents;
 }
 
-stored-gone : (n : ℕ) (l : Lender) (k : Link) → IsStored n l → IsStored n (gone l k).lender
+stored-gone : (n : ℕ) (l : Lender) (k : Link) → IsStored n l → IsStored n (gone_after l k).lender
 stored-gone n l k s = record {
   sound = sound-gone l k s.sound;
   page = ap (λ lending. lending.page_bytes) (lending-gone l k) ∙ s.page;
-  contents = subst (λ cs. All (SlabFits n) cs) (sym (contents-settle (after_leave l k) (due (after_leave l k).round))) s.contents;
+  contents = subst (λ cs. All (SlabFits n) cs) (sym (contents-settle (after_leave l k) (slots_due (after_leave l k).round))) s.contents;
 }
 
-stored-fresh : (n : ℕ) (s : Lending) → s.page_bytes ≡ n → IsStored n (fresh s)
+stored-fresh : (n : ℕ) (s : Lending) → s.page_bytes ≡ n → IsStored n (lender_at_start s)
 stored-fresh n s e = record {
   sound = sound-fresh s;
   page = e;
-  contents = All-replicate (SlabFits n) s.spec.slots (blank s) (blank-fits n (fresh s) e);
+  contents = All-replicate (SlabFits n) s.spec.slots (blank_slab s) (blank-fits n (lender_at_start s) e);
 }
 
 stored-arrive : (n : ℕ) (l : Lender) (k : Link) → IsStored n l → IsStored n (arrive l k)
@@ -186,11 +187,12 @@ stored-arrive n l k s =
 
 -- channels
 
-whole-new : (n : ℕ) (sizes : Sizes) (s : Lending) (room : ℕ) → s.page_bytes ≡ n → sizes.page_bytes ≡ n → IsWhole n (unconnected sizes (fresh s) room)
+whole-new : (n : ℕ) (sizes : Sizes) (s : Lending) (room : ℕ) → s.page_bytes ≡ n → sizes.page_bytes ≡ n
+    → IsWhole n (channel_at_start sizes (lender_at_start s) room)
 whole-new n sizes s room e f =
     record { stored = stored-fresh n s e; to_lender_page = f; to_device_page = f; to_lender = All-nil (ParcelFits n); to_device = All-nil (ParcelFits n) }
 
-whole-connect : (n : ℕ) (ch : Channel) (k : Link) → IsWhole n ch → IsWhole n (connected ch k)
+whole-connect : (n : ℕ) (ch : Channel) (k : Link) → IsWhole n ch → IsWhole n (connect_after ch k)
 whole-connect n ch k w = record {
   stored =
       stored-arrive n (let_go ch) k
@@ -201,7 +203,7 @@ whole-connect n ch k w = record {
   to_device = All-nil (ParcelFits n);
 }
 
-whole-send : (n : ℕ) (ch : Channel) (p : Parcel) → ParcelFits n p → IsWhole n ch → IsWhole n (sent ch p).1
+whole-send : (n : ℕ) (ch : Channel) (p : Parcel) → ParcelFits n p → IsWhole n ch → IsWhole n (send_after ch p).1
 whole-send n ch p fit w =
     cond_both ch.device_gone _ _ (λ (x : Sent × Channel). IsWhole n x.1) (λ _. w)
     (λ _.
@@ -228,11 +230,11 @@ whole-taken_from n ch (p ∷ ps) fit w =
       to_device = All-tail (ParcelFits n) p ps fit;
     }
 
-whole-take : (n : ℕ) (ch : Channel) → IsWhole n ch → IsWhole n (taken ch).1
+whole-take : (n : ℕ) (ch : Channel) → IsWhole n ch → IsWhole n (take_after ch).1
 whole-take n ch w =
     cond_both ch.device_gone _ _ (λ (x : Handed × Channel). IsWhole n x.1) (λ _. w) (λ _. whole-taken_from n ch ch.to_device.parcels w.to_device w)
 
-whole-end : (n : ℕ) (ch : Channel) → IsWhole n ch → IsWhole n (closed ch)
+whole-end : (n : ℕ) (ch : Channel) → IsWhole n ch → IsWhole n (end_after ch)
 whole-end n ch w =
     record {
       stored = w.stored;
@@ -242,7 +244,7 @@ whole-end n ch w =
       to_device = All-nil (ParcelFits n);
     }
 
-whole-abandon : (n : ℕ) (ch : Channel) → IsWhole n ch → IsWhole n (abandoned ch)
+whole-abandon : (n : ℕ) (ch : Channel) → IsWhole n ch → IsWhole n (leave_after ch)
 whole-abandon n ch w =
     record {
       stored = stored-gone n ch.lender ch.number w.stored;
@@ -252,7 +254,7 @@ whole-abandon n ch w =
       to_device = w.to_device;
     }
 
-whole-deliver : (n : ℕ) (ch : Channel) (t : Turn) → IsStored n t.lender → All (PostFits n) t.parcels → IsWhole n ch → IsWhole n (delivered ch t)
+whole-deliver : (n : ℕ) (ch : Channel) (t : Turn) → IsStored n t.lender → All (PostFits n) t.parcels → IsWhole n ch → IsWhole n (deliver_after ch t)
 whole-deliver n ch t s fit w =
     record {
       stored = s;
@@ -262,11 +264,11 @@ whole-deliver n ch t s fit w =
       to_device = forward-fits n ch.number ch.to_device t.parcels fit w.to_device;
     }
 
-whole-served : (n : ℕ) (ch : Channel) (p : Parcel) → ParcelFits n p → IsWhole n ch → IsWhole n (served ch p).1
+whole-served : (n : ℕ) (ch : Channel) (p : Parcel) → ParcelFits n p → IsWhole n ch → IsWhole n (serve_after ch p).1
 whole-served n ch p fit w =
     cond_both (may_send ch.lender ch.number p.msg) _ _ (λ (x : Gave × Channel). IsWhole n x.1)
     (λ may.
-    subst (λ (t : Turn). IsWhole n (delivered ch t)) (sym (took-served ch.lender ch.number p.msg p.page may))
+    subst (λ (t : Turn). IsWhole n (deliver_after ch t)) (sym (took-served ch.lender ch.number p.msg p.page may))
     (whole-deliver n ch (serve ch.lender ch.number p.msg p.page) (stored-serve n ch.lender ch.number p.msg p.page w.stored may fit)
     (serve-fits n ch.lender ch.number p.msg p.page w.stored may) w))
     (λ _. whole-abandon n ch w)
@@ -283,11 +285,11 @@ whole-given_from n ch (p ∷ ps) fit w =
       to_device = w.to_device;
     })
 
-whole-give : (n : ℕ) (ch : Channel) → IsWhole n ch → IsWhole n (given ch).1
+whole-give : (n : ℕ) (ch : Channel) → IsWhole n ch → IsWhole n (give_after ch).1
 whole-give n ch w =
     cond_both ch.lender_gone _ _ (λ (x : Gave × Channel). IsWhole n x.1) (λ _. w) (λ _. whole-given_from n ch ch.to_lender.parcels w.to_lender w)
 
-whole-cut : (n : ℕ) (ch : Channel) (a b : ℕ) → IsWhole n ch → IsWhole n (severed ch a b).1
+whole-cut : (n : ℕ) (ch : Channel) (a b : ℕ) → IsWhole n ch → IsWhole n (cut_after ch a b).1
 whole-cut n ch a b w =
     record {
       stored = w.stored;
@@ -297,7 +299,7 @@ whole-cut n ch a b w =
       to_device = All-take (ParcelFits n) b ch.to_device.parcels w.to_device;
     }
 
-whole-crash : (n : ℕ) (ch : Channel) → IsWhole n ch → IsWhole n (crashed ch)
+whole-crash : (n : ℕ) (ch : Channel) → IsWhole n ch → IsWhole n (crash_after ch)
 whole-crash n ch w =
     cond_both ch.lender_gone _ _ (λ (x : Channel). IsWhole n x)
     (λ _.

@@ -6,7 +6,7 @@ use Rattle.swap_lender.specs.declared.Peer.{Peer}
 use Rattle.swap_lender.specs.declared.SlotState.{SlotState}
 use Rattle.swap_lender.specs.declared.SlotState.TheVariants.{Free, Held}
 use Rattle.swap_lender.specs.Lender.{Lender}
-use Rattle.swap_lender.specs.Outbox.{Outgoing, IsReady}
+use Rattle.swap_lender.specs.Outbox.{OutboxView, IsReady}
 use Rattle.swap_link.specs.Lane.{Lane, ParcelsFit}
 use Rattle.swap_link.specs.Channel.{Channel}
 
@@ -31,7 +31,7 @@ pub record IsSound (l : Lender) : Type 0 where
   pub places : All (λ slab. length slab ≡ l.lending.pages_per_slab) l.contents
 
 pub record ChannelFits (sizes : Sizes) (lender : Lender) (number : Link) (to_lender to_device : Lane)
-    (lender_gone : Bool) (outgoing : Outgoing) : Type 0 where
+    (lender_gone : Bool) (outgoing : OutboxView) : Type 0 where
   pub sound : IsSound lender
   pub alone : IsAlone number lender_gone lender.peers
   pub one : lender.lending.links ≡ 1

@@ -6,8 +6,8 @@ use Rattle.swap_base.specs.declared.Lease.{Lease}
 use Rattle.swap_base.specs.declared.geometry.LenderSpec.{LenderSpec}
 use Rattle.swap_wire.specs.Fabric.{FabricCall, Connect, Send, Take, End, Give, Cut, Crash, Host, FabricAnswer, FabricOf}
 use Rattle.swap_lender.specs.declared.Lending.{Lending}
-use Rattle.swap_lender.specs.Lender.{fresh}
-use Rattle.swap_link.specs.Channel.{Channel, unconnected, on_channel}
+use Rattle.swap_lender.specs.Lender.{lender_at_start}
+use Rattle.swap_link.specs.Channel.{Channel, channel_at_start, on_channel}
 use Rattle.swap_link.specs.Fits.{IsChannel}
 use Rattle.swap_link.specs.Keeping.{Keeps, Owes}
 
@@ -20,7 +20,7 @@ abbrev pub lending_for : Sizes → LenderSpec → Lending
 lending_for s spec = record { spec = spec; page_bytes = s.page_bytes; pages_per_slab = s.pages_per_slab; links = 1 }
 
 abbrev pub new_channel : Sizes → LenderSpec → Channel
-new_channel s spec = unconnected s (fresh (lending_for s spec)) (s.window + spec.slots + 1)
+new_channel s spec = channel_at_start s (lender_at_start (lending_for s spec)) (s.window + spec.slots + 1)
 
 abbrev pub of_harbor : Harbor → FabricOf
 of_harbor h = record { sizes = h.sizes; lenders = length h.channels }

@@ -16,15 +16,15 @@ abbrev pub empty_lane : Bool → ℕ → ℕ → Lane
 empty_lane ended room page_bytes = record { parcels = []; ended = ended; room = room; page_bytes = page_bytes }
 
 -- an append to a full lane adds nothing and ends it
-abbrev pub appended : Lane → Parcel → Lane
-appended l p =
+abbrev pub append_after : Lane → Parcel → Lane
+append_after l p =
     if l.ended then l
     else if nat_lt (length l.parcels) l.room then record l { parcels = l.parcels ++ p ∷ [] }
     else record l { ended = true }
 
 -- it ends as it is, or cut to so many messages
-abbrev pub ended : Lane → Lane
-ended l = record l { ended = true }
+abbrev pub end_lane : Lane → Lane
+end_lane l = record l { ended = true }
 
 abbrev pub cut : Lane → ℕ → Lane
 cut l n = record l { parcels = take n l.parcels; ended = true }
@@ -39,9 +39,9 @@ first_of [] = None
 first_of (p ∷ ps) = Some p
 
 -- what came is a message with the page in the buffer
-abbrev pub came : Option Msg → List ℕ → Option Parcel
-came None page = None
-came (Some m) page = Some (parcel_of m page)
+abbrev pub parcel_came : Option Msg → List ℕ → Option Parcel
+parcel_came None page = None
+parcel_came (Some m) page = Some (parcel_of m page)
 
 abbrev pub rest : List Parcel → List Parcel
 rest [] = []
@@ -55,8 +55,8 @@ pub record Kept : Type 0 where
 abbrev pub parcel_in : Kept → Parcel
 parcel_in k = parcel_of k.msg k.page
 
-abbrev pub filled : Kept → Msg → List ℕ → Kept
-filled k m page = record { msg = m; page = if carries_page m then page else k.page }
+abbrev pub fill_kept : Kept → Msg → List ℕ → Kept
+fill_kept k m page = record { msg = m; page = if carries_page m then page else k.page }
 
 -- the messages are those of the first places
 abbrev pub parcels_in : List Kept → ℕ → List Parcel

@@ -1,10 +1,10 @@
 ghost use Rattle.std.specs.Prelude.{◌≡◌, ℕ, ◌+◌, ◌*◌, ◌<◌, ◌^◌, length, [], IfOk, Some, true, false};
-ghost use Rattle.swap_wire.specs.Fabric.{carries_page, parcel_of, handed};
-ghost use Rattle.swap_lender.specs.Lender.{fresh};
-ghost use Rattle.swap_lender.specs.Outbox.{leaving};
+ghost use Rattle.swap_wire.specs.Fabric.{carries_page, parcel_of, handed_of};
+ghost use Rattle.swap_lender.specs.Lender.{lender_at_start};
+ghost use Rattle.swap_lender.specs.Outbox.{outbox_with};
 ghost use Rattle.swap_lender.specs.Core.{IsLending};
-ghost use Rattle.swap_lender.specs.Table.{host, hosted};
-ghost use Rattle.swap_link.specs.Channel.{unconnected, let_go, connected, sent, taken, closed, posted, forwarded, delivered, is_evict, reply_of, abandoned, served, given, severed, crashed};
+ghost use Rattle.swap_lender.specs.Table.{host, host_result};
+ghost use Rattle.swap_link.specs.Channel.{channel_at_start, let_go, connect_after, send_after, take_after, end_after, post_after, forward_after, deliver_after, is_evict, reply_of, leave_after, serve_after, give_after, cut_after, crash_after};
 ghost use Rattle.swap_link.specs.Fits.{IsChannel};
 
 use crate::lane::Lane;
@@ -44,7 +44,7 @@ impl Model for Channel {
 /// A message goes on its way, where it is for this link.
 fn post(lane: &mut Lane, number: Link, link: Link, msg: &Msg, page: &[u8])
     requires { carries_page msg.now ≡ true → length page.now ≡ lane.old.page_bytes }
-    ensures lane { lane.new ≡ posted number lane.old link (parcel_of msg.now page.now) }
+    ensures lane { lane.new ≡ post_after number lane.old link (parcel_of msg.now page.now) }
     ensures page { lane.new.page_bytes ≡ lane.old.page_bytes }
 {
     if link.0 == number.0 {
@@ -56,8 +56,8 @@ fn post(lane: &mut Lane, number: Link, link: Link, msg: &Msg, page: &[u8])
 fn post_all(lane: &mut Lane, number: Link, outbox: &mut Outbox, page: &mut [u8])
     requires page { length page.old ≡ outbox.old.page_bytes }
     requires same { lane.old.page_bytes ≡ outbox.old.page_bytes }
-    ensures lane { lane.new ≡ forwarded number lane.old outbox.old.parcels }
-    ensures outbox { outbox.new ≡ leaving outbox.old [] outbox.old.evicted }
+    ensures lane { lane.new ≡ forward_after number lane.old outbox.old.parcels }
+    ensures outbox { outbox.new ≡ outbox_with outbox.old [] outbox.old.evicted }
     ensures page { lane.new.page_bytes ≡ lane.old.page_bytes }
 {
     while let Some((link, msg)) = outbox.pop(page) {
@@ -76,8 +76,8 @@ fn reply(lane: &mut Lane, number: Link, outbox: &mut Outbox, page: &mut [u8]) ->
     requires page { length page.old ≡ outbox.old.page_bytes }
     requires same { lane.old.page_bytes ≡ outbox.old.page_bytes }
     ensures reply { result ≡ reply_of outbox.old.parcels }
-    ensures lane { lane.new ≡ forwarded number lane.old outbox.old.parcels }
-    ensures outbox { outbox.new ≡ leaving outbox.old [] outbox.old.evicted }
+    ensures lane { lane.new ≡ forward_after number lane.old outbox.old.parcels }
+    ensures outbox { outbox.new ≡ outbox_with outbox.old [] outbox.old.evicted }
     ensures page { lane.new.page_bytes ≡ lane.old.page_bytes }
 {
     let (link, msg) = outbox.pop(page)?;
@@ -89,7 +89,7 @@ fn reply(lane: &mut Lane, number: Link, outbox: &mut Outbox, page: &mut [u8]) ->
 /// What a lender sends to links that are gone is dropped.
 fn discard(outbox: &mut Outbox, page: &mut [u8])
     requires { length page.old ≡ outbox.old.page_bytes }
-    ensures { outbox.new ≡ leaving outbox.old [] outbox.old.evicted }
+    ensures { outbox.new ≡ outbox_with outbox.old [] outbox.old.evicted }
 {
     while outbox.pop(page).is_some() {}
 }
@@ -113,8 +113,8 @@ impl Channel {
             < 2 ^ 64 }
         ensures { IfOk result
             (λ c. c
-            ≡ unconnected geometry.now
-            (fresh
+            ≡ channel_at_start geometry.now
+            (lender_at_start
             (record {
               spec = spec;
               page_bytes = geometry.now.page_bytes;
@@ -174,7 +174,7 @@ impl Channel {
     /// A new link; an older one whose lender's end stands is gone for its lender.
     pub(crate) fn connect(&mut self, number: Link, page: &mut [u8])
         requires { length page.old ≡ self.old.sizes.page_bytes }
-        ensures { self.new ≡ connected self.old number }
+        ensures { self.new ≡ connect_after self.old number }
     {
         self.let_go(page);
         self.lender.arrive(number);
@@ -188,7 +188,7 @@ impl Channel {
     /// Appends a message for the lender. Down exactly where the device's end is gone.
     pub(crate) fn send(&mut self, msg: &Msg, page: &[u8]) -> Sent
         requires { carries_page msg.now ≡ true → length page.now ≡ self.old.sizes.page_bytes }
-        ensures { (result, self.new) ≡ sent self.old (parcel_of msg.now page.now) }
+        ensures { (result, self.new) ≡ send_after self.old (parcel_of msg.now page.now) }
     {
         if self.device_gone {
             return Sent::Down;
@@ -201,7 +201,7 @@ impl Channel {
     /// ended.
     pub(crate) fn take(&mut self, page: &mut [u8]) -> Took
         requires { length page.old ≡ self.old.sizes.page_bytes }
-        ensures { (handed result page.new, self.new) ≡ taken self.old }
+        ensures { (handed_of result page.new, self.new) ≡ take_after self.old }
     {
         if self.device_gone {
             return Took::Nothing;
@@ -219,7 +219,7 @@ impl Channel {
 
     /// The device's end leaves.
     pub(crate) fn end(&mut self)
-        ensures { self.new ≡ closed self.old }
+        ensures { self.new ≡ end_after self.old }
     {
         self.to_lender.end();
         self.to_device.cut(0);
@@ -230,7 +230,7 @@ impl Channel {
     fn abandon(&mut self, page: &mut [u8])
         requires stands { self.old.lender_gone ≡ false }
         requires page { length page.old ≡ self.old.sizes.page_bytes }
-        ensures { self.new ≡ abandoned self.old }
+        ensures { self.new ≡ leave_after self.old }
     {
         self.lender.gone(self.number, &mut self.outbox);
         discard(&mut self.outbox, page);
@@ -243,7 +243,7 @@ impl Channel {
     fn serve(&mut self, msg: Msg, page: &mut [u8]) -> Gave
         requires stands { self.old.lender_gone ≡ false }
         requires page { length page.old ≡ self.old.sizes.page_bytes }
-        ensures { (result, self.new) ≡ served self.old (parcel_of msg page.old) }
+        ensures { (result, self.new) ≡ serve_after self.old (parcel_of msg page.old) }
     {
         match self.lender.took(self.number, &msg, page, &mut self.outbox) {
             Served::Fine => {
@@ -266,7 +266,7 @@ impl Channel {
     /// ended.
     pub(crate) fn give(&mut self, page: &mut [u8]) -> Gave
         requires { length page.old ≡ self.old.sizes.page_bytes }
-        ensures { (result, self.new) ≡ given self.old }
+        ensures { (result, self.new) ≡ give_after self.old }
     {
         if self.lender_gone {
             return Gave::Nothing;
@@ -283,7 +283,7 @@ impl Channel {
 
     /// Both lanes end and keep their first messages. False exactly where that changes nothing.
     pub(crate) fn cut(&mut self, to_lender: u32, to_device: u32) -> bool
-        ensures { (result, self.new) ≡ severed self.old to_lender to_device }
+        ensures { (result, self.new) ≡ cut_after self.old to_lender to_device }
     {
         let same = self.to_lender.is_cut(to_lender as usize)
             && self.to_device.is_cut(to_device as usize);
@@ -294,7 +294,7 @@ impl Channel {
 
     /// The lender starts anew, and its end leaves.
     pub(crate) fn crash(&mut self)
-        ensures { self.new ≡ crashed self.old }
+        ensures { self.new ≡ crash_after self.old }
     {
         self.lender.restart();
         if !self.lender_gone {
@@ -307,8 +307,8 @@ impl Channel {
     /// Tells the lender what its host uses; what it sends goes on its way.
     pub(crate) fn host(&mut self, used: u32, word: u64, page: &mut [u8]) -> Hosted
         requires { length page.old ≡ self.old.sizes.page_bytes }
-        ensures answer { result ≡ hosted self.old.lender used word }
-        ensures channel { self.new ≡ delivered self.old (host self.old.lender used word) }
+        ensures answer { result ≡ host_result self.old.lender used word }
+        ensures channel { self.new ≡ deliver_after self.old (host self.old.lender used word) }
     {
         let hosted = self.lender.host(used, word, &mut self.outbox);
         post_all(&mut self.to_device, self.number, &mut self.outbox, page);

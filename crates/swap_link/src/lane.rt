@@ -1,6 +1,6 @@
 ghost use Rattle.std.specs.Prelude.{◌≡◌, ℕ, ◌+◌, ◌<◌, ◌≤◌, length, take, drop, map, IfOk, replicate, true, false, if◌then◌else◌};
 ghost use Rattle.swap_wire.specs.Fabric.{carries_page, parcel_of};
-ghost use Rattle.swap_link.specs.Lane.{Lane, empty_lane, appended, ended, cut, is_cut, first_of, came, rest, filled, ParcelsFit};
+ghost use Rattle.swap_link.specs.Lane.{Lane, empty_lane, append_after, end_lane, cut, is_cut, first_of, parcel_came, rest, fill_kept, ParcelsFit};
 
 use std::alloc::{AllocError, Global};
 use std::collections::VecDeque;
@@ -42,7 +42,7 @@ impl Place {
 
     fn fill(&mut self, msg: &Msg, page: &[u8])
         requires { carries_page msg.now ≡ true → length page.now ≡ length self.old.page }
-        ensures { self.new ≡ filled self.old msg.now page.now }
+        ensures { self.new ≡ fill_kept self.old msg.now page.now }
     {
         self.msg = *msg;
         if carries_page(msg) {
@@ -117,7 +117,7 @@ impl Lane {
     /// Appends a message, unless it has ended; one that is full ends.
     pub(crate) fn append(&mut self, msg: &Msg, page: &[u8])
         requires { carries_page msg.now ≡ true → length page.now ≡ self.old.page_bytes }
-        ensures lane { self.new ≡ appended self.old (parcel_of msg.now page.now) }
+        ensures lane { self.new ≡ append_after self.old (parcel_of msg.now page.now) }
         ensures page { self.new.page_bytes ≡ self.old.page_bytes }
     {
         if self.ended {
@@ -135,7 +135,7 @@ impl Lane {
     /// Takes the first message off, with its page where it carries one.
     pub(crate) fn pop(&mut self, page: &mut [u8]) -> Option<Msg>
         requires { length page.old ≡ self.old.page_bytes }
-        ensures parcel { came result page.new ≡ first_of self.old.parcels }
+        ensures parcel { parcel_came result page.new ≡ first_of self.old.parcels }
         ensures lane { self.new ≡ record self.old { parcels = rest self.old.parcels } }
     {
         if self.count == 0 {
@@ -163,7 +163,7 @@ impl Lane {
 
     /// Nothing is appended any more.
     pub(crate) fn end(&mut self)
-        ensures { self.new ≡ ended self.old }
+        ensures { self.new ≡ end_lane self.old }
     {
         self.ended = true;
     }

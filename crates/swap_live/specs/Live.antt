@@ -12,7 +12,7 @@ use Rattle.swap_sock.specs.declared.host.Host.{Ghosts as HostMeaning}
 use Rattle.swap_sock.specs.Dealings.{Dealings, Left}
 use Rattle.swap_options.specs.declared.lend.LendOptions.{LendOptions}
 use Rattle.swap_options.specs.Lend.{keeps_limits, lend_options}
-use Rattle.swap_options.specs.Play.{Play, asked, play_options}
+use Rattle.swap_options.specs.Play.{Play, play_asked, play_options}
 use Rattle.swap_run.specs.declared.Ending.{Ending}
 use Rattle.swap_run.specs.declared.Ending.TheVariants as ending
 use Rattle.swap_run.specs.Clause.{Stream, Failed, TookNothing, Told, status_of, err_text}
@@ -22,7 +22,7 @@ use Rattle.swap_live.specs.declared.live.LiveCommand.{LiveCommand}
 use Rattle.swap_live.specs.declared.live.LiveCommand.TheVariants as live
 use Rattle.swap_live.specs.Lending.{Hosting, HostFailed, GaveNothing, LendEnds, hosting}
 use Rattle.swap_show.specs.Clause.{ShowEnds}
-use Rattle.swap_hosted.specs.Hosted.{Deals, Unasked, HostedEnds, disks_of, nets_of, reached}
+use Rattle.swap_hosted.specs.Hosted.{Deals, Unasked, HostedEnds, disks_of, nets_of, address_count}
 
 -- what words ask for: to lend, or to play
 pub data Command : Type 0 where
@@ -31,7 +31,7 @@ pub data Command : Type 0 where
 
 abbrev pub command_is : LiveCommand → Command
 command_is (live.Lend options) = Command.lends options
-command_is (live.Play options) = Command.plays (asked options)
+command_is (live.Play options) = Command.plays (play_asked options)
 
 -- what the words ask for, where they are a form of words
 abbrev pub command_of : List (List ℕ) → Option Command
@@ -59,8 +59,8 @@ pub record Dealt (D F E : Type 0) : Type 0 where
   pub nets : Deals (List Address) F
   pub doors : Hosting E
 
-abbrev pub dealt : {H D F E S K : Type 0} → HostMeaning H D F E S K → H → H → Dealt D F E
-dealt host before now =
+abbrev pub host_dealt : {H D F E S K : Type 0} → HostMeaning H D F E S K → H → H → Dealt D F E
+host_dealt host before now =
     record { disks = disks_of host before now; nets = nets_of host before now; doors = hosting host before now }
 
 -- it was asked for nothing
@@ -126,5 +126,5 @@ module _ {D F : Type 0} (disk : DiskMeaning D) (net : FabricMeaning F) {E S K : 
   PlaysComplete =
       (o : Play) (source out err : Stream) (host : Dealt D F E) (status : ℕ) (text : List ℕ) (t : Script)
       → LiveEndsWith (Some (Command.plays o)) source out err host status → source.before ≡ Some text
-      → length text ≤ TEXT_LIMIT → trace (reached o) text ≡ Ok t
+      → length text ≤ TEXT_LIMIT → trace (address_count o) text ≡ Ok t
       → ¬ Failed source → ¬ Failed out → ¬ HasFailed host → (status ≡ 0) ⊎ ((status ≡ 1) ⊎ (status ≡ 6))

@@ -1,8 +1,8 @@
 ghost use Rattle.std.specs.Prelude.{◌≡◌, ◌≤◌, map, true, length, Some, None, IfOk, IfErr, IfSome};
 ghost use Rattle.swap_options.specs.Lend.{keeps_limits};
-ghost use Rattle.swap_options.specs.Play.{asked};
+ghost use Rattle.swap_options.specs.Play.{play_asked};
 ghost use Rattle.swap_show.specs.Clause.{read_of, written_to};
-ghost use Rattle.swap_live.specs.Live.{command_is, command_of, dealt, ending_of, KeepsLimits, EndsAsLending, EndsAsPlaying, LiveEnds, LiveEndsWith, LendsComplete, PlaysComplete};
+ghost use Rattle.swap_live.specs.Live.{command_is, command_of, host_dealt, ending_of, KeepsLimits, EndsAsLending, EndsAsPlaying, LiveEnds, LiveEndsWith, LendsComplete, PlaysComplete};
 
 use crate::{LendEnd, Offer, lend};
 use std::alloc::Global;
@@ -78,7 +78,7 @@ where
     ensures ends { EndsAsLending H.Disk.DiskPort H.Net.Fabric H.Entrance.links
         H.Entrance.Reader.left
         H.Entrance.Reader.faults H.Entrance.Writer.faults options.now
-        (written_to K.Sink out.old out.new) (dealt H.Host host.old host.new) result }
+        (written_to K.Sink out.old out.new) (host_dealt H.Host host.old host.new) result }
 {
     limits_let_lend();
     let offer = Offer {
@@ -111,9 +111,9 @@ where
     H::Net: Send,
     G: Gate,
     requires lenders { IfSome options.now.tcp (λ lenders. length lenders.items ≤ 8) }
-    ensures ends { EndsAsPlaying H.Disk.DiskPort H.Net.Fabric (asked options.now)
+    ensures ends { EndsAsPlaying H.Disk.DiskPort H.Net.Fabric (play_asked options.now)
         (read_of S.Source source.old source.new) (written_to K.Sink out.old out.new)
-        (dealt H.Host host.old host.new) result }
+        (host_dealt H.Host host.old host.new) result }
 {
     match (options.disk, &options.tcp) {
         (None, None) => play_source(rt, alloc, options.number, source, out, gate),
@@ -144,7 +144,7 @@ where
     ensures ends { LiveEnds H.Disk.DiskPort H.Net.Fabric H.Entrance.links H.Entrance.Reader.left
         H.Entrance.Reader.faults H.Entrance.Writer.faults
         (command_of (map (λ word. word.now) words.now)) (read_of S.Source source.old source.new)
-        (written_to K.Sink out.old out.new) (dealt H.Host host.old host.new) result }
+        (written_to K.Sink out.old out.new) (host_dealt H.Host host.old host.new) result }
 {
     match command_of(alloc, words) {
         Ok(LiveCommand::Lend(options)) => run_lend(rt, alloc, &options, out, host),
@@ -189,7 +189,7 @@ where
         H.Entrance.Reader.faults H.Entrance.Writer.faults
         (command_of (map (λ word. word.now) words.now)) (read_of S.Source source.old source.new)
         (written_to K.Sink out.old out.new) (written_to E.Sink err.old err.new)
-        (dealt H.Host host.old host.new) result }
+        (host_dealt H.Host host.old host.new) result }
 {
     let ending = run_words(rt, alloc, words, source, out, host, gate);
     tell_ending(ending, err);

@@ -15,7 +15,7 @@ pub record PostState : Type 0 where
   pub link : Option Link
   pub came : List Arrival
 
-pub record Mesh : Type 0 where
+pub record FabricView : Type 0 where
   pub is_of : FabricOf
   pub posts : List PostState
 
@@ -52,7 +52,7 @@ Looked page_bytes before NothingCame now = (before.link ≡ None) ⊎ ((now.came
 Looked page_bytes before LinkLost now = CameBy page_bytes before LinkLost now
 
 -- only that post changed
-pub record TookAt (f : Mesh) (n : ℕ) (handed : Handed) (g : Mesh) : Type 0 where
+pub record TookAt (f : FabricView) (n : ℕ) (handed : Handed) (g : FabricView) : Type 0 where
   pub before : PostState
   pub at : slice_get f.posts n ≡ Some before
   pub now : PostState
@@ -75,19 +75,19 @@ Posted sent_is.Sent before now = IsSome before.link × (now ≡ before)
 Posted sent_is.Down before now = Ended before now
 
 -- only that post changed, and so
-pub record ChangedAt (f : Mesh) (n : ℕ) (changed : PostState → PostState → Type 0) (g : Mesh) : Type 0 where
+pub record ChangedAt (f : FabricView) (n : ℕ) (changed : PostState → PostState → Type 0) (g : FabricView) : Type 0 where
   pub before : PostState
   pub at : slice_get f.posts n ≡ Some before
   pub now : PostState
   pub posts : g.posts ≡ slice_set f.posts n now
   pub changes : changed before now
 
-abbrev pub Tells : Mesh → (c : FabricCall) → FabricAnswer c → Mesh → Type 0
+abbrev pub Tells : FabricView → (c : FabricCall) → FabricAnswer c → FabricView → Type 0
 Tells f (Take lender) answer g = TookAt f lender.0 answer g
 Tells f (Connect lender link) answer g = ChangedAt f lender.0 (Opened link) g
 Tells f (Send lender parcel) answer g = ChangedAt f lender.0 (Posted answer) g
 Tells f (End lender) answer g = ChangedAt f lender.0 Ended g
 Tells f _ answer g = g.posts ≡ f.posts
 
-abbrev pub Moves : Mesh → (c : FabricCall) → FabricAnswer c → Mesh → Type 0
+abbrev pub Moves : FabricView → (c : FabricCall) → FabricAnswer c → FabricView → Type 0
 Moves f c answer g = (g.is_of ≡ f.is_of) × TakenFits f.is_of.sizes.page_bytes c answer × Tells f c answer g

@@ -1,5 +1,5 @@
 ghost use Rattle.std.specs.Prelude.{◌≡◌, ◌≤◌, length, true, Some};
-ghost use Rattle.swap_wire.specs.Fabric.{handed, carries_page};
+ghost use Rattle.swap_wire.specs.Fabric.{handed_of, carries_page};
 ghost use Rattle.swap_net.specs.Posts.{Ended, Looked, Opened, Posted, stands_as};
 
 use std::marker::Model;
@@ -154,7 +154,7 @@ impl<R: Wait + Copy> Post<R> {
     /// What arrived first, if something of the link that stands did. A message whose bytes don't
     /// fill the buffer ends the link.
     pub(crate) fn take(&mut self, page: &mut [u8]) -> Took
-        ensures looked { Looked (length page.old) self.old (handed result page.new) self.new }
+        ensures looked { Looked (length page.old) self.old (handed_of result page.new) self.new }
         ensures page { length page.new ≡ length page.old }
     {
         let Some(link) = self.link else {

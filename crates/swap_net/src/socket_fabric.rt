@@ -1,5 +1,5 @@
 ghost use Rattle.std.specs.Prelude.{◌≡◌, ◌<◌, ◌≤◌, length, map, vec_len, vec_capacity, IfOk};
-ghost use Rattle.swap_net.specs.Posts.{Mesh};
+ghost use Rattle.swap_net.specs.Posts.{FabricView};
 
 use crate::opening::{NotOpened, open_post};
 use crate::post::Post;
@@ -24,9 +24,9 @@ pub struct SocketFabric<R: Wait + Copy> {
 
 impl<R: Wait + Copy> Model for SocketFabric<R> {
     ghost use Rattle.std.specs.Prelude.{length};
-    ghost use Rattle.swap_net.specs.Posts.{Mesh};
+    ghost use Rattle.swap_net.specs.Posts.{FabricView};
 
-    ghost Value = { Mesh };
+    ghost Value = { FabricView };
 
     ghost view = { λ f.
         record {

@@ -10,8 +10,8 @@ use Rattle.swap_link.specs.Harbor as harbor
 use Rattle.swap_link.specs.Harbor.{Harbor}
 use Rattle.swap_table.specs.Ports.{Prog, Along}
 use Rattle.swap_table.specs.Goes.{Goes, EachKeeps, AllAsked}
-use Rattle.swap_table.specs.Moves.{Speaker, quiet, Move}
-use Rattle.swap_table.specs.Device.{Device, of_device, new, disk_take}
+use Rattle.swap_table.specs.Moves.{Speaker, quiet_speaker, Move}
+use Rattle.swap_table.specs.Device.{Device, of_device, device_at_start, disk_take}
 use Rattle.swap_table.specs.Happens.{happens}
 use Rattle.swap_table.specs.Promises.{FollowsItsMoves}
 use Rattle.swap_table.specs.declared.DiskStep.{DiskStep}
@@ -89,17 +89,17 @@ module _ {D : Type 0} (disk : DiskMeaning D) (follows : FollowsItsMoves disk) (T
   -- along a program that goes by moves
   goes_joined :
       {R : Type 0} (d d' : Device) (r : R) (p : Prog (Device × R)) (k k' : D) (h h' : Harbor)
-      → Goes (Move (there d)) (λ (a : Device × R) s. s ≡ quiet a.0) (quiet d) p → KnownAt d k h → Joined o d h
+      → Goes (Move (there d)) (λ (a : Device × R) s. s ≡ quiet_speaker a.0) (quiet_speaker d) p → KnownAt d k h → Joined o d h
       → Along disk.moves harbor.Moves p k h k' h' (d', r)
       → Joined o d' h'
   goes_joined {R} d d' r p k k' h h' goes known joined along =
-      let agree : AgreesAt d (quiet d) k h =
+      let agree : AgreesAt d (quiet_speaker d) k h =
       record { fits = record { disk = known.agree.0.disk; serves = known.agree.0.serves }; is = refl; of_f = known.agree.1 } in
-      let first : JoinedFor d (quiet d) k h = subst (λ (x : FabricOf). Joined x d h) (sym known.is) joined in
+      let first : JoinedFor d (quiet_speaker d) k h = subst (λ (x : FabricOf). Joined x d h) (sym known.is) joined in
       let last =
       Goes-along (Move (there d)) disk.moves harbor.Moves (λ s k h. AgreesAt d s k h × JoinedFor d s k h) (each_both d)
-      (λ (a : Device × R) s. s ≡ quiet a.0) k k' h h' (d', r) (quiet d) p goes (agree, first) along in
-      let now : JoinedFor d (quiet d') k' h' = subst (λ x. JoinedFor d x k' h') last.1 last.2.1 in
+      (λ (a : Device × R) s. s ≡ quiet_speaker a.0) k k' h h' (d', r) (quiet_speaker d) p goes (agree, first) along in
+      let now : JoinedFor d (quiet_speaker d') k' h' = subst (λ x. JoinedFor d x k' h') last.1 last.2.1 in
       subst (λ (x : FabricOf). Joined x d' h') known.is now
 
   step_joined :
@@ -150,9 +150,9 @@ module _ {D : Type 0} (disk : DiskMeaning D) (follows : FollowsItsMoves disk) (T
       → AllAsked disk.moves harbor.Moves FindsUp (happens d page e) k h
   sends_taken d k h page e known joined range =
       let P : Speaker → D → Harbor → Type 0 = λ s k h. AgreesAt d s k h × JoinedFor d s k h in
-      let agree : AgreesAt d (quiet d) k h =
+      let agree : AgreesAt d (quiet_speaker d) k h =
       record { fits = record { disk = known.agree.0.disk; serves = known.agree.0.serves }; is = refl; of_f = known.agree.1 } in
-      let first : JoinedFor d (quiet d) k h = subst (λ (x : FabricOf). Joined x d h) (sym known.is) joined in
+      let first : JoinedFor d (quiet_speaker d) k h = subst (λ (x : FabricOf). Joined x d h) (sym known.is) joined in
       Goes-asks (Move (there d)) disk.moves harbor.Moves P (each_both d) FindsUp
       (λ x asked y k k' h h' move went before.
       joint.each_finds_up disk follows harbor_promises T (of_device d) anyone any x asked y k k' h h' move went (before.0, before.1.0.0.0))
@@ -183,10 +183,10 @@ joined_lent disk follows T o d k h known joined =
 
 -- a device as it is made, over lenders as they are made
 pub starts_joined :
-    (s : Sizes) (n : ℕ) (h : Harbor) → harbor.IsFresh h (record { sizes = s; lenders = n }) → Joined (record { sizes = s; lenders = n }) (new s n) h
+    (s : Sizes) (n : ℕ) (h : Harbor) → harbor.IsFresh h (record { sizes = s; lenders = n }) → Joined (record { sizes = s; lenders = n }) (device_at_start s n) h
 starts_joined s n h fresh = (
   (((lenders_keep.made h (record { sizes = s; lenders = n }) fresh, new_joins n n s h), new_turned n n s h), new_allowed n n s h),
-  new_left s n (new s n) h fresh,
+  new_left s n (device_at_start s n) h fresh,
 )
 
 module _ {D : Type 0} (disk : DiskMeaning D) (follows : FollowsItsMoves disk) (s : Sizes) (n : ℕ) (first : D) (harbor_first : Harbor)
@@ -198,12 +198,13 @@ module _ {D : Type 0} (disk : DiskMeaning D) (follows : FollowsItsMoves disk) (s
   Of = record { sizes = s; lenders = n }
 
   known :
-      (made : List (Input × Seen)) (d : Device) (k : D) (h : Harbor) → IsRun disk.moves harbor.Moves (new s n) first harbor_first made d k h
+      (made : List (Input × Seen)) (d : Device) (k : D) (h : Harbor) → IsRun disk.moves harbor.Moves (device_at_start s n) first harbor_first made d k h
       → KnownAt disk follows Told Of d k h
   known made d k h run = run_known disk follows harbor_meaning harbor_promises s n first harbor_first began made d k h run
 
   run_joined :
-      (made : List (Input × Seen)) (d : Device) (k : D) (h : Harbor) → IsRun disk.moves harbor.Moves (new s n) first harbor_first made d k h → Joined Of d h
+      (made : List (Input × Seen)) (d : Device) (k : D) (h : Harbor) → IsRun disk.moves harbor.Moves (device_at_start s n) first harbor_first made d k h
+      → Joined Of d h
   run_joined made d k h begin = starts_joined s n harbor_first fresh
   run_joined made d k h (effect {made = before} {d = d0} {k = k0} {f = h0} i seen_ d' k' h' run range step has) =
       step_joined disk follows Told Of d0 d' k0 k' h0 h' i seen_ (known before d0 k0 h0 run) (run_joined before d0 k0 h0 run) range step
@@ -213,7 +214,8 @@ module _ {D : Type 0} (disk : DiskMeaning D) (follows : FollowsItsMoves disk) (s
       poll_joined disk follows Told Of d0 d' k0 k' h0 h' step (known before d0 k0 h0 run) (run_joined before d0 k0 h0 run) along
 
   run_holds :
-      (made : List (Input × Seen)) (d : Device) (k : D) (h : Harbor) → IsRun disk.moves harbor.Moves (new s n) first harbor_first made d k h → Holds disk d k h
+      (made : List (Input × Seen)) (d : Device) (k : D) (h : Harbor) → IsRun disk.moves harbor.Moves (device_at_start s n) first harbor_first made d k h
+      → Holds disk d k h
   run_holds made d k h run = record {
     lent = joined_lent disk follows Told Of d k h (known made d k h run) (run_joined made d k h run);
     taken = λ page e range. sends_taken disk follows Told Of d k h page e (known made d k h run) (run_joined made d k h run) range;

@@ -9,7 +9,7 @@ use Rattle.swap_disk.specs.declared.port.DiskPort.{Ghosts as DiskMeaning}
 use Rattle.swap_slabs.specs.declared.TheConstants.{MOST_LENDERS}
 use Rattle.swap_link.specs.Harbor as harbor
 use Rattle.swap_link.specs.Harbor.{Harbor}
-use Rattle.swap_table.specs.Device.{Device, new}
+use Rattle.swap_table.specs.Device.{Device, device_at_start}
 use Rattle.swap_table.specs.Fits.{IsBlank}
 use Rattle.swap_table.specs.Goes.{AllAsked}
 use Rattle.swap_table.specs.Happens.{happens}
@@ -48,4 +48,4 @@ HoldsAfterEach {D} disk =
     (s : Sizes) (n : ℕ) (first : D) (harbor_first : Harbor) (made : List (Input × Seen)) (d : Device) (k : D)
     (h : Harbor)
     → IsBlank s (disk.means first) → harbor.IsFresh harbor_first (record { sizes = s; lenders = n }) → n ≤ MOST_LENDERS
-    → IsRun disk.moves harbor.Moves (new s n) first harbor_first made d k h → Holds disk d k h
+    → IsRun disk.moves harbor.Moves (device_at_start s n) first harbor_first made d k h → Holds disk d k h

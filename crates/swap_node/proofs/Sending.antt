@@ -6,7 +6,7 @@ use Rattle.swap_wire.specs.declared.Msg.TheVariants as msg
 use Rattle.swap_wire.specs.Frames.{frame, page_with}
 use Rattle.swap_wire.specs.Fabric.{Parcel, carries_page}
 use Rattle.swap_lender.specs.Outbox.{first_message, first_page}
-use Rattle.swap_node.specs.Outlets.{frame_of}
+use Rattle.swap_node.specs.RepliesView.{frame_of}
 use Rattle.swap_node.specs.Boards.{Board, PutsOn, PutsAll}
 
 -- a page that a message doesn't carry doesn't matter

@@ -3,14 +3,14 @@ use Rattle.std.proofs.Common.{◌≡◌, ℕ, List, [], ◌∷◌, sym, subst, O
 use Rattle.swap_base.specs.declared.Link.{Link}
 use Rattle.swap_wire.specs.Fabric.{Parcel}
 use Rattle.swap_lender.specs.Lender.{Lender}
-use Rattle.swap_lender.specs.Table.{gone}
+use Rattle.swap_lender.specs.Table.{gone_after}
 use Rattle.swap_node.specs.Boards.{Board, PutsAll}
-use Rattle.swap_node.specs.Office.{Told, AllTold, Gone}
+use Rattle.swap_node.specs.NodeView.{Told, AllTold, Gone}
 
 module _ {K : Type 0} (taken : K → Option (List ℕ)) (faults : K → ℕ) where
   pub tell_one :
       (l l1 m : Lender) (b b1 mid b' : Board K) (link : Link) (parcels : List (Link × Parcel)) → b.failed ≡ link ∷ b1.failed
-      → b1 ≡ record b { failed = b1.failed } → l1 ≡ (gone l link).lender → parcels ≡ (gone l link).parcels
+      → b1 ≡ record b { failed = b1.failed } → l1 ≡ (gone_after l link).lender → parcels ≡ (gone_after l link).parcels
       → PutsAll taken faults b1 parcels mid
       → Told taken faults l1 mid m b'
       → Told taken faults l b m b'

@@ -1,4 +1,4 @@
-pub mod Outlets
+pub mod RepliesView
 pub mod Boards
-pub mod Office
+pub mod NodeView
 pub mod Delivery

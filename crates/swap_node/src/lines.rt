@@ -1,6 +1,6 @@
 ghost use Rattle.std.specs.Prelude.{◌≡◌, ℕ, ◌+◌, ◌≤◌, ◌<◌, [], ◌∷◌, ◌++◌, true, false, length, sum_by, replicate, if◌then◌else◌, IfOk, MatchOption, None, Some};
 ghost use Rattle.swap_wire.specs.Frames.{frame, page_with};
-ghost use Rattle.swap_node.specs.Boards.{Board, line_at, with_line, is_down, fits_line, weight, IsFor, PutsLine, PutsOn, empty_board, unsettled};
+ghost use Rattle.swap_node.specs.Boards.{Board, line_at, with_line, is_down, fits_line, weight, IsFor, PutsLine, PutsOn, empty_board, count_unsettled};
 
 use crate::Replies;
 use std::alloc::Global;
@@ -17,9 +17,9 @@ pub(crate) struct Line<K: Sink + Drop> {
 
 impl<K: Sink + Drop> Model for Line<K> {
     ghost use Rattle.std.specs.Prelude.{Option};
-    ghost use Rattle.swap_node.specs.Outlets.{Outlet};
+    ghost use Rattle.swap_node.specs.RepliesView.{RepliesView};
 
-    ghost Value = { Option (Outlet K) };
+    ghost Value = { Option (RepliesView K) };
 
     ghost view = { λ l. l.replies };
 }
@@ -111,7 +111,7 @@ impl<K: Sink + Drop> Lines<K> {
         requires { length page.now ≡ self.old.page_bytes }
         ensures puts { PutsOn K.taken K.faults self.old link
             (frame msg.now (page_with msg.now page.now)) self.new }
-        ensures unsettled { unsettled self.new ≡ unsettled self.old }
+        ensures unsettled { count_unsettled self.new ≡ count_unsettled self.old }
         ensures page_bytes { self.new.page_bytes ≡ self.old.page_bytes }
         ensures number { length self.new.lines ≡ length self.old.lines }
     {

@@ -1,6 +1,6 @@
 ghost use Rattle.std.specs.Prelude.{◌≡◌, ◌+◌, ◌<◌, ◌^◌, ◌*◌, ◌==◌, true, false, length, if◌then◌else◌, IfOk, Some};
 ghost use Rattle.swap_lender.specs.Core.{IsLending};
-ghost use Rattle.swap_node.specs.Office.{opened, is_welcome, arrived, IsBeside, Departs, Arrives, Takes, Looks, Counts, Serves, PERIOD};
+ghost use Rattle.swap_node.specs.NodeView.{office_at_start, is_welcome, arrive_after, IsBeside, Departs, Arrives, Takes, Looks, Counts, Serves, PERIOD};
 ghost use Rattle.swap_node.specs.Boards.{fits_line, with_line};
 ghost use Rattle.swap_node.specs.Delivery.{Delivers, heard_one};
 ghost use Rattle.rand_pcg.specs.Pcg.{pcg32_of_seed};
@@ -86,9 +86,9 @@ pub struct Node<K: Sink + Drop> {
 impl<K: Sink + Drop> Model for Node<K> {
     ghost use Rattle.std.specs.Prelude.{◌≡◌, ◌<◌, [], length};
     ghost use Rattle.swap_lender.specs.Outbox.{IsReady};
-    ghost use Rattle.swap_node.specs.Office.{Office, PERIOD};
+    ghost use Rattle.swap_node.specs.NodeView.{NodeView, PERIOD};
 
-    ghost Value = { Office K };
+    ghost Value = { NodeView K };
 
     ghost view = { λ n.
         record {
@@ -129,7 +129,7 @@ impl<K: Sink + Drop> Node<K> {
         requires bytes { spec.slots * (pages_per_slab * page_bytes) < 2 ^ 64 }
         ensures { IfOk result
             (λ n. n
-            ≡ opened
+            ≡ office_at_start
             (record {
               spec = spec;
               page_bytes = page_bytes;
@@ -192,7 +192,7 @@ impl<K: Sink + Drop> Node<K> {
         requires { fits_line self.old.board link replies ≡ true }
         ensures state { self.new
             ≡ record self.old {
-              core = arrived self.old.core link;
+              core = arrive_after self.old.core link;
               board = with_line self.old.board link (Some replies);
             } }
         ensures lending { self.new.core.lending ≡ self.old.core.lending }

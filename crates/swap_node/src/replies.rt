@@ -2,7 +2,7 @@ ghost use Rattle.std.specs.Prelude.{◌≡◌, ◌<◌, ◌≤◌, true, false, 
 ghost use Rattle.std.specs.Io.KnownBytes.{Appends};
 ghost use Rattle.swap_io.specs.Causes.{HasCause, AppendsFront};
 ghost use Rattle.swap_wire.specs.Frames.{frame, page_with};
-ghost use Rattle.swap_node.specs.Outlets.{Puts};
+ghost use Rattle.swap_node.specs.RepliesView.{Puts};
 
 use std::alloc::Global;
 use std::marker::Model;
@@ -22,9 +22,9 @@ pub struct Replies<K: Sink + Drop> {
 impl<K: Sink + Drop> Model for Replies<K> {
     ghost use Rattle.std.specs.Prelude.{◌≡◌, ◌≤◌, ◌<◌, true};
     ghost use Rattle.swap_wire.specs.Frames.{longest};
-    ghost use Rattle.swap_node.specs.Outlets.{Outlet};
+    ghost use Rattle.swap_node.specs.RepliesView.{RepliesView};
 
-    ghost Value = { Outlet K };
+    ghost Value = { RepliesView K };
 
     ghost view = { λ r. record { sink = r.sink; page_bytes = r.page_bytes; failed = r.failed } };
 

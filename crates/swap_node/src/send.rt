@@ -1,7 +1,7 @@
 ghost use Rattle.std.specs.Prelude.{◌≡◌, ◌≤◌, [], length};
-ghost use Rattle.swap_lender.specs.Outbox.{leaving, IsReady};
-ghost use Rattle.swap_node.specs.Boards.{PutsAll, unsettled};
-ghost use Rattle.swap_node.specs.Office.{Told, Sends};
+ghost use Rattle.swap_lender.specs.Outbox.{outbox_with, IsReady};
+ghost use Rattle.swap_node.specs.Boards.{PutsAll, count_unsettled};
+ghost use Rattle.swap_node.specs.NodeView.{Told, Sends};
 
 use crate::lines::Lines;
 use swap_io::Sink;
@@ -12,8 +12,8 @@ fn put_all<K: Sink + Drop>(lines: &mut Lines<K>, out: &mut Outbox, page: &mut [u
     requires page { length page.old ≡ out.old.page_bytes }
     requires lines { lines.old.page_bytes ≡ out.old.page_bytes }
     ensures puts { PutsAll K.taken K.faults lines.old out.old.parcels lines.new }
-    ensures out { out.new ≡ leaving out.old [] out.old.evicted }
-    ensures unsettled { unsettled lines.new ≡ unsettled lines.old }
+    ensures out { out.new ≡ outbox_with out.old [] out.old.evicted }
+    ensures unsettled { count_unsettled lines.new ≡ count_unsettled lines.old }
     ensures page_bytes { lines.new.page_bytes ≡ lines.old.page_bytes }
     ensures number { length lines.new.lines ≡ length lines.old.lines }
 {

@@ -6,7 +6,7 @@ use Rattle.clap.specs.declared.error.kind.ErrorKind.{ErrorKind}
 use Rattle.clap.specs.declared.error.kind.ErrorKind.TheVariants as kind
 use Rattle.swap_options.specs.declared.lend.LendOptions.{LendOptions}
 use Rattle.swap_options.specs.Commands.{IsAtFault, unless_at_fault}
-use Rattle.swap_options.specs.Lend.{lend_command, lend_faults, lend_rows, lend_options, limited, options_in}
+use Rattle.swap_options.specs.Lend.{lend_command, lend_faults, lend_rows, lend_options, within_limits, options_in}
 use Rattle.swap_options.specs.Play.{Play, play_command, play_faults, play_rows, play_options}
 use Rattle.swap_options.specs.Play as play
 
@@ -60,15 +60,16 @@ fault-refuses [] options h = absurd h
 fault-refuses (x ∷ xs) options h = refl
 
 pub lend-refuses : (a : App) (words : List Text) → a ≡ lend_command → IsAtFault (fault_of a words) → lend_options words ≡ None
-lend-refuses a words e h = fault-refuses (lend_faults words) (limited (options_in (lend_rows words))) (subst IsAtFault (lend-faults-are a words e) h)
+lend-refuses a words e h = fault-refuses (lend_faults words) (within_limits (options_in (lend_rows words))) (subst IsAtFault (lend-faults-are a words e) h)
 
 pub play-refuses : (a : App) (words : List Text) → a ≡ play_command → IsAtFault (fault_of a words) → play_options words ≡ None
 play-refuses a words e h = fault-refuses (play_faults words) (play.options_in (play_rows words)) (subst IsAtFault (play-faults-are a words e) h)
 
 pub given :
     (words : List Text) (rows : List Row) (options : Option LendOptions) → lend_faults words ≡ [] → rows ≡ lend_rows words → options ≡ options_in rows
-    → lend_options words ≡ limited options
-given words rows options none is e = ap (λ ks. unless_at_fault ks (limited (options_in (lend_rows words)))) none ∙ ap limited (ap options_in (sym is) ∙ sym e)
+    → lend_options words ≡ within_limits options
+given words rows options none is e =
+    ap (λ ks. unless_at_fault ks (within_limits (options_in (lend_rows words)))) none ∙ ap within_limits (ap options_in (sym is) ∙ sym e)
 
 pub played : (words : List Text) (rows : List Row) → play_faults words ≡ [] → rows ≡ play_rows words → play_options words ≡ play.options_in rows
 played words rows none is = ap (λ ks. unless_at_fault ks (play.options_in (play_rows words))) none ∙ ap play.options_in (sym is)

@@ -7,8 +7,8 @@ use Rattle.clap.specs.Kinds.{Kinds}
 abbrev pub option_rule : Text → Rule
 option_rule name = record (new_rule name) { long = Some name }
 
-abbrev pub defaulted : Text → Text → Rule
-defaulted name value = record (option_rule name) { defaults = value ∷ [] }
+abbrev pub with_default : Text → Text → Rule
+with_default name value = record (option_rule name) { defaults = value ∷ [] }
 
 -- a command of which all words are arguments, without a flag for help
 abbrev pub bare_command : Text → App

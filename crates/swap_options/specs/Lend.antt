@@ -9,7 +9,7 @@ use Rattle.swap_io.specs.Words.{number}
 use Rattle.swap_sock.specs.Addresses.{at_most, address_in}
 use Rattle.swap_sock.specs.declared.address.Address.{Address}
 use Rattle.swap_options.specs.declared.lend.LendOptions.{LendOptions}
-use Rattle.swap_options.specs.Commands.{option_rule, defaulted, bare_command, unless_at_fault}
+use Rattle.swap_options.specs.Commands.{option_rule, with_default, bare_command, unless_at_fault}
 
 -- the command behind `lend`
 abbrev pub lend_command : App
@@ -22,13 +22,13 @@ lend_command =
     (with_rule
     (with_rule
     (with_rule (bare_command (codes "lend")) (record (option_rule (codes "listen")) { required = true }))
-    (defaulted (codes "slots") (codes "16")))
-    (defaulted (codes "headroom") (codes "2")))
-    (defaulted (codes "extra") (codes "2")))
-    (defaulted (codes "page-bytes") (codes "4096")))
-    (defaulted (codes "pages-per-slab") (codes "1024")))
-    (defaulted (codes "links") (codes "1")))
-    (defaulted (codes "used") (codes "0"))
+    (with_default (codes "slots") (codes "16")))
+    (with_default (codes "headroom") (codes "2")))
+    (with_default (codes "extra") (codes "2")))
+    (with_default (codes "page-bytes") (codes "4096")))
+    (with_default (codes "pages-per-slab") (codes "1024")))
+    (with_default (codes "links") (codes "1")))
+    (with_default (codes "used") (codes "0"))
 
 -- the highest number of 32 bits
 abbrev pub highest : ℕ
@@ -89,9 +89,9 @@ keeps_limits o =
     && nat_le (o.spec.slots * o.pages_per_slab * o.page_bytes) 536_870_912
     && nat_le o.links 64
 
-abbrev pub limited : Option LendOptions → Option LendOptions
-limited None = None
-limited (Some o) = if keeps_limits o then Some o else None
+abbrev pub within_limits : Option LendOptions → Option LendOptions
+within_limits None = None
+within_limits (Some o) = if keeps_limits o then Some o else None
 
 -- what the command finds at fault in the words, and what it makes of them
 unfoldable pub lend_faults : List Text → Kinds
@@ -102,4 +102,4 @@ lend_rows words = matches_of lend_command words
 
 -- the options that the words give: the command takes them, and their values spell options within the limits
 abbrev pub lend_options : List Text → Option LendOptions
-lend_options words = unless_at_fault (lend_faults words) (limited (options_in (lend_rows words)))
+lend_options words = unless_at_fault (lend_faults words) (within_limits (options_in (lend_rows words)))

@@ -7,7 +7,7 @@ use Rattle.swap_io.specs.Words.{number}
 use Rattle.swap_sock.specs.Addresses.{address_in}
 use Rattle.swap_sock.specs.declared.address.Address.{Address}
 use Rattle.swap_options.specs.declared.play.PlayOptions.{PlayOptions}
-use Rattle.swap_options.specs.Commands.{option_rule, defaulted, bare_command, unless_at_fault}
+use Rattle.swap_options.specs.Commands.{option_rule, with_default, bare_command, unless_at_fault}
 
 -- the number that draws come from, the path of the disk's file and the lenders' addresses
 pub record Play : Type 0 where
@@ -15,8 +15,8 @@ pub record Play : Type 0 where
   pub disk : Option (List ℕ)
   pub tcp : Option (List Address)
 
-abbrev pub asked : PlayOptions → Play
-asked o =
+abbrev pub play_asked : PlayOptions → Play
+play_asked o =
     record {
       number = o.number;
       disk = option_map (λ text. text.now) o.disk;
@@ -27,7 +27,7 @@ asked o =
 abbrev pub play_command : App
 play_command =
     with_rule
-    (with_rule (with_rule (bare_command (codes "play")) (defaulted (codes "number") (codes "1")))
+    (with_rule (with_rule (bare_command (codes "play")) (with_default (codes "number") (codes "1")))
     (option_rule (codes "disk")))
     (option_rule (codes "tcp"))
 

@@ -1,6 +1,6 @@
 ghost use Rattle.std.specs.Prelude.{◌≡◌, map, true, false, [], IfOk, IfErr, option_map};
 ghost use Rattle.clap.specs.Words.{app_of, rule_of, rows_of, found_of, first_of, fault_of, matches_of, is_simple, is_simple_and_free};
-ghost use Rattle.swap_options.specs.Commands.{bare_command, option_rule, defaulted, IsAtFault};
+ghost use Rattle.swap_options.specs.Commands.{bare_command, option_rule, with_default, IsAtFault};
 
 use clap::error::ErrorKind;
 use clap::{Arg, ArgMatches, Command};
@@ -32,7 +32,7 @@ pub(crate) fn option<'a>(alloc: Global, name: &'a str) -> Arg<'a>
 
 /// An option with the value that it has where it isn't given.
 pub(crate) fn defaulted<'a>(alloc: Global, name: &'a str, value: &'a str) -> Arg<'a>
-    ensures rule { rule_of result ≡ defaulted name.entry.now value.entry.now }
+    ensures rule { rule_of result ≡ with_default name.entry.now value.entry.now }
     ensures local { result.global ≡ false }
 {
     option(alloc, name).default_value(value)

@@ -2,7 +2,7 @@ ghost use Rattle.std.specs.Prelude.{◌≡◌, ◌≤◌, map, length, ◌==◌,
 ghost use Rattle.std.specs.List.{slice_split};
 ghost use Rattle.clap.specs.Words.{app_of, rows_of, found_of};
 ghost use Rattle.swap_io.specs.Words.{number};
-ghost use Rattle.swap_options.specs.Play.{play_command, play_faults, play_rows, play_options, asked, comma, addresses_of, addresses_in, addresses_given, options_in};
+ghost use Rattle.swap_options.specs.Play.{play_command, play_faults, play_rows, play_options, play_asked, comma, addresses_of, addresses_in, addresses_given, options_in};
 
 use crate::parsing::{OptionsRefused, bare_command, defaulted, option, parsed, text_at};
 use clap::{ArgMatches, Command};
@@ -26,7 +26,7 @@ pub struct PlayOptions<'a> {
 /// `Usage` comes only where the words give no options; want of memory has no further cause.
 pub fn read_play<'a>(alloc: Global, words: &'a [&'a str]) -> Result<PlayOptions<'a>, OptionsRefused>
     ensures options { IfOk result
-        (λ options. play_options (map (λ word. word.now) words.now) ≡ Some (asked options)) }
+        (λ options. play_options (map (λ word. word.now) words.now) ≡ Some (play_asked options)) }
     ensures lenders { IfOk result
         (λ options.
         IfSome options.tcp
@@ -45,7 +45,7 @@ fn options_in<'a>(
     matches: &ArgMatches<'a>,
 ) -> Result<PlayOptions<'a>, OptionsRefused>
     ensures options { IfOk result
-        (λ options. options_in (rows_of (found_of matches.now)) ≡ Some (asked options)) }
+        (λ options. options_in (rows_of (found_of matches.now)) ≡ Some (play_asked options)) }
     ensures lenders { IfOk result
         (λ options.
         IfSome options.tcp

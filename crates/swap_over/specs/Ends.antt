@@ -7,7 +7,7 @@ use Rattle.swap_disk.specs.declared.port.DiskPort.{Ghosts as DiskMeaning}
 use Rattle.swap_wire.specs.declared.fabric.Fabric.{Ghosts as FabricMeaning}
 use Rattle.swap_script.specs.Reading.{Script}
 use Rattle.swap_script.specs.Transcript.{transcript}
-use Rattle.swap_world.specs.Runs.{WorldOf}
+use Rattle.swap_world.specs.Runs.{WorldView}
 use Rattle.swap_run.specs.Run.{has_failed}
 use Rattle.swap_run.specs.Clause.{Stream, Failed, TookNothing}
 use Rattle.swap_run.specs.declared.Ending.{Ending}
@@ -16,7 +16,7 @@ use Rattle.swap_show.specs.Printing.{world_transcript}
 use Rattle.swap_over.specs.Over.{WasPlayedOver}
 
 -- what writing a world's transcript leaves, by how it ends
-abbrev pub WrittenBy : {D F : Type 0} → List LenderSpec → WorldOf D F → Stream → Ending → Type 0
+abbrev pub WrittenBy : {D F : Type 0} → List LenderSpec → WorldView D F → Stream → Ending → Type 0
 WrittenBy lenders w out ending.Done =
     Appends out.before out.now (world_transcript lenders w) × (has_failed w.core.device.history ≡ false)
 WrittenBy lenders w out ending.Faulted =
@@ -25,7 +25,7 @@ WrittenBy lenders w out ending.WriteFailed = AppendsFront out.before out.now (wo
 WrittenBy lenders w out _ = ⊥
 
 -- what is written of a played trace: the transcript of the world's log
-abbrev pub transcript_over : {D F : Type 0} → Script → WorldOf D F → List ℕ
+abbrev pub transcript_over : {D F : Type 0} → Script → WorldView D F → List ℕ
 transcript_over t w = transcript t.sizes t.lenders w.log w.core.device.history
 
 module _ {D F : Type 0} (disk : DiskMeaning D) (fabric : FabricMeaning F) (t : Script) (number : ℕ) (given : D)
@@ -34,7 +34,7 @@ module _ {D F : Type 0} (disk : DiskMeaning D) (fabric : FabricMeaning F) (t : S
   -- the
   -- run left them
   pub record PlayedOver (with_fault : Bool) (back : D × F) : Type 0 where
-    pub world : WorldOf D F
+    pub world : WorldView D F
     pub shown : WasPlayedOver disk fabric t number given net world
     pub back_is : back ≡ (world.core.disk, world.core.fabric)
     pub wrote : Appends out.before out.now (transcript_over t world)
@@ -42,7 +42,7 @@ module _ {D F : Type 0} (disk : DiskMeaning D) (fabric : FabricMeaning F) (t : S
 
   -- a trace was played and a write failed: out took a front of its transcript
   pub record BrokeOffOver (back : D × F) : Type 0 where
-    pub world : WorldOf D F
+    pub world : WorldView D F
     pub shown : WasPlayedOver disk fabric t number given net world
     pub back_is : back ≡ (world.core.disk, world.core.fabric)
     pub wrote : AppendsFront out.before out.now (transcript_over t world)

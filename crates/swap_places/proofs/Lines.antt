@@ -1,7 +1,7 @@
 -- Numbers that stand once in a list, and the list without one of them.
 use Rattle.std.proofs.Common.{◌≡◌, ◌≢◌, ℕ, zero, suc, ◌+◌, ◌<◌, ◌≤◌, Bool, true, false, ◌||◌, ◌==◌, List, [], ◌∷◌, ◌++◌, length, sym, ap, refl, ◌∙◌, subst, arith, ⊎_elim, eq-eqb, ne_eqb, slice_get, Some, None}
 use Rattle.std.proofs.lemmas.Bool.{cases_eq, cases_Bool, cond-true, cond-false, eqb-false}
-use Rattle.swap_places.specs.Line.{EntersOne, LeavesOne, KeepsOnce, behind, stands, without, IsNoneOf, AreOnce, AreBelow}
+use Rattle.swap_places.specs.Line.{EntersOne, LeavesOne, KeepsOnce, number_behind, stands, without_number, IsNoneOf, AreOnce, AreBelow}
 
 or_true : (b : Bool) → (b || true) ≡ true
 or_true true = refl
@@ -69,66 +69,67 @@ below_push bound (x ∷ xs) k below lt = (below.0, below_push bound xs k below.1
 
 -- ---- the list without a number
 
-pub without_at : (xs ys : List ℕ) (k : ℕ) → IsNoneOf k xs → without k (xs ++ k ∷ ys) ≡ xs ++ ys
-without_at [] ys k none = cond-true (k == k) ys (k ∷ without k ys) (eq-eqb k k refl)
+pub without_at : (xs ys : List ℕ) (k : ℕ) → IsNoneOf k xs → without_number k (xs ++ k ∷ ys) ≡ xs ++ ys
+without_at [] ys k none = cond-true (k == k) ys (k ∷ without_number k ys) (eq-eqb k k refl)
 without_at (x ∷ xs) ys k none =
-    cond-false (x == k) (xs ++ k ∷ ys) (x ∷ without k (xs ++ k ∷ ys)) (ne_eqb x k (λ e. none.0 (sym e))) ∙ ap (λ zs. x ∷ zs) (without_at xs ys k none.1)
+    cond-false (x == k) (xs ++ k ∷ ys) (x ∷ without_number k (xs ++ k ∷ ys)) (ne_eqb x k (λ e. none.0 (sym e))) ∙ ap (λ zs. x ∷ zs) (without_at xs ys k none.1)
 
-pub none_without : (j k : ℕ) (xs : List ℕ) → IsNoneOf j xs → IsNoneOf j (without k xs)
+pub none_without : (j k : ℕ) (xs : List ℕ) → IsNoneOf j xs → IsNoneOf j (without_number k xs)
 none_without j k [] none = tt
 none_without j k (x ∷ xs) none =
     ⊎_elim
-    (λ (e : x == k ≡ true). subst (λ ys. IsNoneOf j ys) (sym (cond-true (x == k) xs (x ∷ without k xs) e)) none.1)
-    (λ (e : x == k ≡ false). subst (λ ys. IsNoneOf j ys) (sym (cond-false (x == k) xs (x ∷ without k xs) e)) (none.0, none_without j k xs none.1))
+    (λ (e : x == k ≡ true). subst (λ ys. IsNoneOf j ys) (sym (cond-true (x == k) xs (x ∷ without_number k xs) e)) none.1)
+    (λ (e : x == k ≡ false). subst (λ ys. IsNoneOf j ys) (sym (cond-false (x == k) xs (x ∷ without_number k xs) e)) (none.0, none_without j k xs none.1))
     (cases_Bool (x == k))
 
-pub once_without : (k : ℕ) (xs : List ℕ) → AreOnce xs → AreOnce (without k xs)
+pub once_without : (k : ℕ) (xs : List ℕ) → AreOnce xs → AreOnce (without_number k xs)
 once_without k [] once = tt
 once_without k (x ∷ xs) once =
     ⊎_elim
-    (λ (e : x == k ≡ true). subst (λ ys. AreOnce ys) (sym (cond-true (x == k) xs (x ∷ without k xs) e)) once.1)
+    (λ (e : x == k ≡ true). subst (λ ys. AreOnce ys) (sym (cond-true (x == k) xs (x ∷ without_number k xs) e)) once.1)
     (λ (e : x == k ≡ false).
-    subst (λ ys. AreOnce ys) (sym (cond-false (x == k) xs (x ∷ without k xs) e)) (none_without x k xs once.0, once_without k xs once.1))
+    subst (λ ys. AreOnce ys) (sym (cond-false (x == k) xs (x ∷ without_number k xs) e)) (none_without x k xs once.0, once_without k xs once.1))
     (cases_Bool (x == k))
 
-pub below_without : (bound k : ℕ) (xs : List ℕ) → AreBelow bound xs → AreBelow bound (without k xs)
+pub below_without : (bound k : ℕ) (xs : List ℕ) → AreBelow bound xs → AreBelow bound (without_number k xs)
 below_without bound k [] below = tt
 below_without bound k (x ∷ xs) below =
     ⊎_elim
-    (λ (e : x == k ≡ true). subst (λ ys. AreBelow bound ys) (sym (cond-true (x == k) xs (x ∷ without k xs) e)) below.1)
-    (λ (e : x == k ≡ false). subst (λ ys. AreBelow bound ys) (sym (cond-false (x == k) xs (x ∷ without k xs) e)) (below.0, below_without bound k xs below.1))
+    (λ (e : x == k ≡ true). subst (λ ys. AreBelow bound ys) (sym (cond-true (x == k) xs (x ∷ without_number k xs) e)) below.1)
+    (λ (e : x == k ≡ false). subst (λ ys. AreBelow bound ys) (sym (cond-false (x == k) xs (x ∷ without_number k xs) e))
+    (below.0, below_without bound k xs below.1))
     (cases_Bool (x == k))
 
 -- who left stands no more, and the others as before
-pub left_out : (k : ℕ) (xs : List ℕ) → AreOnce xs → stands (without k xs) k ≡ false
+pub left_out : (k : ℕ) (xs : List ℕ) → AreOnce xs → stands (without_number k xs) k ≡ false
 left_out k [] once = refl
 left_out k (x ∷ xs) once =
     ⊎_elim
-    (λ (e : x ≡ k). ap (λ ys. stands ys k) (cond-true (x == k) xs (x ∷ without k xs) (eq-eqb x k e)) ∙ out_of k xs (subst (λ y. IsNoneOf y xs) e once.0))
+    (λ (e : x ≡ k). ap (λ ys. stands ys k) (cond-true (x == k) xs (x ∷ without_number k xs) (eq-eqb x k e)) ∙ out_of k xs (subst (λ y. IsNoneOf y xs) e once.0))
     (λ (ne : x ≢ k).
-    ap (λ ys. stands ys k) (cond-false (x == k) xs (x ∷ without k xs) (ne_eqb x k ne)) ∙ ap (λ b. b || stands (without k xs) k) (ne_eqb x k ne)
+    ap (λ ys. stands ys k) (cond-false (x == k) xs (x ∷ without_number k xs) (ne_eqb x k ne)) ∙ ap (λ b. b || stands (without_number k xs) k) (ne_eqb x k ne)
     ∙ left_out k xs once.1)
     (cases_eq x k)
 
-pub others_stand : (j k : ℕ) (xs : List ℕ) → j ≢ k → stands (without k xs) j ≡ stands xs j
+pub others_stand : (j k : ℕ) (xs : List ℕ) → j ≢ k → stands (without_number k xs) j ≡ stands xs j
 others_stand j k [] ne = refl
 others_stand j k (x ∷ xs) ne =
     ⊎_elim
     (λ (e : x ≡ k).
     let apart : x ≢ j = λ same. ne (sym same ∙ e) in
-    ap (λ ys. stands ys j) (cond-true (x == k) xs (x ∷ without k xs) (eq-eqb x k e)) ∙ sym (ap (λ b. b || stands xs j) (ne_eqb x j apart)))
+    ap (λ ys. stands ys j) (cond-true (x == k) xs (x ∷ without_number k xs) (eq-eqb x k e)) ∙ sym (ap (λ b. b || stands xs j) (ne_eqb x j apart)))
     (λ (apart : x ≢ k).
-    ap (λ ys. stands ys j) (cond-false (x == k) xs (x ∷ without k xs) (ne_eqb x k apart)) ∙ ap (λ b. x == j || b) (others_stand j k xs ne))
+    ap (λ ys. stands ys j) (cond-false (x == k) xs (x ∷ without_number k xs) (ne_eqb x k apart)) ∙ ap (λ b. x == j || b) (others_stand j k xs ne))
     (cases_eq x k)
 
-pub length-without : (k : ℕ) (xs : List ℕ) → stands xs k ≡ true → length (without k xs) + 1 ≡ length xs
+pub length-without : (k : ℕ) (xs : List ℕ) → stands xs k ≡ true → length (without_number k xs) + 1 ≡ length xs
 length-without k [] in' = absurd (let h : false ≡ true = in' in cc)
 length-without k (x ∷ xs) in' =
     ⊎_elim
-    (λ (e : x ≡ k). ap (λ ys. length ys + 1) (cond-true (x == k) xs (x ∷ without k xs) (eq-eqb x k e)) ∙ omega arith)
+    (λ (e : x ≡ k). ap (λ ys. length ys + 1) (cond-true (x == k) xs (x ∷ without_number k xs) (eq-eqb x k e)) ∙ omega arith)
     (λ (ne : x ≢ k).
-    let rest : length (without k xs) + 1 ≡ length xs = length-without k xs (sym (ap (λ b. b || stands xs k) (ne_eqb x k ne)) ∙ in') in
-    ap (λ ys. length ys + 1) (cond-false (x == k) xs (x ∷ without k xs) (ne_eqb x k ne)) ∙ omega arith)
+    let rest : length (without_number k xs) + 1 ≡ length xs = length-without k xs (sym (ap (λ b. b || stands xs k) (ne_eqb x k ne)) ∙ in') in
+    ap (λ ys. length ys + 1) (cond-false (x == k) xs (x ∷ without_number k xs) (ne_eqb x k ne)) ∙ omega arith)
     (cases_eq x k)
 
 -- a number pushed to a list
@@ -149,9 +150,10 @@ no_more zero (x ∷ xs) once below = absurd (let lt : x < zero = below.0 in omeg
 no_more (suc bound) xs once below =
     ⊎_elim
     (λ (e : stands xs bound ≡ true).
-    let rest : length (without bound xs) ≤ bound =
-    no_more bound (without bound xs) (once_without bound xs once)
-    (below_less bound (without bound xs) (below_without (suc bound) bound xs below) (none_of bound (without bound xs) (left_out bound xs once))) in
+    let rest : length (without_number bound xs) ≤ bound =
+    no_more bound (without_number bound xs) (once_without bound xs once)
+    (below_less bound (without_number bound xs) (below_without (suc bound) bound xs below)
+    (none_of bound (without_number bound xs) (left_out bound xs once))) in
     omega (arith, length-without bound xs e))
     (λ (e : stands xs bound ≡ false). let rest : length xs ≤ bound = no_more bound xs once (below_less bound xs below (none_of bound xs e)) in omega arith)
     (cases_Bool (stands xs bound))
@@ -165,12 +167,12 @@ first_stands (x ∷ xs) k read = let same : x ≡ k = cc in ap (λ b. b || stand
 also_stands : (x k : ℕ) (xs : List ℕ) → stands xs k ≡ true → stands (x ∷ xs) k ≡ true
 also_stands x k xs in' = ap (λ b. x == k || b) in' ∙ or_true (x == k)
 
-pub next_stands : (xs : List ℕ) (k j : ℕ) → behind k xs ≡ Some j → stands xs j ≡ true
+pub next_stands : (xs : List ℕ) (k j : ℕ) → number_behind k xs ≡ Some j → stands xs j ≡ true
 next_stands [] k j read = absurd (let h : None ≡ Some j = read in cc)
 next_stands (x ∷ xs) k j read =
     ⊎_elim
-    (λ (e : x == k ≡ true). also_stands x j xs (first_stands xs j (sym (cond-true (x == k) (slice_get xs 0) (behind k xs) e) ∙ read)))
-    (λ (e : x == k ≡ false). also_stands x j xs (next_stands xs k j (sym (cond-false (x == k) (slice_get xs 0) (behind k xs) e) ∙ read)))
+    (λ (e : x == k ≡ true). also_stands x j xs (first_stands xs j (sym (cond-true (x == k) (slice_get xs 0) (number_behind k xs) e) ∙ read)))
+    (λ (e : x == k ≡ false). also_stands x j xs (next_stands xs k j (sym (cond-false (x == k) (slice_get xs 0) (number_behind k xs) e) ∙ read)))
     (cases_Bool (x == k))
 
 -- ---- the line after each call
@@ -191,7 +193,7 @@ enters_one (x ∷ xs) k j =
 pub leaves_one : LeavesOne
 leaves_one xs k j once =
     ⊎_elim
-    (λ (e : k ≡ j). ap (λ n. stands (without k xs) n) (sym e) ∙ left_out k xs once ∙ sym (cond-true (k == j) false (stands xs j) (eq-eqb k j e)))
+    (λ (e : k ≡ j). ap (λ n. stands (without_number k xs) n) (sym e) ∙ left_out k xs once ∙ sym (cond-true (k == j) false (stands xs j) (eq-eqb k j e)))
     (λ (ne : k ≢ j). others_stand j k xs (λ e. ne (sym e)) ∙ sym (cond-false (k == j) false (stands xs j) (ne_eqb k j ne)))
     (cases_eq k j)
 

@@ -2,7 +2,7 @@
 use Rattle.std.proofs.Common.{◌≡◌, ◌≢◌, ℕ, ◌+◌, ◌-◌, ◌<◌, ◌≤◌, true, false, not, ◌==◌, List, [], ◌∷◌, ◌++◌, length, get_or, set, slice_get, sym, ap, refl, ◌∙◌, subst, arith, ⊎_elim, length-set, length-append, get_or-set_same, get_or-set_other, eq-eqb, ne_eqb, Some, None}
 use Rattle.std.proofs.lemmas.Bool.{cases_eq, cases_Bool, cond-true, cond-false}
 use Rattle.std.proofs.lemmas.List.{get_or_default}
-use Rattle.swap_places.specs.Line.{stands, without, behind, IsNoneOf, AreOnce, AreBelow}
+use Rattle.swap_places.specs.Line.{stands, without_number, number_behind, IsNoneOf, AreOnce, AreBelow}
 use Rattle.swap_places.specs.Links.{IsChain, walk, numbers_in, IsLinked}
 use Rattle.swap_places.proofs.Lines.{no_more, none_of, none_below, Parts, parts_at, once_append, once_push, below_push, without_at, once_without, below_without, others_stand, length-without, stands_push, none_left, none_right}
 use Rattle.swap_places.proofs.Chains.{walk_along, length-walk, chain_parts, apart_from_last, apart_from_first, chain_entered, chain_left}
@@ -168,7 +168,7 @@ links_below after before bound count k s = (
 pub left :
     (after before : List ℕ) (bound count k p q : ℕ) → IsLinked after before bound count → stands (numbers_in after bound count) k ≡ true → p ≡ at before k
     → q ≡ at after k
-    → Makes (set (set after p q) k k) (set before q p) bound (count - 1) (without k (numbers_in after bound count))
+    → Makes (set (set after p q) k k) (set before q p) bound (count - 1) (without_number k (numbers_in after bound count))
 left after before bound count k p q is in' p_is q_is =
     let s : Stood after before bound count k = stood after before bound count k is in' in
     let lt : k < bound = stood_below after before bound count k s in
@@ -180,7 +180,7 @@ left after before bound count k p q is in' p_is q_is =
     let p_within : p < length after = subst (λ n. n < length after) (sym p_is) (omega (arith, near.1)) in
     let q_within : q < length before = subst (λ n. n < length before) (sym q_is) (omega (arith, near.0)) in
     let far : IsNoneOf bound (s.xs ++ k ∷ s.ys) = none_below bound bound (s.xs ++ k ∷ s.ys) s.below (omega arith) in
-    let rest : without k (numbers_in after bound count) ≡ s.xs ++ s.ys = ap (without k) s.whole ∙ without_at s.xs s.ys k s.none_front in
+    let rest : without_number k (numbers_in after bound count) ≡ s.xs ++ s.ys = ap (without_number k) s.whole ∙ without_at s.xs s.ys k s.none_front in
     let chain : IsChain (at (set (set after p q) k k)) (at (set before q p)) bound (s.xs ++ s.ys) bound =
     chain_left (at after) (at before) (at (set (set after p q) k k)) (at (set before q p)) bound s.xs k s.ys bound s.front s.back
     (λ j ne ne'. set_twice after p q k k j (λ e. ne (e ∙ p_is)) ne')
@@ -188,7 +188,7 @@ left after before bound count k p q is in' p_is q_is =
     (ap (at (set (set after p q) k k)) (sym p_is) ∙ set_first after p q k k p_k p_within ∙ q_is)
     (ap (at (set before q p)) (sym q_is) ∙ get_or-set_same before q p 0 q_within ∙ p_is)
     far s.once far in
-    makes (set (set after p q) k k) (set before q p) bound (count - 1) (without k (numbers_in after bound count))
+    makes (set (set after p q) k k) (set before q p) bound (count - 1) (without_number k (numbers_in after bound count))
     (omega (arith, length-without k (numbers_in after bound count) in', length-numbers after bound count))
     (subst (λ zs. IsChain (at (set (set after p q) k k)) (at (set before q p)) bound zs bound) (sym rest) chain)
     (once_without k (numbers_in after bound count) is.once)
@@ -221,10 +221,10 @@ stands_by after before bound count k is lt =
     (λ (e : stands (numbers_in after bound count) k ≡ false). ap not (eq-eqb (at after k) k (is.out k lt e)) ∙ sym e)
     (cases_Bool (stands (numbers_in after bound count) k))
 
-behind_at : (xs ys : List ℕ) (k : ℕ) → IsNoneOf k xs → behind k (xs ++ k ∷ ys) ≡ slice_get ys 0
-behind_at [] ys k none = cond-true (k == k) (slice_get ys 0) (behind k ys) (eq-eqb k k refl)
+behind_at : (xs ys : List ℕ) (k : ℕ) → IsNoneOf k xs → number_behind k (xs ++ k ∷ ys) ≡ slice_get ys 0
+behind_at [] ys k none = cond-true (k == k) (slice_get ys 0) (number_behind k ys) (eq-eqb k k refl)
 behind_at (x ∷ xs) ys k none =
-    cond-false (x == k) (slice_get (xs ++ k ∷ ys) 0) (behind k (xs ++ k ∷ ys)) (ne_eqb x k (λ e. none.0 (sym e))) ∙ behind_at xs ys k none.1
+    cond-false (x == k) (slice_get (xs ++ k ∷ ys) 0) (number_behind k (xs ++ k ∷ ys)) (ne_eqb x k (λ e. none.0 (sym e))) ∙ behind_at xs ys k none.1
 
 last_none :
     (after before : ℕ → ℕ) (k : ℕ) (ys : List ℕ) (bound : ℕ) → IsChain after before k ys bound → AreBelow bound ys → after k ≡ bound → slice_get ys 0 ≡ None
@@ -237,18 +237,18 @@ next_some after before k (y ∷ ys) bound chain ne = ap Some (sym chain.0)
 
 pub none_next :
     (after before : List ℕ) (bound count k : ℕ) → IsLinked after before bound count → stands (numbers_in after bound count) k ≡ true → at after k ≡ bound
-    → behind k (numbers_in after bound count) ≡ None
+    → number_behind k (numbers_in after bound count) ≡ None
 none_next after before bound count k is in' e =
     let s : Stood after before bound count k = stood after before bound count k is in' in
-    ap (behind k) s.whole ∙ behind_at s.xs s.ys k s.none_front
+    ap (number_behind k) s.whole ∙ behind_at s.xs s.ys k s.none_front
     ∙ last_none (at after) (at before) k s.ys bound s.back (below_right bound s.xs (k ∷ s.ys) s.below).1 e
 
 pub some_next :
     (after before : List ℕ) (bound count k : ℕ) → IsLinked after before bound count → stands (numbers_in after bound count) k ≡ true → at after k ≢ bound
-    → behind k (numbers_in after bound count) ≡ Some (at after k)
+    → number_behind k (numbers_in after bound count) ≡ Some (at after k)
 some_next after before bound count k is in' ne =
     let s : Stood after before bound count k = stood after before bound count k is in' in
-    ap (behind k) s.whole ∙ behind_at s.xs s.ys k s.none_front ∙ next_some (at after) (at before) k s.ys bound s.back ne
+    ap (number_behind k) s.whole ∙ behind_at s.xs s.ys k s.none_front ∙ next_some (at after) (at before) k s.ys bound s.back ne
 
 -- ---- the same of what the calls read
 
@@ -291,10 +291,10 @@ within after before bound count k numbers is line in' =
 pub leaves :
     (after before : List ℕ) (bound count k p q : ℕ) (numbers : List ℕ) → IsLinked after before bound count → numbers_in after bound count ≡ numbers
     → stands numbers k ≡ true → p ≡ get_or before k p → q ≡ get_or after k q
-    → Makes (set (set after p q) k k) (set before q p) bound (count - 1) (without k numbers)
+    → Makes (set (set after p q) k k) (set before q p) bound (count - 1) (without_number k numbers)
 leaves after before bound count k p q numbers is line in' read read' =
     let lt : k < bound = within after before bound count k numbers is line in' in
-    subst (λ xs. Makes (set (set after p q) k k) (set before q p) bound (count - 1) (without k xs)) line
+    subst (λ xs. Makes (set (set after p q) k k) (set before q p) bound (count - 1) (without_number k xs)) line
     (left after before bound count k p q is (ap (λ xs. stands xs k) line ∙ in') (link_read before bound k p is.before_fits (omega arith) read)
     (link_read after bound k q is.after_fits (omega arith) read'))
 

@@ -14,14 +14,14 @@ stands [] k = false
 stands (x ∷ xs) k = x == k || stands xs k
 
 -- the line without a number
-abbrev pub without : ℕ → List ℕ → List ℕ
-without k [] = []
-without k (x ∷ xs) = if x == k then xs else x ∷ without k xs
+abbrev pub without_number : ℕ → List ℕ → List ℕ
+without_number k [] = []
+without_number k (x ∷ xs) = if x == k then xs else x ∷ without_number k xs
 
 -- who stands next behind a number
-abbrev pub behind : ℕ → List ℕ → Option ℕ
-behind k [] = None
-behind k (x ∷ xs) = if x == k then slice_get xs 0 else behind k xs
+abbrev pub number_behind : ℕ → List ℕ → Option ℕ
+number_behind k [] = None
+number_behind k (x ∷ xs) = if x == k then slice_get xs 0 else number_behind k xs
 
 -- a number is none of these
 abbrev pub IsNoneOf : ℕ → List ℕ → Type 0
@@ -48,9 +48,9 @@ EntersOne = (numbers : List ℕ) (k j : ℕ) → stands (numbers ++ k ∷ []) j 
 abbrev pub LeavesOne : Type 0
 LeavesOne =
     (numbers : List ℕ) (k j : ℕ) → AreOnce numbers
-    → stands (without k numbers) j ≡ (if k == j then false else stands numbers j)
+    → stands (without_number k numbers) j ≡ (if k == j then false else stands numbers j)
 
 abbrev pub KeepsOnce : Type 0
 KeepsOnce =
     (numbers : List ℕ) (k : ℕ) → AreOnce numbers
-    → AreOnce (without k numbers) × (stands numbers k ≡ false → AreOnce (numbers ++ k ∷ []))
+    → AreOnce (without_number k numbers) × (stands numbers k ≡ false → AreOnce (numbers ++ k ∷ []))

@@ -3,7 +3,7 @@
 #![tactic(auto)]
 
 ghost use Rattle.std.specs.Prelude.{◌≡◌, ℕ, ◌+◌, ◌<◌, ◌≤◌, ◌∷◌, ◌++◌, [], true, false, length, slice_get, vec_len, IfOk, IfSome};
-ghost use Rattle.swap_places.specs.Line.{empty_line, stands, without, behind, IsLine, EntersOne, LeavesOne, KeepsOnce};
+ghost use Rattle.swap_places.specs.Line.{empty_line, stands, without_number, number_behind, IsLine, EntersOne, LeavesOne, KeepsOnce};
 ghost use Rattle.swap_places.specs.Links.{IsOwn};
 
 use std::alloc::Global;
@@ -99,7 +99,7 @@ impl Line {
     /// The number that entered next after this one, of those that stand in the line.
     pub fn next(&self, number: u32) -> Option<u32>
         requires { stands self.now.numbers number ≡ true }
-        ensures number { result ≡ behind number self.now.numbers }
+        ensures number { result ≡ number_behind number self.now.numbers }
         ensures stands { IfSome result (λ (next : ℕ). stands self.now.numbers next ≡ true) }
     {
         let next = self.after[number as usize];
@@ -125,7 +125,7 @@ impl Line {
     /// A number leaves, wherever it stands.
     pub fn leave(&mut self, number: u32)
         requires { stands self.old.numbers number ≡ true }
-        ensures numbers { self.new.numbers ≡ without number self.old.numbers }
+        ensures numbers { self.new.numbers ≡ without_number number self.old.numbers }
         ensures bound { self.new.bound ≡ self.old.bound }
     {
         let after = self.after[number as usize];

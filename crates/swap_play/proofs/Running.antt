@@ -10,14 +10,14 @@ use Rattle.swap_wire.specs.declared.Seen.{Seen}
 use Rattle.swap_wire.specs.Fabric.{FabricOf}
 use Rattle.swap_wire.specs.declared.fabric.Fabric.{Ghosts as FabricMeaning}
 use Rattle.swap_disk.specs.declared.port.DiskPort.{Ghosts as DiskMeaning}
-use Rattle.swap_slabs.specs.Slabs.{mapped}
-use Rattle.swap_table.specs.Device.{Device, new, disk_take, of_device}
+use Rattle.swap_slabs.specs.Slabs.{mapped_count}
+use Rattle.swap_table.specs.Device.{Device, device_at_start, disk_take, of_device}
 use Rattle.swap_table.specs.Happens.{see_disk}
 use Rattle.swap_table.specs.Ports.{Along}
 use Rattle.swap_table.specs.declared.DiskStep.{DiskStep}
 use Rattle.swap_table.specs.Promises.{FollowsItsMoves, Promises}
 use Rattle.swap_world.specs.World.{IsStep, IsEvent}
-use Rattle.swap_world.specs.Rounds.{round_plan, rounded, AlongPlan}
+use Rattle.swap_world.specs.Rounds.{round_plan, round_seen, AlongPlan}
 use Rattle.swap_world.specs.Runs.{IsRun, effect, without, polled, has_effect, event_of, made_with, Written, Alone, Together, written_with, HasParts, made_of, logged_of}
 use Rattle.swap_world.specs.Laws.{Began}
 use Rattle.swap_world.proofs.Effects.{comes_to_stays}
@@ -41,7 +41,7 @@ polled_parts written (Some e) s parts = (tt, parts)
 module _ {D F : Type 0} (disk : DiskMeaning D) (follows : FollowsItsMoves disk) (fabric : FabricMeaning F) (laws : Promises fabric) (s : Sizes) (n : ℕ)
     (first : D) (first_fabric : F) (began : Began disk fabric s n first first_fabric) where
   abbrev To : List (Event × Seen) → Device → D → F → Type 0
-  To log d k f = RunsTo disk.moves fabric.moves (new s n) first first_fabric log d k f
+  To log d k f = RunsTo disk.moves fabric.moves (device_at_start s n) first first_fabric log d k f
 
   known_of : (log : List (Event × Seen)) (d : Device) (k : D) (f : F) → To log d k f → of_device d ≡ record { sizes = s; lenders = n }
   known_of log d k f r = (run_known disk follows fabric laws s n first first_fabric began (made_of r.written) d k f r.run).is
@@ -58,7 +58,7 @@ module _ {D F : Type 0} (disk : DiskMeaning D) (follows : FollowsItsMoves disk) 
   stepped log d k f i v d' k' f' false has range step r =
       let stays : d' ≡ d = comes_to_stays d d' i.page i.event v (step_comes disk.moves fabric.moves d d' k k' f f' i v step) has in
       let P : Device → Type 0 = λ x. IsStep disk.moves fabric.moves d k f i v x k' f' in
-      let Q : Device → Type 0 = λ x. IsRun disk.moves fabric.moves (new s n) first first_fabric (made_of r.written) x k' f' in
+      let Q : Device → Type 0 = λ x. IsRun disk.moves fabric.moves (device_at_start s n) first first_fabric (made_of r.written) x k' f' in
       record {
         written = r.written;
         parts = r.parts;
@@ -69,21 +69,21 @@ module _ {D F : Type 0} (disk : DiskMeaning D) (follows : FollowsItsMoves disk) 
   rounds :
       (log : List (Event × Seen)) (d : Device) (k : D) (f : F) (word effects : ℕ) (d' : Device) (k' : D) (f' : F)
       → AlongPlan disk.moves fabric.moves (round_plan d.sizes d.lenders word) d k f d' k' f' effects → To log d k f
-      → To (log ++ (event.Round word, rounded d' effects) ∷ []) d' k' f'
+      → To (log ++ (event.Round word, round_seen d' effects) ∷ []) d' k' f'
   rounds log d k f word effects d' k' f' along r =
       let P : FabricOf → Type 0 = λ x. AreParts x.sizes x.lenders (round_plan d.sizes d.lenders word) in
       let parts = subst P (known_of log d k f r) (round_parts d.sizes d.lenders word) in
-      let ran : Ran disk.moves fabric.moves (new s n) first first_fabric (made_of r.written) d' k' f' (effects + 0) =
-      plan_runs disk.moves fabric.moves (new s n) first first_fabric (made_of r.written) []
+      let ran : Ran disk.moves fabric.moves (device_at_start s n) first first_fabric (made_of r.written) d' k' f' (effects + 0) =
+      plan_runs disk.moves fabric.moves (device_at_start s n) first first_fabric (made_of r.written) []
       (round_plan d.sizes d.lenders word) d d' k k' f f' effects parts tt r.run along in
       let count : length ran.inner ≡ effects = let m = ran.counted in omega (arith, m) in
       record {
-        written = Together word (mapped d'.remote.slabs) ran.inner ∷ r.written;
+        written = Together word (mapped_count d'.remote.slabs) ran.inner ∷ r.written;
         parts = (ran.parts, r.parts);
         run = ran.run;
         logged =
-            ap (λ l. l ++ (event.Round word, rounded d' effects) ∷ []) r.logged
-            ∙ ap (λ m. logged_of r.written ++ (event.Round word, rounded d' m) ∷ []) (sym count);
+            ap (λ l. l ++ (event.Round word, round_seen d' effects) ∷ []) r.logged
+            ∙ ap (λ m. logged_of r.written ++ (event.Round word, round_seen d' m) ∷ []) (sym count);
       }
 
   acts_once :
@@ -106,7 +106,7 @@ module _ {D F : Type 0} (disk : DiskMeaning D) (follows : FollowsItsMoves disk) 
     written = written_with (event_of step) (see_disk step) r.written;
     parts = polled_parts r.written (event_of step) (see_disk step) r.parts;
     run =
-        let P : List (Input × Seen) → Type 0 = λ made. IsRun disk.moves fabric.moves (new s n) first first_fabric made d' k' f' in
+        let P : List (Input × Seen) → Type 0 = λ made. IsRun disk.moves fabric.moves (device_at_start s n) first first_fabric made d' k' f' in
         subst P (sym (polled_made r.written (event_of step) (see_disk step))) (polled step d' k' f' r.run along);
     logged = ap (λ l. l ++ line_with (event_of step) (see_disk step)) r.logged ∙ polled_logged r.written (event_of step) (see_disk step);
   }

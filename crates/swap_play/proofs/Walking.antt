@@ -8,7 +8,7 @@ use Rattle.swap_wire.specs.declared.Event.{Event}
 use Rattle.swap_wire.specs.declared.Event.TheVariants as event
 use Rattle.swap_record.specs.History.{History, Row}
 use Rattle.swap_script.specs.Reading as reading
-use Rattle.swap_script.specs.Reading.{Script, first_event, page_after, later, is_out}
+use Rattle.swap_script.specs.Reading.{Script, first_event, page_after, without_first, is_out}
 use Rattle.swap_board.specs.Boards.{IsAnswered}
 use Rattle.swap_play.specs.Callers.{AreCallsOf, PlaysOne, Plays}
 
@@ -21,7 +21,7 @@ answered_page e page before row a = absurd a
 abbrev Own : Caller → List Input → Type 0
 Own c is = AllByRecursion (λ (i : Input). reading.is_call_of c i.event ≡ true) is
 
-pub next_left : (s : Sizes) (lenders : ℕ) (c : Caller) (left : Script) → AreCallsOf s lenders c left → AreCallsOf s lenders c (later left)
+pub next_left : (s : Sizes) (lenders : ℕ) (c : Caller) (left : Script) → AreCallsOf s lenders c left → AreCallsOf s lenders c (without_first left)
 next_left s lenders c left are = record { sizes = are.sizes; has = are.has; own = go left.inputs are.own }
   where
     go : (is : List Input) → Own c is → Own c (drop 1 is)
@@ -31,7 +31,7 @@ next_left s lenders c left are = record { sizes = are.sizes; has = are.has; own 
 -- a call that was answered stands in front of those that are left
 pub next_plays :
     (left : Script) (e : Event) (page page' : List ℕ) (before now end : History) → first_event left.inputs ≡ Some e → page' ≡ page_after left.inputs page
-    → PlaysOne e page' before now → Plays (later left).inputs now end → Plays left.inputs before end
+    → PlaysOne e page' before now → Plays (without_first left).inputs now end → Plays left.inputs before end
 next_plays left e page page' before now end is handed one more = go left.inputs is handed more
   where
     go : (is : List Input) → first_event is ≡ Some e → page' ≡ page_after is page → Plays (drop 1 is) now end → Plays is before end

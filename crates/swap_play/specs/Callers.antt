@@ -12,7 +12,7 @@ use Rattle.swap_script.specs.Reading as reading
 use Rattle.swap_script.specs.Reading.{Script}
 use Rattle.swap_trace.specs.Traces.{calls_in}
 use Rattle.swap_world.specs.Answered.{is_call_of}
-use Rattle.swap_turn.specs.Standing.{LockId, Standing, IsFreeOf, newcomer}
+use Rattle.swap_turn.specs.PassView.{LockId, PassView, IsFreeOf, pass_at_start}
 use Rattle.swap_turn.specs.Turns.{entries_of, numbers_from}
 use Rattle.swap_board.specs.Boards.{IsAnswered}
 use Rattle.swap_player.specs.declared.paging.SwapFault.{SwapFault}
@@ -45,7 +45,7 @@ caller n = record { 0 = n }
 
 -- What a thread leaves: its pass, without a turn; and where it is a caller's and says so, each of its calls has its
 -- entry.
-pub record IsOver (lock : LockId) (t : Script) (p : Standing) (over : Standing × Bool) : Type 0 where
+pub record IsOver (lock : LockId) (t : Script) (p : PassView) (over : PassView × Bool) : Type 0 where
   pub free : IsFreeOf lock over.0
   pub number : over.0.number ≡ p.number
   pub plays :
@@ -61,9 +61,9 @@ calls_logged c ((e, s) ∷ log) = if is_call_of c e then e ∷ calls_logged c lo
 
 -- the passes of all seats, as they are given over an empty history: of the callers, the operator, the disk and each
 -- lender
-pub record AreSeats (lock : LockId) (s : Sizes) (lenders : ℕ) (ps : List Standing) : Type 0 where
+pub record AreSeats (lock : LockId) (s : Sizes) (lenders : ℕ) (ps : List PassView) : Type 0 where
   pub free : All (IsFreeOf lock) ps
-  pub newcomers : ps ≡ map (newcomer lock []) (numbers_from 0 (s.callers + lenders + 2))
+  pub newcomers : ps ≡ map (pass_at_start lock []) (numbers_from 0 (s.callers + lenders + 2))
 
 -- each caller's calls have their entries in a history, one by one and in order, and it has no others
 abbrev pub HavePlayed : Script → History → Type 0

@@ -4,7 +4,7 @@ use Rattle.swap_wire.specs.declared.Seen.{Seen}
 use Rattle.swap_wire.specs.declared.Event.TheVariants as event
 use Rattle.swap_disk.specs.Port.{DiskCall, DiskAnswer}
 use Rattle.swap_wire.specs.Fabric.{FabricCall, FabricAnswer}
-use Rattle.swap_world.specs.Runs.{WorldOf, has_effect}
+use Rattle.swap_world.specs.Runs.{WorldView, has_effect}
 use Rattle.swap_board.specs.Acts.{Act, Made, Operator}
 use Rattle.swap_board.specs.Works.{Works}
 
@@ -21,14 +21,14 @@ pub data AreConnects : ℕ → List Act → Type 0 where
 
 -- the first so many lenders were connected, and nothing else was done
 pub record Connects {D F : Type 0} (disk_moves : D → (c : DiskCall) → DiskAnswer c → D → Type 0)
-    (moves : F → (c : FabricCall) → FabricAnswer c → F → Type 0) (n : ℕ) (first w : WorldOf D F) : Type 0 where
+    (moves : F → (c : FabricCall) → FabricAnswer c → F → Type 0) (n : ℕ) (first w : WorldView D F) : Type 0 where
   pub acts : List Act
   pub are : AreConnects n acts
   pub works : Works disk_moves moves acts first w
 
 -- so of one lender
 pub record ConnectsOne {D F : Type 0} (disk_moves : D → (c : DiskCall) → DiskAnswer c → D → Type 0)
-    (moves : F → (c : FabricCall) → FabricAnswer c → F → Type 0) (n : ℕ) (w w' : WorldOf D F) : Type 0 where
+    (moves : F → (c : FabricCall) → FabricAnswer c → F → Type 0) (n : ℕ) (w w' : WorldView D F) : Type 0 where
   pub page : List ℕ
   pub seen : Seen
   pub has : has_effect (event.Connect (record { 0 = n })) seen ≡ true

@@ -8,7 +8,7 @@ use Rattle.swap_disk.specs.Port.{DiskCall, DiskAnswer}
 use Rattle.swap_disk.specs.declared.port.DiskPort.{Ghosts as DiskMeaning}
 use Rattle.swap_wire.specs.Fabric.{FabricCall, FabricAnswer}
 use Rattle.swap_wire.specs.declared.fabric.Fabric.{Ghosts as FabricMeaning}
-use Rattle.swap_table.specs.Device.{Device, new}
+use Rattle.swap_table.specs.Device.{Device, device_at_start}
 use Rattle.swap_world.specs.Runs.{IsRun, Written, HasParts, made_of, logged_of}
 use Rattle.swap_world.specs.Laws.{Began}
 use Rattle.swap_board.specs.Acts.{Act, IsActed, lines_of}
@@ -28,6 +28,6 @@ ActsAreRuns {D} {F} disk fabric =
     (s : Sizes) (n : ℕ) (first : D) (first_fabric : F) (log : List (Event × Seen)) (d : Device) (k : D) (f : F)
     (acts : List Act) (d' : Device) (k' : D) (f' : F)
     → Began disk fabric s n first first_fabric
-    → RunsTo disk.moves fabric.moves (new s n) first first_fabric log d k f
+    → RunsTo disk.moves fabric.moves (device_at_start s n) first first_fabric log d k f
     → IsActed disk.moves fabric.moves d k f acts d' k' f'
-    → RunsTo disk.moves fabric.moves (new s n) first first_fabric (log ++ lines_of acts) d' k' f'
+    → RunsTo disk.moves fabric.moves (device_at_start s n) first first_fabric (log ++ lines_of acts) d' k' f'

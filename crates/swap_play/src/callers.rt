@@ -4,7 +4,7 @@ ghost use Rattle.swap_wire.specs.Input.{IsInRange};
 ghost use Rattle.swap_script.specs.Reading.{is_call_of};
 ghost use Rattle.swap_trace.specs.Traces.{calls_in};
 ghost use Rattle.swap_board.specs.Works.{IsPoint};
-ghost use Rattle.swap_turn.specs.Standing.{IsFreeOf};
+ghost use Rattle.swap_turn.specs.PassView.{IsFreeOf};
 ghost use Rattle.swap_play.specs.Callers.{AreCallsOf, IsOver, Plays, PlaysOne, caller, is_answer};
 
 use std::alloc::Global;

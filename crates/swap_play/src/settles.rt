@@ -1,7 +1,7 @@
 // How a trace ends, when its threads have: what is left in the queue and on the links goes where it
 // has to.
 ghost use Rattle.std.specs.Prelude.{◌≡◌, ◌<◌, Ok, OnOk, false, true};
-ghost use Rattle.swap_board.specs.Boards.{BoardOf};
+ghost use Rattle.swap_board.specs.Boards.{BoardView};
 ghost use Rattle.swap_board.specs.Works.{IsPoint, PumpsAs};
 ghost use Rattle.swap_board.specs.declared.works.Moved.TheVariants as moved;
 ghost use Rattle.swap_world.specs.Failures.{is_write_failed};

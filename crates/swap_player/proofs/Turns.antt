@@ -7,7 +7,7 @@ use Rattle.swap_wire.specs.declared.Event.{Event}
 use Rattle.swap_wire.specs.declared.Event.TheVariants as event
 use Rattle.swap_record.specs.History.{History, Row}
 use Rattle.swap_turn.specs.Turns.{IsEarlier, Extends, added_since}
-use Rattle.swap_turn.specs.Standing.{Standing, after_turn}
+use Rattle.swap_turn.specs.PassView.{PassView, after_turn}
 use Rattle.swap_board.specs.Boards.{IsCall, IsAnswered}
 use Rattle.swap_player.specs.declared.paging.SwapFault.{SwapFault}
 use Rattle.swap_player.specs.declared.paging.SwapFault.TheVariants as fault
@@ -51,40 +51,40 @@ added_none : (n : ℕ) (H : History) → take (n - n) H ≡ []
 added_none n H = let none : n - n ≡ 0 = omega arith in ap (λ m. take m H) none
 
 one_turned :
-    (e : Event) (page : List ℕ) (ended : Ended) (p h q : Standing) (now : History) → IsEarlier p.seen h.seen → h.mine ≡ p.mine → q ≡ after_turn h now
+    (e : Event) (page : List ℕ) (ended : Ended) (p h q : PassView) (now : History) → IsEarlier p.seen h.seen → h.mine ≡ p.mine → q ≡ after_turn h now
     → AddsOne e page ended h.seen now → Answered e page ended p q
 one_turned e page ended p h q now earlier mine is a = record {
   row = a.row;
   earlier = h.seen;
-  seen = ap (λ (x : Standing). x.seen) is ∙ a.grown;
+  seen = ap (λ (x : PassView). x.seen) is ∙ a.grown;
   since = earlier;
   answers = a.answers;
   tells = a.tells;
   mine =
       let added : added_since h.seen now ≡ a.row ∷ [] = ap (λ l. added_since h.seen l) a.grown ∙ added_one (length h.seen) a.row h.seen in
-      ap (λ (x : Standing). x.mine) is ∙ ap (λ l. l ++ h.mine) added ∙ ap (λ l. a.row ∷ l) mine;
+      ap (λ (x : PassView). x.mine) is ∙ ap (λ l. l ++ h.mine) added ∙ ap (λ l. a.row ∷ l) mine;
 }
 
-pub none_turned : (p h q : Standing) (now : History) → IsEarlier p.seen h.seen → h.mine ≡ p.mine → q ≡ after_turn h now → now ≡ h.seen → Looked p q
+pub none_turned : (p h q : PassView) (now : History) → IsEarlier p.seen h.seen → h.mine ≡ p.mine → q ≡ after_turn h now → now ≡ h.seen → Looked p q
 none_turned p h q now earlier mine is same =
     let added : added_since h.seen now ≡ [] = ap (λ l. added_since h.seen l) same ∙ added_none (length h.seen) h.seen in
-    let now_seen : q.seen ≡ h.seen = ap (λ (x : Standing). x.seen) is ∙ same in (
+    let now_seen : q.seen ≡ h.seen = ap (λ (x : PassView). x.seen) is ∙ same in (
       subst (IsEarlier p.seen) (sym now_seen) earlier,
-      ap (λ (x : Standing). x.mine) is ∙ ap (λ l. l ++ h.mine) added ∙ mine,
+      ap (λ (x : PassView). x.mine) is ∙ ap (λ l. l ++ h.mine) added ∙ mine,
     )
 
 by_turned :
-    (calls callers : ℕ) (e : Event) (page : List ℕ) (ended : Ended) (answer : Result EntryNo SwapFault) (p h q : Standing) (now : History)
+    (calls callers : ℕ) (e : Event) (page : List ℕ) (ended : Ended) (answer : Result EntryNo SwapFault) (p h q : PassView) (now : History)
     → IsEarlier p.seen h.seen → h.mine ≡ p.mine → q ≡ after_turn h now → EndsBy calls callers e page ended answer h.seen now
     → PagesBy calls callers e page ended answer p q
 by_turned calls callers e page ended (Ok k) p h q now earlier mine is a = one_turned e page ended p h q now earlier mine is a
 by_turned calls callers e page ended (Err (fault.Disk k since at)) p h q now earlier mine is a = one_turned e page ended p h q now earlier mine is a
 by_turned calls callers e page ended (Err fault.Spent) p h q now earlier mine is a =
-    (none_turned p h q now earlier mine is a.0, subst (IsSpent calls callers) (sym (ap (λ (x : Standing). x.seen) is)) a.1)
+    (none_turned p h q now earlier mine is a.0, subst (IsSpent calls callers) (sym (ap (λ (x : PassView). x.seen) is)) a.1)
 by_turned calls callers e page ended (Err fault.NoMemory) p h q now earlier mine is a = none_turned p h q now earlier mine is a
 
 pub turns :
-    (calls callers : ℕ) (e : Event) (page : List ℕ) (ended : Option Ended) (p h q : Standing) (now : History) → IsEarlier p.seen h.seen → h.mine ≡ p.mine
+    (calls callers : ℕ) (e : Event) (page : List ℕ) (ended : Option Ended) (p h q : PassView) (now : History) → IsEarlier p.seen h.seen → h.mine ≡ p.mine
     → q ≡ after_turn h now → Ends calls callers e page ended h.seen now → Turns calls callers e page ended p q
 turns calls callers e page None p h q now earlier mine is same = none_turned p h q now earlier mine is same
 turns calls callers e page (Some ended) p h q now earlier mine is ends = by_turned calls callers e page ended ended.answer p h q now earlier mine is ends
@@ -93,13 +93,13 @@ earlier_still : (before now later : History) → IsEarlier before now → IsEarl
 earlier_still before now later a b =
     record { later = b.later ++ a.later; whole = append_assoc b.later a.later before ∙ ap (λ l. b.later ++ l) a.whole ∙ b.whole }
 
-pub looked_still : (p q r : Standing) → Looked p q → Looked q r → Looked p r
+pub looked_still : (p q r : PassView) → Looked p q → Looked q r → Looked p r
 looked_still p q r first later = (earlier_still p.seen q.seen r.seen first.0 later.0, later.1 ∙ first.1)
 
-pub looked_self : (p : Standing) → Looked p p
+pub looked_self : (p : PassView) → Looked p p
 looked_self p = (record { later = []; whole = refl }, refl)
 
-answered_after : (e : Event) (page : List ℕ) (ended : Ended) (p q r : Standing) → Looked p q → Answered e page ended q r → Answered e page ended p r
+answered_after : (e : Event) (page : List ℕ) (ended : Ended) (p q r : PassView) → Looked p q → Answered e page ended q r → Answered e page ended p r
 answered_after e page ended p q r first a = record {
   row = a.row;
   earlier = a.earlier;
@@ -111,7 +111,7 @@ answered_after e page ended p q r first a = record {
 }
 
 pages_after :
-    (calls callers : ℕ) (e : Event) (page : List ℕ) (ended : Ended) (answer : Result EntryNo SwapFault) (p q r : Standing) → Looked p q
+    (calls callers : ℕ) (e : Event) (page : List ℕ) (ended : Ended) (answer : Result EntryNo SwapFault) (p q r : PassView) → Looked p q
     → PagesBy calls callers e page ended answer q r → PagesBy calls callers e page ended answer p r
 pages_after calls callers e page ended (Ok k) p q r first a = answered_after e page ended p q r first a
 pages_after calls callers e page ended (Err (fault.Disk k since at)) p q r first a = answered_after e page ended p q r first a
@@ -119,7 +119,7 @@ pages_after calls callers e page ended (Err fault.Spent) p q r first a = (looked
 pages_after calls callers e page ended (Err fault.NoMemory) p q r first a = looked_still p q r first a
 
 pub turns_after :
-    (calls callers : ℕ) (e : Event) (page : List ℕ) (ended : Option Ended) (p q r : Standing) → Looked p q → Turns calls callers e page ended q r
+    (calls callers : ℕ) (e : Event) (page : List ℕ) (ended : Option Ended) (p q r : PassView) → Looked p q → Turns calls callers e page ended q r
     → Turns calls callers e page ended p r
 turns_after calls callers e page None p q r first a = looked_still p q r first a
 turns_after calls callers e page (Some ended) p q r first a = pages_after calls callers e page ended ended.answer p q r first a

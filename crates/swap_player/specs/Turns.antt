@@ -9,18 +9,18 @@ use Rattle.swap_wire.specs.declared.Seen.{Seen}
 use Rattle.swap_record.specs.declared.Entry.{Entry}
 use Rattle.swap_record.specs.declared.Op.{Op}
 use Rattle.swap_record.specs.declared.Op.TheVariants as op
-use Rattle.swap_record.specs.History.{History, Row, next_name, named}
+use Rattle.swap_record.specs.History.{History, Row, next_name, row_named}
 use Rattle.swap_calls.specs.Calls.{Call}
 use Rattle.swap_calls.specs.declared.CallState.TheVariants.{Room, Reading}
 use Rattle.swap_calls.specs.declared.Arrived.{Arrived}
 use Rattle.swap_base.specs.declared.Via.{Via}
 use Rattle.swap_device.specs.State.{GivesLast}
 use Rattle.swap_turn.specs.Turns.{IsEarlier}
-use Rattle.swap_turn.specs.Standing.{Standing}
-use Rattle.swap_world.specs.Runs.{WorldOf, entry_seen}
+use Rattle.swap_turn.specs.PassView.{PassView}
+use Rattle.swap_world.specs.Runs.{WorldView, entry_seen}
 use Rattle.swap_wire.specs.Fabric.{FabricCall, FabricAnswer}
 use Rattle.swap_disk.specs.Port.{DiskCall, DiskAnswer}
-use Rattle.swap_board.specs.Boards.{Named, BoardOf, WasPlayed, IsAnswered}
+use Rattle.swap_board.specs.Boards.{Named, BoardView, WasPlayed, IsAnswered}
 use Rattle.swap_player.specs.declared.paging.SwapFault.{SwapFault}
 use Rattle.swap_player.specs.declared.paging.SwapFault.TheVariants as fault
 use Rattle.swap_player.specs.declared.paging.Ended.{Ended}
@@ -42,7 +42,7 @@ ended_without why = record { answer = Err why; number = 0 }
 abbrev pub IsEnded : History → Seen → Option Ended → Type 0
 IsEnded H s ended =
     MatchOption (entry_seen s) (ended ≡ None)
-    (λ (k : EntryNo). (row : Row) × (named H k.0 ≡ Some row) × (ended ≡ Some (ended_of k row.entry)))
+    (λ (k : EntryNo). (row : Row) × (row_named H k.0 ≡ Some row) × (ended ≡ Some (ended_of k row.entry)))
 
 -- the caller of a call
 abbrev pub caller_of : Event → Caller
@@ -86,7 +86,7 @@ Ends calls callers e page None before now = now ≡ before
 Ends calls callers e page (Some ended) before now = EndsBy calls callers e page ended ended.answer before now
 
 -- the pass has this call's entry more, which is the last that it has seen
-pub record Answered (e : Event) (page : List ℕ) (ended : Ended) (p q : Standing) : Type 0 where
+pub record Answered (e : Event) (page : List ℕ) (ended : Ended) (p q : PassView) : Type 0 where
   pub row : Row
   pub earlier : History
   pub seen : q.seen ≡ row ∷ earlier
@@ -96,28 +96,28 @@ pub record Answered (e : Event) (page : List ℕ) (ended : Ended) (p q : Standin
   pub mine : q.mine ≡ row ∷ p.mine
 
 -- the pass has no entry more, and has seen no less
-abbrev pub Looked : Standing → Standing → Type 0
+abbrev pub Looked : PassView → PassView → Type 0
 Looked p q = IsEarlier p.seen q.seen × (q.mine ≡ p.mine)
 
 -- what a call does to its pass
-abbrev pub PagesBy : ℕ → ℕ → Event → List ℕ → Ended → Result EntryNo SwapFault → Standing → Standing → Type 0
+abbrev pub PagesBy : ℕ → ℕ → Event → List ℕ → Ended → Result EntryNo SwapFault → PassView → PassView → Type 0
 PagesBy calls callers e page ended (Ok k) p q = Answered e page ended p q
 PagesBy calls callers e page ended (Err (fault.Disk k since at)) p q = Answered e page ended p q
 PagesBy calls callers e page ended (Err fault.Spent) p q = Looked p q × IsSpent calls callers q.seen
 PagesBy calls callers e page ended (Err fault.NoMemory) p q = Looked p q
 
-abbrev pub Pages : ℕ → ℕ → Event → List ℕ → Ended → Standing → Standing → Type 0
+abbrev pub Pages : ℕ → ℕ → Event → List ℕ → Ended → PassView → PassView → Type 0
 Pages calls callers e page ended p q = PagesBy calls callers e page ended ended.answer p q
 
 -- so of its answer alone
 pub record PagesAs (calls callers : ℕ) (e : Event) (page : List ℕ) (answer : Result EntryNo SwapFault)
-    (p q : Standing) : Type 0 where
+    (p q : PassView) : Type 0 where
   pub ended : Ended
   pub is : answer ≡ ended.answer
   pub pages : Pages calls callers e page ended p q
 
 -- and what a turn of it does
-abbrev pub Turns : ℕ → ℕ → Event → List ℕ → Option Ended → Standing → Standing → Type 0
+abbrev pub Turns : ℕ → ℕ → Event → List ℕ → Option Ended → PassView → PassView → Type 0
 Turns calls callers e page None p q = Looked p q
 Turns calls callers e page (Some ended) p q = Pages calls callers e page ended p q
 
@@ -132,7 +132,7 @@ Gives (Some ended) H before given = GivesBy ended.answer H before given
 
 -- a world that was under the lock: acts led to it from the one that was handed in
 pub record IsPlayed {D F : Type 0} (disk_moves : D → (c : DiskCall) → DiskAnswer c → D → Type 0)
-    (moves : F → (c : FabricCall) → FabricAnswer c → F → Type 0) (n : Named D F) (w : WorldOf D F) : Type 0 where
-  pub board : BoardOf D F
+    (moves : F → (c : FabricCall) → FabricAnswer c → F → Type 0) (n : Named D F) (w : WorldView D F) : Type 0 where
+  pub board : BoardView D F
   pub world : w ≡ board.world
   pub played : WasPlayed disk_moves moves n board

@@ -4,7 +4,7 @@ ghost use Rattle.swap_wire.specs.Input.{IsInRange};
 ghost use Rattle.swap_calls.specs.Calls.{call_of, is_idle};
 ghost use Rattle.swap_world.specs.Runs.{StandsIn};
 ghost use Rattle.swap_board.specs.Boards.{IsCall, IsOfIdle};
-ghost use Rattle.swap_turn.specs.Standing.{IsFreeOf};
+ghost use Rattle.swap_turn.specs.PassView.{IsFreeOf};
 ghost use Rattle.swap_player.specs.Seen.{IsWell};
 ghost use Rattle.swap_player.specs.Turns.{ended_of, IsEnded, IsOpen, IsSpentAs, caller_of, Ends, Turns, Gives};
 

@@ -4,7 +4,7 @@ ghost use Rattle.swap_base.specs.Sizes.{pages_of};
 ghost use Rattle.swap_wire.specs.Input.{IsInRange};
 ghost use Rattle.swap_record.specs.History.{Row};
 ghost use Rattle.swap_world.specs.Runs.{busy_callers};
-ghost use Rattle.swap_turn.specs.Standing.{IsFreeOf, newcomer};
+ghost use Rattle.swap_turn.specs.PassView.{IsFreeOf, pass_at_start};
 ghost use Rattle.swap_turn.specs.Turns.{entries_of, numbers_from};
 ghost use Rattle.swap_board.specs.Boards.{IsCall, AreOperators};
 ghost use Rattle.swap_board.specs.Works.{IsPoint};
@@ -51,7 +51,7 @@ pub struct Swap<D: DiskPort + Drop, F: Fabric + Drop, N: Naming<D, F>> {
 
 impl<D: DiskPort + Drop, F: Fabric + Drop, N: Naming<D, F>> Model for Swap<D, F, N> {
     ghost use Rattle.std.specs.Prelude.{◌≡◌};
-    ghost use Rattle.swap_turn.specs.Standing.{LockId};
+    ghost use Rattle.swap_turn.specs.PassView.{LockId};
 
     ghost Value = { LockId };
 
@@ -259,7 +259,7 @@ impl<D: DiskPort + Drop, F: Fabric + Drop, N: Naming<D, F>> Swap<D, F, N> {
         ensures seats { IfOk result (λ r. r.0.seats ≡ seats) }
         ensures passes { IfOk result
             (λ r. r.1.items
-            ≡ map (newcomer r.0 world.core.device.history) (numbers_from 0 seats)) }
+            ≡ map (pass_at_start r.0 world.core.device.history) (numbers_from 0 seats)) }
         ensures free { IfOk result (λ r. All (IsFreeOf r.0) r.1.items) }
     {
         let lenders = world.lenders();

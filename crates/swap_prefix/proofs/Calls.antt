@@ -9,13 +9,13 @@ use Rattle.swap_wire.specs.declared.Msg.{Msg}
 use Rattle.swap_wire.specs.declared.fabric.Gave.{Gave}
 use Rattle.swap_wire.specs.declared.fabric.Gave.TheVariants as gave_is
 use Rattle.swap_wire.specs.Fabric.{Parcel, same_lender, FabricCall, Connect, FabricAnswer}
-use Rattle.swap_lender.specs.Table.{Turn, took, may_send}
+use Rattle.swap_lender.specs.Table.{Turn, took_after, may_send}
 use Rattle.swap_link.specs.Lane.{Lane}
-use Rattle.swap_link.specs.Channel.{Channel, connected, reply_of, delivered, served, given, given_from, on_channel}
+use Rattle.swap_link.specs.Channel.{Channel, connect_after, reply_of, deliver_after, serve_after, give_after, given_from, on_channel}
 use Rattle.swap_link.specs.Harbor.{Harbor, channel_of, lender_of, ask}
 use Rattle.swap_link.specs.lemmas.HarborLaws.{called, same_channel, other_channel}
-use Rattle.swap_prefix.specs.Calls.{Made, made, after, connects, first_page, told_by, served_by, answered_by, taken_by, told_sent, lender_took, lender_sent, device_took}
-use Rattle.swap_prefix.specs.Laws.{IsPrefix, NoneConnects, linked, LinksHandOnAPrefix, Carries, OnlyAnEndIsLost, IsServed, WhatIsTakenIsServed}
+use Rattle.swap_prefix.specs.Calls.{Made, calls_made, lenders_after, connects, first_page, told_by, served_by, answered_by, taken_by, told_sent, lender_took, lender_sent, device_took}
+use Rattle.swap_prefix.specs.Laws.{IsPrefix, NoneConnects, connect_after, LinksHandOnAPrefix, Carries, OnlyAnEndIsLost, IsServed, WhatIsTakenIsServed}
 use Rattle.swap_prefix.proofs.Lanes.{carries_none, as_was}
 use Rattle.swap_prefix.proofs.Links.{Carried, carried_on}
 
@@ -77,13 +77,13 @@ still_there h c l lt = subst (λ n. l.0 < n) (sym (length-set h.channels (lender
 -- one call after another
 each_call : (h : Harbor) (cs : List FabricCall) (l : Lender) (s t u v : List Parcel)
     → l.0 < length h.channels → NoneConnects l cs → Carried (channel_of h l) s t u v
-    → AllAdded l (made h cs) s t u v (channel_of (after h cs) l)
+    → AllAdded l (calls_made h cs) s t u v (channel_of (lenders_after h cs) l)
 each_call h [] l s t u v lt none held = record { to_lender = as_was _ s t held.to_lender; to_device = as_was _ u v held.to_device }
 each_call h (c ∷ cs) l s t u v lt none held =
     let g : Harbor = (ask h c).1 in
-    let ms : List Made = made g cs in
+    let ms : List Made = calls_made g cs in
     let add : Adds → List Parcel = λ by. adding by (same_lender l (lender_of c)) (channel_of h l) c (ask h c).0 in
-    let more : AllAdded l ms (s ++ add told_by) (t ++ add served_by) (u ++ add answered_by) (v ++ add taken_by) (channel_of (after g cs) l) =
+    let more : AllAdded l ms (s ++ add told_by) (t ++ add served_by) (u ++ add answered_by) (v ++ add taken_by) (channel_of (lenders_after g cs) l) =
     each_call g cs l _ _ _ _ (still_there h c l lt) none.1 (one_call h c l s t u v lt none.0 held) in
     record {
       to_lender = regrouped _ s (add told_by) (told_sent l ms) t (add served_by) (lender_took l ms) more.to_lender;
@@ -91,15 +91,15 @@ each_call h (c ∷ cs) l s t u v lt none held =
     }
 
 -- a new link carries nothing
-new_link : (h : Harbor) (l : Lender) (n : Link) → l.0 < length h.channels → Carried (channel_of (linked h l n) l) [] [] [] []
+new_link : (h : Harbor) (l : Lender) (n : Link) → l.0 < length h.channels → Carried (channel_of (connect_after h l n) l) [] [] [] []
 new_link h l n lt =
-    let ch : Channel = connected (channel_of h l) n in
+    let ch : Channel = connect_after (channel_of h l) n in
     let none : Carried ch [] [] [] [] = record { to_lender = carries_none ch.to_lender refl; to_device = carries_none ch.to_device refl } in
     subst (λ (z : Channel). Carried z [] [] [] []) (sym (called h l ch lt)) none
 
 pub only_an_end_is_lost : OnlyAnEndIsLost
 only_an_end_is_lost h l n cs lt none =
-    let k = each_call (linked h l n) cs l [] [] [] [] (still_there h (Connect l n) l lt) none (new_link h l n lt) in
+    let k = each_call (connect_after h l n) cs l [] [] [] [] (still_there h (Connect l n) l lt) none (new_link h l n lt) in
     record { to_lender = k.to_lender; to_device = k.to_device }
 
 -- what is taken is a prefix of what was sent
@@ -118,14 +118,14 @@ Serves ch m reply evicted x = x.0 ≡ gave_is.Got m reply evicted → IsServed c
 
 -- the lender's turn by the message that give answers
 abbrev turn_by : Channel → Msg → Turn
-turn_by ch m = took ch.lender ch.number m (first_page ch.to_lender.parcels)
+turn_by ch m = took_after ch.lender ch.number m (first_page ch.to_lender.parcels)
 
 -- a channel whose first message is off
 abbrev popped : Channel → List Parcel → Channel
 popped ch ps = record ch { to_lender = record ch.to_lender { parcels = ps } }
 
 serves : (ch : Channel) (p : Parcel) (ps : List Parcel) (m : Msg) (reply : Option Msg) (evicted : ℕ)
-    → ch.to_lender.parcels ≡ p ∷ ps → Serves ch m reply evicted (served (popped ch ps) p)
+    → ch.to_lender.parcels ≡ p ∷ ps → Serves ch m reply evicted (serve_after (popped ch ps) p)
 serves ch p ps m reply evicted e =
     cond_both (may_send ch.lender ch.number p.msg) _ _ (Serves ch m reply evicted) (λ _ same. answer (parts _ _ _ m reply evicted same)) (λ _ same. cc)
   where
@@ -134,12 +134,12 @@ serves ch p ps m reply evicted e =
     parts a b d m reply evicted same = (cc, cc, cc)
 
     turn : Turn
-    turn = took ch.lender ch.number p.msg p.page
+    turn = took_after ch.lender ch.number p.msg p.page
 
     by_first : p.msg ≡ m → turn ≡ turn_by ch m
-    by_first same = ap (λ x. took ch.lender ch.number x p.page) same ∙ ap (λ page. took ch.lender ch.number m page) (sym (ap first_page e))
+    by_first same = ap (λ x. took_after ch.lender ch.number x p.page) same ∙ ap (λ page. took_after ch.lender ch.number m page) (sym (ap first_page e))
 
-    answer : (p.msg ≡ m) × (reply_of turn.parcels ≡ reply) × (turn.evicted ≡ evicted) → IsServed ch (delivered (popped ch ps) turn) m reply evicted
+    answer : (p.msg ≡ m) × (reply_of turn.parcels ≡ reply) × (turn.evicted ≡ evicted) → IsServed ch (deliver_after (popped ch ps) turn) m reply evicted
     answer h = record {
       lender = ap (λ (x : Turn). x.lender) (by_first h.0);
       reply = sym h.1 ∙ ap (λ (x : Turn). reply_of x.parcels) (by_first h.0);
@@ -151,12 +151,12 @@ serves_from : (ch : Channel) (ps : List Parcel) (m : Msg) (reply : Option Msg) (
 serves_from ch [] m reply evicted e = cond_both ch.to_lender.ended _ _ (Serves ch m reply evicted) (λ _ same. cc) (λ _ same. cc)
 serves_from ch (p ∷ ps) m reply evicted e = serves ch p ps m reply evicted e
 
-serves_given : (ch : Channel) (m : Msg) (reply : Option Msg) (evicted : ℕ) → Serves ch m reply evicted (given ch)
+serves_given : (ch : Channel) (m : Msg) (reply : Option Msg) (evicted : ℕ) → Serves ch m reply evicted (give_after ch)
 serves_given ch m reply evicted =
     cond_both ch.lender_gone _ _ (Serves ch m reply evicted) (λ _ same. cc) (λ _. serves_from ch ch.to_lender.parcels m reply evicted refl)
 
 pub what_is_taken_is_served : WhatIsTakenIsServed
 what_is_taken_is_served h l m reply evicted lt =
     let ch : Channel = channel_of h l in
-    let Q : Channel → Type 0 = λ z. (given ch).0 ≡ gave_is.Got m reply evicted → IsServed ch z m reply evicted in
-    subst Q (sym (called h l (given ch).1 lt)) (serves_given ch m reply evicted)
+    let Q : Channel → Type 0 = λ z. (give_after ch).0 ≡ gave_is.Got m reply evicted → IsServed ch z m reply evicted in
+    subst Q (sym (called h l (give_after ch).1 lt)) (serves_given ch m reply evicted)

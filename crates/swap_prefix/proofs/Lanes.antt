@@ -4,8 +4,8 @@ use Rattle.std.specs.Prelude.{nat_lt, ◌==◌, if◌then◌else◌}
 use Rattle.std.proofs.lemmas.Bool.{cond_both, both_ways}
 use Rattle.swap_base.specs.declared.Link.{Link}
 use Rattle.swap_wire.specs.Fabric.{Parcel, parcel_of}
-use Rattle.swap_link.specs.Lane.{Lane, appended, ended, cut}
-use Rattle.swap_link.specs.Channel.{posted, forwarded}
+use Rattle.swap_link.specs.Lane.{Lane, append_after, end_lane, cut}
+use Rattle.swap_link.specs.Channel.{post_after, forward_after}
 use Rattle.swap_prefix.specs.Calls.{on_link}
 use Rattle.swap_prefix.specs.Laws.{Carries}
 
@@ -23,7 +23,7 @@ pub as_was : (a : Lane) (s t : List Parcel) → Carries a s t → Carries a (s +
 as_was a s t h = taken_as_was a (s ++ []) t (sent_as_was a s t h)
 
 -- it ends, or is cut
-pub carries_ended : (a : Lane) (s t : List Parcel) → Carries a s t → Carries (ended a) s t
+pub carries_ended : (a : Lane) (s t : List Parcel) → Carries a s t → Carries (end_lane a) s t
 carries_ended a s t h = record { dropped = h.dropped; in_three = h.in_three; whole = λ e. cc }
 
 pub carries_cut : (n : ℕ) (a : Lane) (s t : List Parcel) → Carries a s t → Carries (cut a n) s t
@@ -35,7 +35,7 @@ carries_cut n a s t h = record {
 }
 
 -- a message is appended where the lane hasn't ended and has room; else it is dropped, and the lane has ended
-pub carries_append : (q : Parcel) (a : Lane) (s t : List Parcel) → Carries a s t → Carries (appended a q) (s ++ q ∷ []) t
+pub carries_append : (q : Parcel) (a : Lane) (s t : List Parcel) → Carries a s t → Carries (append_after a q) (s ++ q ∷ []) t
 carries_append q a s t h =
     cond_both a.ended _ _ Q (λ e. lost a refl e)
     (λ e. cond_both (nat_lt (length a.parcels) a.room) _ _ Q (λ _. more e) (λ _. lost (record a { ended = true }) refl refl))
@@ -75,19 +75,20 @@ abbrev mine : Link → Link × Parcel → List Parcel
 mine n q = if q.0.0 == n.0 then parcel_of q.1.msg q.1.page ∷ [] else []
 
 carries_posted : (n : Link) (q : Link × Parcel) (a : Lane) (s t : List Parcel) → Carries a s t
-    → Carries (posted n a q.0 (parcel_of q.1.msg q.1.page)) (s ++ mine n q) t
+    → Carries (post_after n a q.0 (parcel_of q.1.msg q.1.page)) (s ++ mine n q) t
 carries_posted n q a s t h = both (q.0.0 == n.0)
   where
     one : Parcel
     one = parcel_of q.1.msg q.1.page
 
-    both : (b : Bool) → Carries (if b then appended a one else a) (s ++ (if b then one ∷ [] else [])) t
+    both : (b : Bool) → Carries (if b then append_after a one else a) (s ++ (if b then one ∷ [] else [])) t
     both true = carries_append one a s t h
     both false = sent_as_was a s t h
 
-pub carries_forwarded : (n : Link) (qs : List (Link × Parcel)) (a : Lane) (s t : List Parcel) → Carries a s t → Carries (forwarded n a qs) (s ++ on_link n qs) t
+pub carries_forwarded : (n : Link) (qs : List (Link × Parcel)) (a : Lane) (s t : List Parcel) → Carries a s t
+    → Carries (forward_after n a qs) (s ++ on_link n qs) t
 carries_forwarded n [] a s t h = sent_as_was a s t h
 carries_forwarded n (q ∷ qs) a s t h =
-    let next : Lane = posted n a q.0 (parcel_of q.1.msg q.1.page) in
-    let P : List Parcel → Type 0 = λ z. Carries (forwarded n next qs) z t in
+    let next : Lane = post_after n a q.0 (parcel_of q.1.msg q.1.page) in
+    let P : List Parcel → Type 0 = λ z. Carries (forward_after n next qs) z t in
     subst P (append_assoc s (mine n q) (on_link n qs)) (carries_forwarded n qs next (s ++ mine n q) t (carries_posted n q a s t h))

@@ -4,9 +4,9 @@ use Rattle.std.proofs.lemmas.Bool.{cond_both, both_ways}
 use Rattle.swap_base.specs.declared.Lender.{Lender}
 use Rattle.swap_wire.specs.declared.fabric.Gave.{Gave}
 use Rattle.swap_wire.specs.Fabric.{Parcel, same_lender, FabricCall, Connect, Send, Take, End, Give, Cut, Crash, Host, FabricAnswer}
-use Rattle.swap_lender.specs.Table.{Turn, took, may_send, host}
-use Rattle.swap_link.specs.Lane.{ended, cut}
-use Rattle.swap_link.specs.Channel.{Channel, sent, taken, taken_from, forwarded, served, given, given_from, crashed, on_channel}
+use Rattle.swap_lender.specs.Table.{Turn, took_after, may_send, host}
+use Rattle.swap_link.specs.Lane.{end_lane, cut}
+use Rattle.swap_link.specs.Channel.{Channel, send_after, take_after, taken_from, forward_after, serve_after, give_after, given_from, crash_after, on_channel}
 use Rattle.swap_link.specs.Harbor.{lender_of}
 use Rattle.swap_prefix.specs.Calls.{connects, on_link, served_as, answered_as, told_by, taken_by, served_by, answered_by, first_page}
 use Rattle.swap_prefix.specs.Laws.{Carries}
@@ -26,23 +26,23 @@ module _ (ch : Channel) (s t u v : List Parcel) (h : Carried ch s t u v) where
   unmoved : Carried ch (s ++ []) (t ++ []) (u ++ []) (v ++ [])
   unmoved = record { to_lender = as_was ch.to_lender s t h.to_lender; to_device = as_was ch.to_device u v h.to_device }
 
-  lender_ended : Carries (ended ch.to_lender) (s ++ []) (t ++ [])
-  lender_ended = as_was (ended ch.to_lender) s t (carries_ended ch.to_lender s t h.to_lender)
+  lender_ended : Carries (end_lane ch.to_lender) (s ++ []) (t ++ [])
+  lender_ended = as_was (end_lane ch.to_lender) s t (carries_ended ch.to_lender s t h.to_lender)
 
   lender_cut : (n : ℕ) → Carries (cut ch.to_lender n) (s ++ []) (t ++ [])
   lender_cut n = as_was (cut ch.to_lender n) s t (carries_cut n ch.to_lender s t h.to_lender)
 
-  device_ended : Carries (ended ch.to_device) (u ++ []) (v ++ [])
-  device_ended = as_was (ended ch.to_device) u v (carries_ended ch.to_device u v h.to_device)
+  device_ended : Carries (end_lane ch.to_device) (u ++ []) (v ++ [])
+  device_ended = as_was (end_lane ch.to_device) u v (carries_ended ch.to_device u v h.to_device)
 
   device_cut : (n : ℕ) → Carries (cut ch.to_device n) (u ++ []) (v ++ [])
   device_cut n = as_was (cut ch.to_device n) u v (carries_cut n ch.to_device u v h.to_device)
 
   -- what a turn of the lender sends is appended
-  forwards : (turn : Turn) → Carries (forwarded ch.number ch.to_device turn.parcels) (u ++ on_link ch.number turn.parcels) (v ++ [])
+  forwards : (turn : Turn) → Carries (forward_after ch.number ch.to_device turn.parcels) (u ++ on_link ch.number turn.parcels) (v ++ [])
   forwards turn = taken_as_was _ _ v (carries_forwarded ch.number turn.parcels ch.to_device u v h.to_device)
 
-  by_send : (l : Lender) (p : Parcel) → CarriedOn ch (Send l p) s t u v (sent ch p)
+  by_send : (l : Lender) (p : Parcel) → CarriedOn ch (Send l p) s t u v (send_after ch p)
   by_send l p =
       cond_both ch.device_gone _ _ (CarriedOn ch (Send l p) s t u v) (λ _. unmoved)
       (λ _. record { to_lender = taken_as_was _ _ t (carries_append p ch.to_lender s t h.to_lender); to_device = unmoved.to_device })
@@ -56,7 +56,7 @@ module _ (ch : Channel) (s t u v : List Parcel) (h : Carried ch s t u v) where
     to_device = sent_as_was _ u _ (carries_taken p ps ch.to_device u v e h.to_device);
   }
 
-  by_take : (l : Lender) → CarriedOn ch (Take l) s t u v (taken ch)
+  by_take : (l : Lender) → CarriedOn ch (Take l) s t u v (take_after ch)
   by_take l = cond_both ch.device_gone _ _ (CarriedOn ch (Take l) s t u v) (λ _. unmoved) (λ _. by_take_from l ch.to_device.parcels refl)
 
   -- the lender takes a message, of a list with this page first: it answers, or ends the link
@@ -64,10 +64,10 @@ module _ (ch : Channel) (s t u v : List Parcel) (h : Carried ch s t u v) where
   Given page x = Carried x.1 (s ++ []) (t ++ served_as page x.0) (u ++ answered_as ch page x.0) (v ++ [])
 
   by_serve : (p : Parcel) (ps : List Parcel) → ch.to_lender.parcels ≡ p ∷ ps
-      → Given p.page (served (record ch { to_lender = record ch.to_lender { parcels = ps } }) p)
+      → Given p.page (serve_after (record ch { to_lender = record ch.to_lender { parcels = ps } }) p)
   by_serve p ps e =
       cond_both (may_send ch.lender ch.number p.msg) _ _ (Given p.page)
-      (λ _. record { to_lender = sent_as_was _ s _ taken_off; to_device = forwards (took ch.lender ch.number p.msg p.page) })
+      (λ _. record { to_lender = sent_as_was _ s _ taken_off; to_device = forwards (took_after ch.lender ch.number p.msg p.page) })
       (λ _. record { to_lender = sent_as_was _ s _ (carries_cut 0 _ s _ taken_off); to_device = device_ended })
     where
       taken_off : Carries (record ch.to_lender { parcels = ps }) s (t ++ p ∷ [])
@@ -78,10 +78,10 @@ module _ (ch : Channel) (s t u v : List Parcel) (h : Carried ch s t u v) where
       cond_both ch.to_lender.ended _ _ (Given []) (λ _. record { to_lender = lender_cut 0; to_device = device_ended }) (λ _. unmoved)
   by_give_from (p ∷ ps) e = by_serve p ps e
 
-  by_give : (l : Lender) → CarriedOn ch (Give l) s t u v (given ch)
+  by_give : (l : Lender) → CarriedOn ch (Give l) s t u v (give_after ch)
   by_give l = cond_both ch.lender_gone _ _ (CarriedOn ch (Give l) s t u v) (λ _. unmoved) (λ _. by_give_from ch.to_lender.parcels refl)
 
-  by_crash : (l : Lender) → CarriedOn ch (Crash l) s t u v (true, crashed ch)
+  by_crash : (l : Lender) → CarriedOn ch (Crash l) s t u v (true, crash_after ch)
   by_crash l =
       cond_both ch.lender_gone _ _ (λ (x : Channel). CarriedOn ch (Crash l) s t u v (true, x))
       (λ _. record { to_lender = unmoved.to_lender; to_device = unmoved.to_device }) (λ _. record { to_lender = lender_cut 0; to_device = device_ended })

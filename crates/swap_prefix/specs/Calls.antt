@@ -7,7 +7,7 @@ use Rattle.swap_wire.specs.declared.fabric.Sent.TheVariants as sent_is
 use Rattle.swap_wire.specs.declared.fabric.Gave.{Gave}
 use Rattle.swap_wire.specs.declared.fabric.Gave.TheVariants as gave_is
 use Rattle.swap_wire.specs.Fabric.{Parcel, parcel_of, same_lender, Handed, Brought, NothingCame, LinkLost, FabricCall, Connect, Send, Take, Give, Host, FabricAnswer}
-use Rattle.swap_lender.specs.Table.{took, host}
+use Rattle.swap_lender.specs.Table.{took_after, host}
 use Rattle.swap_link.specs.Channel.{Channel}
 use Rattle.swap_link.specs.Harbor.{Harbor, channel_of, lender_of, ask}
 
@@ -18,13 +18,13 @@ pub record Made : Type 0 where
   pub answer : FabricAnswer call
 
 -- calls made one after another, and the lenders after them
-abbrev pub made : Harbor → List FabricCall → List Made
-made h [] = []
-made h (c ∷ cs) = record { before = h; call = c; answer = (ask h c).0 } ∷ made (ask h c).1 cs
+abbrev pub calls_made : Harbor → List FabricCall → List Made
+calls_made h [] = []
+calls_made h (c ∷ cs) = record { before = h; call = c; answer = (ask h c).0 } ∷ calls_made (ask h c).1 cs
 
-abbrev pub after : Harbor → List FabricCall → Harbor
-after h [] = h
-after h (c ∷ cs) = after (ask h c).1 cs
+abbrev pub lenders_after : Harbor → List FabricCall → Harbor
+lenders_after h [] = h
+lenders_after h (c ∷ cs) = lenders_after (ask h c).1 cs
 
 -- whether a call connects a lender
 abbrev pub connects : Lender → FabricCall → Bool
@@ -73,7 +73,7 @@ on_link n (p ∷ ps) = (if p.0.0 == n.0 then parcel_of p.1.msg p.1.page ∷ [] e
 
 -- what the lender sent on its link by a call: its replies, and what its table says that it asks or tells beside them
 abbrev pub answered_as : Channel → List ℕ → Gave → List Parcel
-answered_as ch page (gave_is.Got m reply evicted) = on_link ch.number (took ch.lender ch.number m page).parcels
+answered_as ch page (gave_is.Got m reply evicted) = on_link ch.number (took_after ch.lender ch.number m page).parcels
 answered_as ch page _ = []
 
 abbrev pub answered_by : Channel → (c : FabricCall) → FabricAnswer c → List Parcel
@@ -82,21 +82,23 @@ answered_by ch (Host lender used word) answer = on_link ch.number (host ch.lende
 answered_by ch _ answer = []
 
 -- by each of the calls that are for a lender, in their order
-abbrev pub gathered : (Channel → (c : FabricCall) → FabricAnswer c → List Parcel) → Lender → List Made → List Parcel
-gathered by l [] = []
-gathered by l (m ∷ ms) =
-    (if same_lender l (lender_of m.call) then by (channel_of m.before l) m.call m.answer else []) ++ gathered by l ms
+abbrev pub gather_parcels : (Channel → (c : FabricCall) → FabricAnswer c → List Parcel) → Lender → List Made
+    → List Parcel
+gather_parcels by l [] = []
+gather_parcels by l (m ∷ ms) =
+    (if same_lender l (lender_of m.call) then by (channel_of m.before l) m.call m.answer else [])
+    ++ gather_parcels by l ms
 
 -- what the device was told Sent for, and what the lender took
 abbrev pub told_sent : Lender → List Made → List Parcel
-told_sent l ms = gathered told_by l ms
+told_sent l ms = gather_parcels told_by l ms
 
 abbrev pub lender_took : Lender → List Made → List Parcel
-lender_took l ms = gathered served_by l ms
+lender_took l ms = gather_parcels served_by l ms
 
 -- what the lender sent, and what the device took
 abbrev pub lender_sent : Lender → List Made → List Parcel
-lender_sent l ms = gathered answered_by l ms
+lender_sent l ms = gather_parcels answered_by l ms
 
 abbrev pub device_took : Lender → List Made → List Parcel
-device_took l ms = gathered taken_by l ms
+device_took l ms = gather_parcels taken_by l ms

@@ -6,11 +6,11 @@ use Rattle.swap_base.specs.declared.Link.{Link}
 use Rattle.swap_wire.specs.declared.Msg.{Msg}
 use Rattle.swap_wire.specs.declared.fabric.Gave.TheVariants as gave_is
 use Rattle.swap_wire.specs.Fabric.{Parcel, FabricCall, Connect, Give}
-use Rattle.swap_lender.specs.Table.{took}
+use Rattle.swap_lender.specs.Table.{took_after}
 use Rattle.swap_link.specs.Lane.{Lane}
 use Rattle.swap_link.specs.Channel.{Channel, reply_of}
 use Rattle.swap_link.specs.Harbor.{Harbor, channel_of, ask}
-use Rattle.swap_prefix.specs.Calls.{Made, made, after, connects, first_page, told_sent, lender_took, lender_sent, device_took}
+use Rattle.swap_prefix.specs.Calls.{Made, calls_made, lenders_after, connects, first_page, told_sent, lender_took, lender_sent, device_took}
 
 -- messages that others begin with
 pub record IsPrefix (taken sent : List Parcel) : Type 0 where
@@ -28,14 +28,14 @@ pub record HandsOnAPrefix (l : Lender) (ms : List Made) : Type 0 where
   pub to_device : IsPrefix (device_took l ms) (lender_sent l ms)
 
 -- the lenders after a connect of one of them
-abbrev pub linked : Harbor → Lender → Link → Harbor
-linked h l n = (ask h (Connect l n)).1
+abbrev pub connect_after : Harbor → Lender → Link → Harbor
+connect_after h l n = (ask h (Connect l n)).1
 
 -- whatever state the lenders are in, and whatever is called after a connect of one of them, until its next connect
 abbrev pub LinksHandOnAPrefix : Type 0
 LinksHandOnAPrefix =
     (h : Harbor) (l : Lender) (n : Link) (cs : List FabricCall) → l.0 < length h.channels → NoneConnects l cs
-    → HandsOnAPrefix l (made (linked h l n) cs)
+    → HandsOnAPrefix l (calls_made (connect_after h l n) cs)
 
 -- What was sent is what was taken, then what is under way, then what was dropped. Nothing is dropped before the list
 -- has ended.
@@ -52,13 +52,13 @@ pub record CarriesAll (ch : Channel) (l : Lender) (ms : List Made) : Type 0 wher
 abbrev pub OnlyAnEndIsLost : Type 0
 OnlyAnEndIsLost =
     (h : Harbor) (l : Lender) (n : Link) (cs : List FabricCall) → l.0 < length h.channels → NoneConnects l cs
-    → CarriesAll (channel_of (after (linked h l n) cs) l) l (made (linked h l n) cs)
+    → CarriesAll (channel_of (lenders_after (connect_after h l n) cs) l) l (calls_made (connect_after h l n) cs)
 
 -- a lender that answers a message made of it, with the page of the first under way, what its table says
 pub record IsServed (ch now : Channel) (m : Msg) (said : Option Msg) (went : ℕ) : Type 0 where
-  pub lender : now.lender ≡ (took ch.lender ch.number m (first_page ch.to_lender.parcels)).lender
-  pub reply : said ≡ reply_of (took ch.lender ch.number m (first_page ch.to_lender.parcels)).parcels
-  pub evicted : went ≡ (took ch.lender ch.number m (first_page ch.to_lender.parcels)).evicted
+  pub lender : now.lender ≡ (took_after ch.lender ch.number m (first_page ch.to_lender.parcels)).lender
+  pub reply : said ≡ reply_of (took_after ch.lender ch.number m (first_page ch.to_lender.parcels)).parcels
+  pub evicted : went ≡ (took_after ch.lender ch.number m (first_page ch.to_lender.parcels)).evicted
 
 abbrev pub WhatIsTakenIsServed : Type 0
 WhatIsTakenIsServed =

@@ -6,14 +6,14 @@ use Rattle.swap_base.specs.declared.Page.{Page}
 use Rattle.swap_base.specs.declared.EntryNo.{EntryNo}
 use Rattle.swap_base.specs.Sizes.{Sizes, pages_of}
 use Rattle.swap_queue.specs.declared.cell.Held.{Held}
-use Rattle.swap_queue.specs.Queue.{Copy, Places, Queue, places_of, flying, next, newest, copies_at, has_room, one_if, put}
-use Rattle.swap_queue.specs.Cells.{Kept, is_held_for, is_for, is_used, copy_in, queue_in, longer, Fits}
+use Rattle.swap_queue.specs.Queue.{Copy, Places, Queue, places_of, flying, next_copy, newest, copies_at, has_room, one_if, put_after}
+use Rattle.swap_queue.specs.Cells.{Kept, is_held_for, is_for, is_used, copy_in, queue_in, line_with, Fits}
 use Rattle.swap_queue.specs.Stored.{IsPlaceFor}
 use Rattle.swap_queue.proofs.Copies.{cell_at, count_for, one, copy_in-same, copy_in-here, copy_in-new, none_for, of_one_page, flying_page, of_one_kind, used_for, copy_used}
 use Rattle.swap_queue.proofs.Keeps.{put_keeps, put_waits}
 use Rattle.swap_queue.proofs.CellMoves.{places_of_cells, queue_in-set, fits_after}
 
-pub length-longer : (line : List Page) (page : Page) (w : Bool) → length (longer line page w) ≡ length line + one_if w
+pub length-longer : (line : List Page) (page : Page) (w : Bool) → length (line_with line page w) ≡ length line + one_if w
 length-longer line page true = length_push line page
 length-longer line page false = omega arith
 
@@ -24,7 +24,7 @@ pub record Moved (s : Sizes) (cells : List Kept) (line : List Page) (q : Queue) 
 
 -- the next and the flying copy of a page are those in the cells
 module _ (s : Sizes) (cells : List Kept) (line : List Page) (page : Page) (lt : page.0 < pages_of s) where
-  pub next_is : next (queue_in s cells line) page ≡ copy_in false page.0 cells
+  pub next_is : next_copy (queue_in s cells line) page ≡ copy_in false page.0 cells
   next_is = ap (λ (x : Places). x.next) (places_of_cells s cells line page lt)
 
   pub flying_is : flying (queue_in s cells line) page ≡ copy_in true page.0 cells
@@ -74,7 +74,8 @@ module _ (s : Sizes) (cells : List Kept) (line : List Page) (page : Page) (entry
 
   put_used : one (is_used new) + copies_at (places_of q page) ≡ one (is_used old) + copies_at (record { flying = flying q page; next = Some copy })
   put_used =
-      let n : one_if (is_some (next q page)) ≡ one_if (is_some (copy_in false page.0 cells)) = ap (λ o. one_if (is_some o)) (next_is s cells line page lt) in
+      let n : one_if (is_some (next_copy q page)) ≡ one_if (is_some (copy_in false page.0 cells)) =
+      ap (λ o. one_if (is_some o)) (next_is s cells line page lt) in
       ⊎_elim
       (λ (e : is_for false page.0 old ≡ true).
       let used : one (is_used old) ≡ 1 = ap one (used_for false page.0 old.held e) in
@@ -94,16 +95,16 @@ module _ (s : Sizes) (cells : List Kept) (line : List Page) (page : Page) (entry
   put_next : copy_in false page.0 (set cells i new) ≡ Some copy
   put_next = copy_in-new false page.0 cells i new place.0 (eq-eqb page.0 page.0 refl) (put_single false page.0 (eq-eqb page.0 page.0 refl))
 
-  pub put_moves : Moved s (set cells i new) (longer line page (is_none (newest q page))) (put q page copy)
+  pub put_moves : Moved s (set cells i new) (line_with line page (is_none (newest q page))) (put_after q page copy)
   put_moves =
       let here = two_places (copy_in true page.0 (set cells i new)) (flying q page) (copy_in false page.0 (set cells i new)) (Some copy) put_here put_next in
       record {
         is =
             queue_in-set s cells i new page (record { flying = flying q page; next = Some copy }) put_others here
-            (longer line page (is_none (newest q page))) lt;
+            (line_with line page (is_none (newest q page))) lt;
         fits =
             fits_after s cells i new page (record { flying = flying q page; next = Some copy }) put_others here line
-            (longer line page (is_none (newest q page))) h lt place.0 fills put_single put_used
-            (omega (arith, length-longer line page (is_none (newest q page)), put_waits (flying q page) (next q page) copy))
+            (line_with line page (is_none (newest q page))) h lt place.0 fills put_single put_used
+            (omega (arith, length-longer line page (is_none (newest q page)), put_waits (flying q page) (next_copy q page) copy))
             (put_keeps s q page copy h.queue lt fills room).0;
       }

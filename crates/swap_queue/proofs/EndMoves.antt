@@ -4,9 +4,9 @@ use Rattle.std.proofs.lemmas.Bool.{false≢true, and_parts, cases_eq}
 use Rattle.std.proofs.lemmas.List.Quantifiers.{position-Some}
 use Rattle.swap_base.specs.declared.Page.{Page}
 use Rattle.swap_base.specs.Sizes.{Sizes, pages_of}
-use Rattle.swap_queue.specs.Queue.{Copy, Places, Queue, places_of, flying, next, newest, first_of, copies_at, one_if, waits, waits_at, with_places, start, done, failed}
+use Rattle.swap_queue.specs.Queue.{Copy, Places, Queue, places_of, flying, next_copy, newest, first_of, copies_at, one_if, waits, waits_at, with_places, start, done_after, failed_after}
 use Rattle.swap_queue.specs.Kept.{IsQueue}
-use Rattle.swap_queue.specs.Cells.{Kept, is_for, is_used, with_flying, landed, copy_in, queue_in, longer, Fits}
+use Rattle.swap_queue.specs.Cells.{Kept, is_for, is_used, with_flying, land_after, copy_in, queue_in, line_with, Fits}
 use Rattle.swap_queue.proofs.Copies.{cell_at, count_for, one, copy_in-same, copy_in-here, copy_in-gone, copy_in-new, copy_in-none, none_for, of_one_page, flying_page, of_one_kind, turned, turned_away, copy-turned, used_turned, used_for}
 use Rattle.swap_queue.proofs.Keeps.{start_keeps_of, start_sets, front_waits, done_keeps, failed_keeps, done_waits, failed_waits, flying_in_range}
 use Rattle.swap_queue.proofs.PlaceOf.{count_none}
@@ -44,7 +44,7 @@ module _ (s : Sizes) (cells : List Kept) (page : Page) (rest : List Page) (i : �
   sent = record { held = with_flying true old.held; bytes = old.bytes }
 
   abbrev away : Places
-  away = record { flying = next q page; next = None }
+  away = record { flying = next_copy q page; next = None }
 
   at : (i < length cells) × (is_for false page.0 old ≡ true)
   at = let f = position-Some (is_for false page.0) cells i (record { held = None; bytes = [] }) found in (f.0, f.1)
@@ -52,8 +52,8 @@ module _ (s : Sizes) (cells : List Kept) (page : Page) (rest : List Page) (i : �
   in_range : page.0 < pages_of s
   in_range = (start_sets s q page rest h.queue refl).within
 
-  waited : (is_some (next q page) ≡ true) × (is_none (flying q page) ≡ true)
-  waited = and_parts (is_some (next q page)) (is_none (flying q page)) (front_waits s q page rest h.queue refl)
+  waited : (is_some (next_copy q page) ≡ true) × (is_none (flying q page) ≡ true)
+  waited = and_parts (is_some (next_copy q page)) (is_none (flying q page)) (front_waits s q page rest h.queue refl)
 
   none_flies : count_for true page.0 cells ≡ 0
   none_flies = none_for true page.0 cells (sym (flying_is s cells (page ∷ rest) page in_range) ∙ none_of (flying q page) waited.1)
@@ -69,7 +69,7 @@ module _ (s : Sizes) (cells : List Kept) (page : Page) (rest : List Page) (i : �
       (λ (ne : p ≢ page.0). absurd (false≢true (sym (start_others true p ne).1 ∙ e)))
       (cases_eq p page.0)
 
-  start_here : copy_in true page.0 (set cells i sent) ≡ next q page
+  start_here : copy_in true page.0 (set cells i sent) ≡ next_copy q page
   start_here =
       let e : is_for true page.0 sent ≡ true = turned false true page.0 old.held at.1 in
       copy_in-new true page.0 cells i sent at.0 e (start_single true page.0 e) ∙ copy-turned true old.bytes old.held
@@ -84,7 +84,7 @@ module _ (s : Sizes) (cells : List Kept) (page : Page) (rest : List Page) (i : �
   pub start_moves : Moved s (set cells i sent) rest (start q)
   start_moves =
       let here =
-      two_places (copy_in true page.0 (set cells i sent)) (next q page) (copy_in false page.0 (set cells i sent)) None start_here
+      two_places (copy_in true page.0 (set cells i sent)) (next_copy q page) (copy_in false page.0 (set cells i sent)) None start_here
       (copy_in-gone false page.0 cells i sent (h.single false page.0) at.0 at.1 (turned_away true page.0 old.held)) in
       record {
         is = queue_in-set s cells i sent page away start_others here rest in_range;
@@ -119,9 +119,9 @@ module _ (s : Sizes) (cells : List Kept) (line : List Page) (page : Page) (i : �
   drop_others k p ne = (of_one_page k true p page.0 flew.held at'.1 ne, refl)
 
   drop_moves :
-      (m : Option Copy) (w : Bool) → next q' page ≡ m → one_if w + one_if (waits q' page) ≡ one_if (waits_at (record { flying = None; next = m }))
+      (m : Option Copy) (w : Bool) → next_copy q' page ≡ m → one_if w + one_if (waits q' page) ≡ one_if (waits_at (record { flying = None; next = m }))
       → IsQueue s (with_places q' page (record { flying = None; next = m }) w)
-      → Moved s (set cells i dropped) (longer line page w) (with_places q' page (record { flying = None; next = m }) w)
+      → Moved s (set cells i dropped) (line_with line page w) (with_places q' page (record { flying = None; next = m }) w)
   drop_moves m w e more kept =
       let next_same : copy_in false page.0 (set cells i dropped) ≡ m =
       copy_in-same false page.0 cells i dropped (of_one_kind true page.0 flew.held at'.1) refl ∙ sym (next_is s cells line page in_range') ∙ e in
@@ -129,16 +129,18 @@ module _ (s : Sizes) (cells : List Kept) (line : List Page) (page : Page) (i : �
       two_places (copy_in true page.0 (set cells i dropped)) None (copy_in false page.0 (set cells i dropped)) m
       (copy_in-gone true page.0 cells i dropped (h.single true page.0) at'.0 at'.1 refl) next_same in
       record {
-        is = queue_in-set s cells i dropped page (record { flying = None; next = m }) drop_others here (longer line page w) in_range';
+        is = queue_in-set s cells i dropped page (record { flying = None; next = m }) drop_others here (line_with line page w) in_range';
         fits =
-            fits_after s cells i dropped page (record { flying = None; next = m }) drop_others here line (longer line page w) h in_range' at'.0
+            fits_after s cells i dropped page (record { flying = None; next = m }) drop_others here line (line_with line page w) h in_range' at'.0
             (h.sized i at'.0) (λ k p t. absurd (false≢true t))
             (omega (arith, ap one (used_for true page.0 flew.held at'.1), some_one, ap (λ (o : Option Copy). one_if (is_some o)) e))
             (omega (arith, length-longer line page w, more)) kept;
       }
 
-  pub done_moves : Moved s (set cells i dropped) (longer line page (is_some (next q' page))) (done q' page)
-  done_moves = drop_moves (next q' page) (is_some (next q' page)) refl (done_waits (flying q' page) (next q' page) some) (done_keeps s q' page h.queue some).0
+  pub done_moves : Moved s (set cells i dropped) (line_with line page (is_some (next_copy q' page))) (done_after q' page)
+  done_moves =
+      drop_moves (next_copy q' page) (is_some (next_copy q' page)) refl (done_waits (flying q' page) (next_copy q' page) some)
+      (done_keeps s q' page h.queue some).0
 
   first_some : (n f : Option Copy) → is_some n ≡ true → n ≡ first_of n f
   first_some None f e = absurd (false≢true e)
@@ -155,9 +157,9 @@ module _ (s : Sizes) (cells : List Kept) (line : List Page) (page : Page) (i : �
   keep_others : (k : Bool) (p : ℕ) → p ≢ page.0 → (is_for k p flew ≡ false) × (is_for k p back ≡ false)
   keep_others k p ne = (of_one_page k true p page.0 flew.held at'.1 ne, flying_page k true false p page.0 flew.held at'.1 ne)
 
-  module _ (alone : is_some (next q' page) ≡ false) where
+  module _ (alone : is_some (next_copy q' page) ≡ false) where
     none_waits : count_for false page.0 cells ≡ 0
-    none_waits = none_for false page.0 cells (sym (next_is s cells line page in_range') ∙ none_of_some (next q' page) alone)
+    none_waits = none_for false page.0 cells (sym (next_is s cells line page in_range') ∙ none_of_some (next_copy q' page) alone)
 
     keep_single : (k : Bool) (p : ℕ) → is_for k p back ≡ true → count_for k p cells ≤ one (is_for k p flew)
     keep_single true p e = absurd (false≢true (sym (turned_away false p flew.held) ∙ e))
@@ -173,32 +175,33 @@ module _ (s : Sizes) (cells : List Kept) (line : List Page) (page : Page) (i : �
         copy_in-new false page.0 cells i back at'.0 e (keep_single false page.0 e) ∙ copy-turned false flew.bytes flew.held
         ∙ sym (copy_in-here true page.0 cells i (h.single true page.0) at'.0 at'.1)
         ∙ sym (flying_is s cells line page in_range')
-        ∙ first_none (next q' page) (flying q' page) alone
+        ∙ first_none (next_copy q' page) (flying q' page) alone
 
-    keep_moves : Moved s (set cells i back) (longer line page true) (failed q' page)
+    keep_moves : Moved s (set cells i back) (line_with line page true) (failed_after q' page)
     keep_moves =
         let here =
         two_places (copy_in true page.0 (set cells i back)) None (copy_in false page.0 (set cells i back)) (newest q' page)
         (copy_in-gone true page.0 cells i back (h.single true page.0) at'.0 at'.1 (turned_away false page.0 flew.held)) keep_here in
         record {
-          is = queue_in-set s cells i back page (record { flying = None; next = newest q' page }) keep_others here (longer line page true) in_range';
+          is = queue_in-set s cells i back page (record { flying = None; next = newest q' page }) keep_others here (line_with line page true) in_range';
           fits =
-              fits_after s cells i back page (record { flying = None; next = newest q' page }) keep_others here line (longer line page true) h in_range' at'.0
+              fits_after s cells i back page (record { flying = None; next = newest q' page }) keep_others here line (line_with line page true) h in_range'
+              at'.0
               (h.sized i at'.0) keep_single
               (omega (
                 arith,
                 ap one (used_turned false flew.held),
                 some_one,
                 ap one_if alone,
-                ap (λ (o : Option Copy). one_if (is_some o)) (sym (first_none (next q' page) (flying q' page) alone)),
+                ap (λ (o : Option Copy). one_if (is_some o)) (sym (first_none (next_copy q' page) (flying q' page) alone)),
               ))
-              (omega (arith, length-longer line page true, failed_waits (flying q' page) (next q' page) some)) (failed_keeps s q' page h.queue some).0;
+              (omega (arith, length-longer line page true, failed_waits (flying q' page) (next_copy q' page) some)) (failed_keeps s q' page h.queue some).0;
         }
 
   pub failed_moves :
-      (newer : Bool) → newer ≡ is_some (next q' page)
-      → Moved s (set cells i (record { held = landed (not newer) flew.held; bytes = flew.bytes })) (longer line page true) (failed q' page)
+      (newer : Bool) → newer ≡ is_some (next_copy q' page)
+      → Moved s (set cells i (record { held = land_after (not newer) flew.held; bytes = flew.bytes })) (line_with line page true) (failed_after q' page)
   failed_moves true e =
-      drop_moves (newest q' page) true (first_some (next q' page) (flying q' page) (sym e)) (failed_waits (flying q' page) (next q' page) some)
+      drop_moves (newest q' page) true (first_some (next_copy q' page) (flying q' page) (sym e)) (failed_waits (flying q' page) (next_copy q' page) some)
       (failed_keeps s q' page h.queue some).0
   failed_moves false e = keep_moves (sym e)

@@ -6,7 +6,7 @@ use Rattle.std.proofs.lemmas.List.Sums.{sum_by-set, sum_by_push, sum_by-cons}
 use Rattle.std.proofs.lemmas.List.Folds.{sum_by-replicate}
 use Rattle.swap_base.specs.declared.Page.{Page}
 use Rattle.swap_base.specs.Sizes.{Sizes, pages_of}
-use Rattle.swap_queue.specs.Queue.{Copy, Places, Queue, places_of, flying, next, newest, first_of, copies, copies_at, one_if, waits, waits_at, with_places, start_of}
+use Rattle.swap_queue.specs.Queue.{Copy, Places, Queue, places_of, flying, next_copy, newest, first_of, copies, copies_at, one_if, waits, waits_at, with_places, start_of}
 use Rattle.swap_queue.specs.Kept.{times_in, FillsPage, IsQueue, SetsPlaces, EmptyKeeps, PutKeeps, StartKeeps, StartSets, DoneKeeps, FailedKeeps, CopiesInRange}
 
 abbrev none : Places
@@ -121,8 +121,8 @@ pub put_keeps : PutKeeps
 put_keeps s q page copy h lt fills room =
     let within : page.0 < length q.places = omega (arith, h.pages, lt) in (
       places_keep s q page (record { flying = flying q page; next = Some copy }) (is_none (newest q page)) h within
-          (put_room (flying q page) (next q page) copy (copies q) q.capacity h.within room)
-          (put_waits (flying q page) (next q page) copy) (h.flying_fills page) fills,
+          (put_room (flying q page) (next_copy q page) copy (copies q) q.capacity h.within room)
+          (put_waits (flying q page) (next_copy q page) copy) (h.flying_fills page) fills,
       sets_places q page (record { flying = flying q page; next = Some copy }) (is_none (newest q page)) within,
     )
 
@@ -157,10 +157,10 @@ done_waits (Some f) (Some n) some = refl
 pub done_keeps : DoneKeeps
 done_keeps s q page h some =
     let within : page.0 < length q.places = flying_in_range q page some in (
-      places_keep s q page (record { flying = None; next = next q page }) (is_some (next q page)) h within
-          (done_room (flying q page) (next q page) (copies q) q.capacity h.within)
-          (done_waits (flying q page) (next q page) some) tt (h.next_fills page),
-      sets_places q page (record { flying = None; next = next q page }) (is_some (next q page)) within,
+      places_keep s q page (record { flying = None; next = next_copy q page }) (is_some (next_copy q page)) h within
+          (done_room (flying q page) (next_copy q page) (copies q) q.capacity h.within)
+          (done_waits (flying q page) (next_copy q page) some) tt (h.next_fills page),
+      sets_places q page (record { flying = None; next = next_copy q page }) (is_some (next_copy q page)) within,
     )
 
 failed_room :
@@ -184,8 +184,9 @@ pub failed_keeps : FailedKeeps
 failed_keeps s q page h some =
     let within : page.0 < length q.places = flying_in_range q page some in (
       places_keep s q page (record { flying = None; next = newest q page }) true h within
-          (failed_room (flying q page) (next q page) (copies q) q.capacity h.within)
-          (failed_waits (flying q page) (next q page) some) tt (fills_first s (flying q page) (next q page) (h.flying_fills page) (h.next_fills page)),
+          (failed_room (flying q page) (next_copy q page) (copies q) q.capacity h.within)
+          (failed_waits (flying q page) (next_copy q page) some) tt (fills_first s (flying q page) (next_copy q page) (h.flying_fills page)
+          (h.next_fills page)),
       sets_places q page (record { flying = None; next = newest q page }) true within,
     )
 
@@ -226,15 +227,15 @@ start_keeps_of s q [] e h = h
 start_keeps_of s q (page ∷ line) e h =
     let waited : waits q page ≡ true = front_waits s q page line h e in
     let lt : page.0 < length q.places = in_range q.places page.0 (λ no. waits_none (places_of q page) no waited) in
-    let places : Places = record { flying = next q page; next = None } in
+    let places : Places = record { flying = next_copy q page; next = None } in
     record {
-      pages = length-set q.places page.0 (record { flying = next q page; next = None }) ∙ h.pages;
+      pages = length-set q.places page.0 (record { flying = next_copy q page; next = None }) ∙ h.pages;
       capacity = h.capacity;
-      within = within_keeps q page (record { flying = next q page; next = None }) lt (omega (arith, h.within));
-      line = start_line q page line (record { flying = next q page; next = None }) lt e waited refl h.line;
+      within = within_keeps q page (record { flying = next_copy q page; next = None }) lt (omega (arith, h.within));
+      line = start_line q page line (record { flying = next_copy q page; next = None }) lt e waited refl h.line;
       flying_fills =
-          each_place (λ x. FillsPage s x.flying) q.places page.0 (record { flying = next q page; next = None }) lt (h.next_fills page) h.flying_fills;
-      next_fills = each_place (λ x. FillsPage s x.next) q.places page.0 (record { flying = next q page; next = None }) lt tt h.next_fills;
+          each_place (λ x. FillsPage s x.flying) q.places page.0 (record { flying = next_copy q page; next = None }) lt (h.next_fills page) h.flying_fills;
+      next_fills = each_place (λ x. FillsPage s x.next) q.places page.0 (record { flying = next_copy q page; next = None }) lt tt h.next_fills;
     }
 
 pub start_keeps : StartKeeps
@@ -248,6 +249,6 @@ start_sets s q page line h e =
       within = omega (arith, h.pages, lt);
       waited = waited;
       sets =
-          subst (λ (l : List Page). SetsPlaces q (start_of q l) page (record { flying = next q page; next = None })) (sym e)
+          subst (λ (l : List Page). SetsPlaces q (start_of q l) page (record { flying = next_copy q page; next = None })) (sym e)
           (record { here = sets_at q.places page.0 page.0 _ lt refl; others = λ other ne. sets_others q.places page.0 other.0 _ ne });
     }

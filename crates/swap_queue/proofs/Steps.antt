@@ -12,10 +12,10 @@ use Rattle.swap_base.specs.Sizes.{Sizes, pages_of}
 use Rattle.swap_queue.specs.declared.Failed.{Failed}
 use Rattle.swap_queue.specs.declared.Failed.TheVariants as fate
 use Rattle.swap_queue.specs.declared.cell.Held.{Held}
-use Rattle.swap_queue.specs.Queue.{Copy, Places, Queue, flying, next, newest, first_of, copies, copies_at, has_room, one_if, waits, waits_at, empty, front, front_of, put, start, done, failed}
+use Rattle.swap_queue.specs.Queue.{Copy, Places, Queue, flying, next_copy, newest, first_of, copies, copies_at, has_room, one_if, waits, waits_at, empty, front, front_of, put_after, start, done_after, failed_after}
 use Rattle.swap_queue.specs.Kept.{IsQueue}
-use Rattle.swap_queue.specs.Backlog.{bytes_or, started_answer, started_bytes, failed_answer}
-use Rattle.swap_queue.specs.Cells.{Kept, free_cell, is_for, is_used, copy_with, copy_of, entry_of, with_flying, landed, copy_in, places_at, places_in, queue_in, longer, Fits, free_cells}
+use Rattle.swap_queue.specs.BehindView.{bytes_or, started_answer, started_bytes, failed_answer}
+use Rattle.swap_queue.specs.Cells.{Kept, free_cell, is_for, is_used, copy_with, copy_of, entry_of, with_flying, land_after, copy_in, places_at, places_in, queue_in, line_with, Fits, free_cells}
 use Rattle.swap_queue.specs.Stored.{IsPlaceFor, HasRoom}
 use Rattle.swap_queue.proofs.Copies.{cell_at, copy_in-here, copy_in-none, used_for}
 use Rattle.swap_queue.proofs.Keeps.{empty_keeps, front_waits, start_sets, flying_in_range}
@@ -40,9 +40,9 @@ line_fits s cells line h =
 
 -- there was room in the line for a page that joined it
 pub line_room :
-    (s : Sizes) (cells : List Kept) (line : List Page) (page : Page) (w : Bool) (q : Queue) → Moved s cells (longer line page w) q → w ≡ true
+    (s : Sizes) (cells : List Kept) (line : List Page) (page : Page) (w : Bool) (q : Queue) → Moved s cells (line_with line page w) q → w ≡ true
     → length line < s.queue
-line_room s cells line page w q moved joined = omega (arith, line_fits s cells (longer line page w) moved.fits, length-longer line page w, ap one_if joined)
+line_room s cells line page w q moved joined = omega (arith, line_fits s cells (line_with line page w) moved.fits, length-longer line page w, ap one_if joined)
 
 pub not_some : {X : Type 0} (o : Option X) → not (is_some o) ≡ is_none o
 not_some None = refl
@@ -105,7 +105,7 @@ module _ (s : Sizes) (cells : List Kept) (line : List Page) (h : Fits s cells li
     pub newest_lost : first_of (position (is_for false page.0) cells) (position (is_for true page.0) cells) ≡ None → newest q page ≡ None
     newest_lost e = none_of_some (newest q page) (sym newest_some ∙ ap (λ (o : Option ℕ). is_some o) e)
 
-    pub next_found : is_some (position (is_for false page.0) cells) ≡ is_some (next q page)
+    pub next_found : is_some (position (is_for false page.0) cells) ≡ is_some (next_copy q page)
     next_found = found_is false page.0 cells (h.single false page.0) ∙ sym (ap (λ (o : Option Copy). is_some o) (next_is s cells line page lt))
 
     room_of : (o : Option Copy) → o ≡ None → (is_some o || nat_lt (copies q) s.queue) ≡ true → copies q < s.queue
@@ -122,7 +122,7 @@ module _ (s : Sizes) (cells : List Kept) (line : List Page) (h : Fits s cells li
 
     pub room_place : has_room q page ≡ true → HasRoom cells page.0
     room_place room none =
-        let less : copies q < s.queue = room_of (next q page) (next_is s cells line page lt ∙ none) room in
+        let less : copies q < s.queue = room_of (next_copy q page) (next_is s cells line page lt ∙ none) room in
         omega (arith, h.used, h.room, less)
 
   pub flying_range : (page : Page) → IsSome (flying q page) → page.0 < pages_of s
@@ -147,14 +147,14 @@ pub put_step :
     → page.0 < pages_of s → length bytes ≡ s.page_bytes
     → has_room (queue_in s cells line) page ≡ true → IsPlaceFor cells page.0 i
     → cells' ≡ set cells i (record { held = Some (record { page = page; entry = entry; flying = false }); bytes = bytes })
-    → w ≡ is_none (newest (queue_in s cells line) page) → line' ≡ longer line page w
-    → Moved s cells' line' (put (queue_in s cells line) page (record { entry = entry; bytes = bytes }))
+    → w ≡ is_none (newest (queue_in s cells line) page) → line' ≡ line_with line page w
+    → Moved s cells' line' (put_after (queue_in s cells line) page (record { entry = entry; bytes = bytes }))
 put_step s cells cells' line line' page entry bytes i w h lt fills room place made waits joined =
-    let Q : Queue = put (queue_in s cells line) page (record { entry = entry; bytes = bytes }) in
+    let Q : Queue = put_after (queue_in s cells line) page (record { entry = entry; bytes = bytes }) in
     let C : Kept = record { held = Some (record { page = page; entry = entry; flying = false }); bytes = bytes } in
     let P : List Kept → Type 0 = λ c. Moved s c line' Q in
     let L : List Page → Type 0 = λ l. Moved s (set cells i C) l Q in
-    subst P (sym made) (subst L (sym (joined ∙ ap (λ b. longer line page b) waits)) (put_moves s cells line page entry bytes i h lt fills room place))
+    subst P (sym made) (subst L (sym (joined ∙ ap (λ b. line_with line page b) waits)) (put_moves s cells line page entry bytes i h lt fills room place))
 
 -- after `start` sent a cell's copy
 pub start_step :
@@ -172,26 +172,26 @@ start_step s cells cells' line rest page i h first found made =
 pub done_step :
     (s : Sizes) (cells cells' : List Kept) (line line' : List Page) (page : Page) (i : ℕ) (w : Bool) → Fits s cells line
     → IsSome (flying (queue_in s cells line) page) → position (is_for true page.0) cells ≡ Some i
-    → cells' ≡ set cells i (record { held = landed false (cell_at cells i).held; bytes = (cell_at cells i).bytes })
-    → w ≡ is_some (next (queue_in s cells line) page) → line' ≡ longer line page w
-    → Moved s cells' line' (done (queue_in s cells line) page)
+    → cells' ≡ set cells i (record { held = land_after false (cell_at cells i).held; bytes = (cell_at cells i).bytes })
+    → w ≡ is_some (next_copy (queue_in s cells line) page) → line' ≡ line_with line page w
+    → Moved s cells' line' (done_after (queue_in s cells line) page)
 done_step s cells cells' line line' page i w h some found made waits joined =
     let F : Kept → Kept = λ c. record { held = None; bytes = c.bytes } in
-    let P : List Kept → Type 0 = λ c. Moved s c line' (done (queue_in s cells line) page) in
-    let L : List Page → Type 0 = λ l. Moved s (set cells i (F (cell_at cells i))) l (done (queue_in s cells line) page) in
-    subst P (sym made) (subst L (sym (joined ∙ ap (λ b. longer line page b) waits)) (done_moves s cells line page i h some found))
+    let P : List Kept → Type 0 = λ c. Moved s c line' (done_after (queue_in s cells line) page) in
+    let L : List Page → Type 0 = λ l. Moved s (set cells i (F (cell_at cells i))) l (done_after (queue_in s cells line) page) in
+    subst P (sym made) (subst L (sym (joined ∙ ap (λ b. line_with line page b) waits)) (done_moves s cells line page i h some found))
 
 -- after `failed` freed a cell, or kept its copy as the page's next, and the page joined the line
 pub failed_step :
     (s : Sizes) (cells cells' : List Kept) (line line' : List Page) (page : Page) (i : ℕ) (newer : Bool) → Fits s cells line
     → IsSome (flying (queue_in s cells line) page) → position (is_for true page.0) cells ≡ Some i
-    → cells' ≡ set cells i (record { held = landed (not newer) (cell_at cells i).held; bytes = (cell_at cells i).bytes })
-    → newer ≡ is_some (next (queue_in s cells line) page) → line' ≡ longer line page true
-    → Moved s cells' line' (failed (queue_in s cells line) page)
+    → cells' ≡ set cells i (record { held = land_after (not newer) (cell_at cells i).held; bytes = (cell_at cells i).bytes })
+    → newer ≡ is_some (next_copy (queue_in s cells line) page) → line' ≡ line_with line page true
+    → Moved s cells' line' (failed_after (queue_in s cells line) page)
 failed_step s cells cells' line line' page i newer h some found made waits joined =
-    let F : Kept → Kept = λ c. record { held = landed (not newer) c.held; bytes = c.bytes } in
-    let P : List Kept → Type 0 = λ c. Moved s c line' (failed (queue_in s cells line) page) in
-    let L : List Page → Type 0 = λ l. Moved s (set cells i (F (cell_at cells i))) l (failed (queue_in s cells line) page) in
+    let F : Kept → Kept = λ c. record { held = land_after (not newer) c.held; bytes = c.bytes } in
+    let P : List Kept → Type 0 = λ c. Moved s c line' (failed_after (queue_in s cells line) page) in
+    let L : List Page → Type 0 = λ l. Moved s (set cells i (F (cell_at cells i))) l (failed_after (queue_in s cells line) page) in
     subst P (sym made) (subst L (sym joined) (failed_moves s cells line page i h some found newer waits))
 
 -- the entry that a landing copy had is that of the page's flying copy
@@ -233,7 +233,7 @@ pub front_place :
 front_place s cells line rest h page first =
     let lt : page.0 < pages_of s = (start_sets s (queue_in s cells line) page rest h.queue first).within in
     next_found s cells line h page lt
-    ∙ (and_parts (is_some (next (queue_in s cells line) page)) (is_none (flying (queue_in s cells line) page))
+    ∙ (and_parts (is_some (next_copy (queue_in s cells line) page)) (is_none (flying (queue_in s cells line) page))
     (front_waits s (queue_in s cells line) page rest h.queue first)).0
 
 pub front_range : (s : Sizes) (cells : List Kept) (line rest : List Page) (h : Fits s cells line) (page : Page) → line ≡ page ∷ rest → page.0 < pages_of s
@@ -254,7 +254,7 @@ pub front_alone :
 front_alone s cells line rest h page first =
     let q : Queue = queue_in s cells line in
     let none : flying (queue_in s cells line) page ≡ None =
-    none_of (flying q page) (and_parts (is_some (next q page)) (is_none (flying q page)) (front_waits s q page rest h.queue first)).1 in
+    none_of (flying q page) (and_parts (is_some (next_copy q page)) (is_none (flying q page)) (front_waits s q page rest h.queue first)).1 in
     let lost : is_some (position (is_for true page.0) cells) ≡ false =
     found_is true page.0 cells (h.single true page.0)
     ∙ ap (λ (o : Option Copy). is_some o) (sym (flying_is s cells line page (front_range s cells line rest h page first)) ∙ none) in
@@ -268,7 +268,7 @@ front_flies s cells line rest h page first =
     let q : Queue = queue_in s cells line in
     let sets = start_sets s (queue_in s cells line) page rest h.queue first in
     ap (λ (x : Places). is_some x.flying) sets.sets.here
-    ∙ (and_parts (is_some (next (queue_in s cells line) page)) (is_none (flying (queue_in s cells line) page)) sets.waited).0
+    ∙ (and_parts (is_some (next_copy (queue_in s cells line) page)) (is_none (flying (queue_in s cells line) page)) sets.waited).0
 
 pub started_entry :
     (page : Page) (bytes : List ℕ) (held : Option Held) (entry : EntryNo) → Some entry ≡ entry_of held

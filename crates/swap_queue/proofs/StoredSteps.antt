@@ -12,8 +12,8 @@ use Rattle.swap_base.specs.declared.EntryNo.{EntryNo}
 use Rattle.swap_queue.specs.declared.cell.Held.{Held}
 use Rattle.swap_queue.specs.declared.store.Spot.{Spot}
 use Rattle.swap_queue.specs.Queue.{one_if}
-use Rattle.swap_queue.specs.Cells.{Kept, free_cell, is_held_for, is_for, is_used, is_free, with_flying, landed, free_cells}
-use Rattle.swap_queue.specs.Stored.{no_spot, spot_in, spots_in, one_below, times_free, one_free, IsStored, IsPlaceFor, HasRoom, freed, Takes}
+use Rattle.swap_queue.specs.Cells.{Kept, free_cell, is_held_for, is_for, is_used, is_free, with_flying, land_after, free_cells}
+use Rattle.swap_queue.specs.Stored.{no_spot, spot_in, spots_in, one_below, times_free, one_free, IsStored, IsPlaceFor, HasRoom, free_list_after, Takes}
 use Rattle.swap_queue.proofs.Copies.{one, cell_at, count_for, copy_in-none, none_for, of_one_page, flying_page, of_one_kind, turned, turned_away, used_turned, used_for}
 use Rattle.swap_queue.proofs.PlaceOf.{count_none}
 use Rattle.swap_queue.proofs.StoredMoves.{found_new, found_gone, found_same, found_none, stored_after, spot_at, free_after, times_push_here, times_push_other}
@@ -149,8 +149,8 @@ module _ (cells : List Kept) (spots : List Spot) (free : List ℕ) (room : ℕ) 
     next_after keeps = if keeps then Some i else position (is_for false page.0) cells
 
     pub land_stored : (keeps : Bool) → (keeps ≡ true → position (is_for false page.0) cells ≡ None)
-        → IsStored (set cells i (record { held = landed keeps old.held; bytes = old.bytes }))
-        (set spots page.0 (record { flying = None; next = next_after keeps })) (freed free i (not keeps)) room
+        → IsStored (set cells i (record { held = land_after keeps old.held; bytes = old.bytes }))
+        (set spots page.0 (record { flying = None; next = next_after keeps })) (free_list_after free i (not keeps)) room
     land_stored true alone = back_stored (alone refl)
     land_stored false alone = drop_stored
 

@@ -51,9 +51,9 @@ abbrev pub with_flying : Bool → Option Held → Option Held
 with_flying flying None = None
 with_flying flying (Some h) = Some (record { page = h.page; entry = h.entry; flying = flying })
 
-abbrev pub landed : Bool → Option Held → Option Held
-landed true held = with_flying false held
-landed false held = None
+abbrev pub land_after : Bool → Option Held → Option Held
+land_after true held = with_flying false held
+land_after false held = None
 
 -- the first copy of a page that flies, or that is its next
 abbrev pub copy_in : Bool → ℕ → List Kept → Option Copy
@@ -71,8 +71,8 @@ abbrev pub queue_in : Sizes → List Kept → List Page → Queue
 queue_in s cells line = record { places = places_in (pages_of s) cells; line = line; capacity = s.queue }
 
 -- a line with a page at its back, where the page is to wait
-abbrev pub longer : List Page → Page → Bool → List Page
-longer line page waits = if waits then line ++ page ∷ [] else line
+abbrev pub line_with : List Page → Page → Bool → List Page
+line_with line page waits = if waits then line ++ page ∷ [] else line
 
 -- what the cells and the line keep: no page has two copies of one kind, and each copy has a cell
 pub record Fits (s : Sizes) (cells : List Kept) (line : List Page) : Type 0 where

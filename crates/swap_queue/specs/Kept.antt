@@ -2,7 +2,7 @@
 use Rattle.std.specs.Prelude.{◌≡◌, ◌≢◌, ℕ, ◌<◌, ◌≤◌, true, ◌==◌, List, ◌∷◌, length, count_by, IfSome, IsSome, Option, None, Some}
 use Rattle.swap_base.specs.declared.Page.{Page}
 use Rattle.swap_base.specs.Sizes.{Sizes, pages_of}
-use Rattle.swap_queue.specs.Queue.{Copy, Places, Queue, empty, places_of, flying, next, newest, copies, has_room, one_if, waits, put, start, done, failed}
+use Rattle.swap_queue.specs.Queue.{Copy, Places, Queue, empty, places_of, flying, next_copy, newest, copies, has_room, one_if, waits, put_after, start, done_after, failed_after}
 
 -- how often a page stands in a line
 abbrev pub times_in : List Page → Page → ℕ
@@ -20,7 +20,7 @@ pub record IsQueue (s : Sizes) (q : Queue) : Type 0 where
   pub within : copies q ≤ q.capacity
   pub line : (page : Page) → times_in q.line page ≡ one_if (waits q page)
   pub flying_fills : (page : Page) → FillsPage s (flying q page)
-  pub next_fills : (page : Page) → FillsPage s (next q page)
+  pub next_fills : (page : Page) → FillsPage s (next_copy q page)
 
 -- one page has new places, and every other keeps its own
 pub record SetsPlaces (before now : Queue) (page : Page) (places : Places) : Type 0 where
@@ -35,8 +35,8 @@ abbrev pub PutKeeps : Type 0
 PutKeeps =
     (s : Sizes) (q : Queue) (page : Page) (copy : Copy) → IsQueue s q → page.0 < pages_of s
     → length copy.bytes ≡ s.page_bytes → has_room q page ≡ true
-    → IsQueue s (put q page copy)
-    × SetsPlaces q (put q page copy) page (record { flying = flying q page; next = Some copy })
+    → IsQueue s (put_after q page copy)
+    × SetsPlaces q (put_after q page copy) page (record { flying = flying q page; next = Some copy })
 
 abbrev pub StartKeeps : Type 0
 StartKeeps = (s : Sizes) (q : Queue) → IsQueue s q → IsQueue s (start q)
@@ -45,7 +45,7 @@ StartKeeps = (s : Sizes) (q : Queue) → IsQueue s q → IsQueue s (start q)
 pub record StartsFront (s : Sizes) (q : Queue) (page : Page) : Type 0 where
   pub within : page.0 < pages_of s
   pub waited : waits q page ≡ true
-  pub sets : SetsPlaces q (start q) page (record { flying = next q page; next = None })
+  pub sets : SetsPlaces q (start q) page (record { flying = next_copy q page; next = None })
 
 abbrev pub StartSets : Type 0
 StartSets =
@@ -54,12 +54,14 @@ StartSets =
 abbrev pub DoneKeeps : Type 0
 DoneKeeps =
     (s : Sizes) (q : Queue) (page : Page) → IsQueue s q → IsSome (flying q page)
-    → IsQueue s (done q page) × SetsPlaces q (done q page) page (record { flying = None; next = next q page })
+    → IsQueue s (done_after q page) × SetsPlaces q (done_after q page) page
+    (record { flying = None; next = next_copy q page })
 
 abbrev pub FailedKeeps : Type 0
 FailedKeeps =
     (s : Sizes) (q : Queue) (page : Page) → IsQueue s q → IsSome (flying q page)
-    → IsQueue s (failed q page) × SetsPlaces q (failed q page) page (record { flying = None; next = newest q page })
+    → IsQueue s (failed_after q page) × SetsPlaces q (failed_after q page) page
+    (record { flying = None; next = newest q page })
 
 -- a page with a copy is a page of the device
 abbrev pub CopiesInRange : Type 0

@@ -9,7 +9,7 @@ use Rattle.swap_queue.specs.Queue.{one_if}
 use Rattle.swap_queue.specs.Cells.{Kept, free_cell, is_for, is_used, is_free, copy_in, Fits}
 
 -- the cells, and for how many pages there is a table
-pub record Stored : Type 0 where
+pub record StoreView : Type 0 where
   pub cells : List Kept
   pub pages : ℕ
 
@@ -62,8 +62,8 @@ abbrev pub IsSized : List Kept → ℕ → Type 0
 IsSized cells size = (i : ℕ) → i < length cells → length (slice_index_or cells i free_cell).bytes ≡ size
 
 -- the free places with one more, where it is to be free
-abbrev pub freed : List ℕ → ℕ → Bool → List ℕ
-freed free place frees = if frees then free ++ place ∷ [] else free
+abbrev pub free_list_after : List ℕ → ℕ → Bool → List ℕ
+free_list_after free place frees = if frees then free ++ place ∷ [] else free
 
 -- which place is taken: that of a next copy, else the last one that is free
 abbrev pub Takes : Option ℕ → List ℕ → ℕ → List ℕ → Type 0
@@ -71,5 +71,5 @@ Takes None free place rest = free ≡ rest ++ place ∷ []
 Takes (Some next) free place rest = (place ≡ next) × (rest ≡ free)
 
 -- what the queue keeps: its copies in cells, a table for its pages, and room in the line for every page that may wait
-abbrev pub BehindFits : Sizes → Stored → List Page → ℕ → Type 0
+abbrev pub BehindFits : Sizes → StoreView → List Page → ℕ → Type 0
 BehindFits s stored line room = Fits s stored.cells line × (s.queue ≤ room) × (stored.pages ≡ pages_of s)

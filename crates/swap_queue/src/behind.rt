@@ -4,9 +4,9 @@ ghost use Rattle.swap_base.specs.declared.Page.{Page};
 ghost use Rattle.swap_base.specs.declared.EntryNo.{EntryNo};
 ghost use Rattle.swap_base.specs.Sizes.{Sizes, pages_of};
 ghost use Rattle.swap_queue.specs.Kept.{IsQueue};
-ghost use Rattle.swap_queue.specs.Queue.{Copy, copies, holds, has_room, put, next, newest, flying, front, start, done, failed};
-ghost use Rattle.swap_queue.specs.Backlog.{new_backlog, bytes_or, started_answer, started_bytes, failed_answer};
-ghost use Rattle.swap_queue.specs.Cells.{longer};
+ghost use Rattle.swap_queue.specs.Queue.{Copy, copies, holds, has_room, put_after, next_copy, newest, flying, front, start, done_after, failed_after};
+ghost use Rattle.swap_queue.specs.BehindView.{new_backlog, bytes_or, started_answer, started_bytes, failed_answer};
+ghost use Rattle.swap_queue.specs.Cells.{line_with};
 
 use crate::Failed;
 use crate::store::Store;
@@ -27,11 +27,11 @@ pub struct Behind {
 impl Model for Behind {
     ghost use Rattle.std.specs.Prelude.{◌≤◌};
     ghost use Rattle.std.specs.VecDeque.{deque_capacity};
-    ghost use Rattle.swap_queue.specs.Backlog.{Backlog};
+    ghost use Rattle.swap_queue.specs.BehindView.{BehindView};
     ghost use Rattle.swap_queue.specs.Cells.{queue_in};
     ghost use Rattle.swap_queue.specs.Stored.{BehindFits};
 
-    ghost Value = { Backlog };
+    ghost Value = { BehindView };
 
     ghost view = { λ b.
         record { sizes = b.geometry; queue = queue_in b.geometry b.store.cells b.line.items } };
@@ -42,7 +42,7 @@ impl Model for Behind {
 /// The page goes to the back of the line, where it is to wait.
 fn join(line: &mut VecDeque<Page>, page: Page, waits: bool)
     requires { IsTrue waits → deque_len line.old < deque_capacity line.old }
-    ensures items { line.new.items ≡ longer line.old.items page waits }
+    ensures items { line.new.items ≡ line_with line.old.items page waits }
     ensures capacity { deque_capacity line.new ≡ deque_capacity line.old }
 {
     if waits {
@@ -110,7 +110,7 @@ impl Behind {
         requires bytes { length bytes.now ≡ self.old.sizes.page_bytes }
         requires room { IsTrue (has_room self.old.queue page) }
         ensures queue { self.new.queue
-            ≡ put self.old.queue page (record { entry = entry; bytes = bytes.now }) }
+            ≡ put_after self.old.queue page (record { entry = entry; bytes = bytes.now }) }
         ensures sizes { self.new.sizes ≡ self.old.sizes }
     {
         let waits = !self.holds(page);
@@ -154,7 +154,7 @@ impl Behind {
     pub fn done(&mut self, page: Page) -> EntryNo
         requires { IsSome (flying self.old.queue page) }
         ensures entry { IfSome (flying self.old.queue page) (λ (copy : Copy). result ≡ copy.entry) }
-        ensures queue { self.new.queue ≡ done self.old.queue page }
+        ensures queue { self.new.queue ≡ done_after self.old.queue page }
         ensures sizes { self.new.sizes ≡ self.old.sizes }
     {
         let waits = self.store.find(page, false).is_some();
@@ -168,8 +168,8 @@ impl Behind {
     pub fn failed(&mut self, page: Page) -> Failed
         requires { IsSome (flying self.old.queue page) }
         ensures answer { IfSome (flying self.old.queue page)
-            (λ (copy : Copy). result ≡ failed_answer (next self.old.queue page) copy.entry) }
-        ensures queue { self.new.queue ≡ failed self.old.queue page }
+            (λ (copy : Copy). result ≡ failed_answer (next_copy self.old.queue page) copy.entry) }
+        ensures queue { self.new.queue ≡ failed_after self.old.queue page }
         ensures sizes { self.new.sizes ≡ self.old.sizes }
     {
         let newer = self.store.find(page, false).is_some();

@@ -1,5 +1,5 @@
 ghost use Rattle.std.specs.Prelude.{◌≡◌, length, IfOk, IsSome, Some, None, replicate, true};
-ghost use Rattle.swap_queue.specs.Cells.{entry_of, with_flying, landed};
+ghost use Rattle.swap_queue.specs.Cells.{entry_of, with_flying, land_after};
 
 use std::alloc::{AllocError, Global};
 use std::marker::Model;
@@ -74,7 +74,7 @@ impl Cell {
         requires { IsSome self.old.held }
         ensures entry { Some result ≡ entry_of self.old.held }
         ensures cell { self.new
-            ≡ record { held = landed keeps self.old.held; bytes = self.old.bytes } }
+            ≡ record { held = land_after keeps self.old.held; bytes = self.old.bytes } }
     {
         let held = self.held.unwrap();
         self.held = if keeps {

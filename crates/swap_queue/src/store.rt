@@ -1,7 +1,7 @@
 ghost use Rattle.std.specs.Prelude.{◌≡◌, ℕ, ◌<◌, ◌≤◌, ◌==◌, length, IfOk, IsSome, IsTrue, Some, None, true, false, if◌then◌else◌, position, count_by, slice_index_or, slice_set, vec_len, vec_capacity};
 ghost use Rattle.swap_queue.specs.Queue.{first_of};
-ghost use Rattle.swap_queue.specs.Cells.{free_cell, is_for, is_used, entry_of, with_flying, landed, free_cells};
-ghost use Rattle.swap_queue.specs.Stored.{Stored, IsPlaceFor, HasRoom, IsSized, one_below, freed, Takes};
+ghost use Rattle.swap_queue.specs.Cells.{free_cell, is_for, is_used, entry_of, with_flying, land_after, free_cells};
+ghost use Rattle.swap_queue.specs.Stored.{StoreView, IsPlaceFor, HasRoom, IsSized, one_below, free_list_after, Takes};
 
 use crate::cell::{Cell, Held};
 use std::alloc::Global;
@@ -25,9 +25,9 @@ pub(crate) struct Store {
 
 impl Model for Store {
     ghost use Rattle.std.specs.Prelude.{length, vec_capacity};
-    ghost use Rattle.swap_queue.specs.Stored.{Stored, IsStored};
+    ghost use Rattle.swap_queue.specs.Stored.{StoreView, IsStored};
 
-    ghost Value = { Stored };
+    ghost Value = { StoreView };
 
     ghost view = { λ s. record { cells = s.cells.items; pages = length s.spots.items } };
 
@@ -91,7 +91,7 @@ fn landed_spot(next: Option<u32>, place: u32, keeps: bool) -> Spot
 /// The place is free from now on, where it is to be.
 fn give_back(free: &mut Vec<u32>, place: u32, frees: bool)
     requires { IsTrue frees → vec_len free.old < vec_capacity free.old }
-    ensures items { free.new.items ≡ freed free.old.items place frees }
+    ensures items { free.new.items ≡ free_list_after free.old.items place frees }
     ensures capacity { vec_capacity free.new ≡ vec_capacity free.old }
 {
     if frees {
@@ -227,7 +227,7 @@ impl Store {
         ensures cells { let old = slice_index_or self.old.cells place free_cell in
             self.new.cells
             ≡ slice_set self.old.cells place
-            (record { held = landed keeps old.held; bytes = old.bytes }) }
+            (record { held = land_after keeps old.held; bytes = old.bytes }) }
         ensures pages { self.new.pages ≡ self.old.pages }
     {
         let cell = &mut self.cells[place as usize];

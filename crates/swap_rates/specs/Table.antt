@@ -2,17 +2,17 @@
 use Rattle.std.specs.Prelude.{ℕ, ◌+◌, ◌*◌, Bool, true, ◌&&◌, nat_le, nat_lt, if◌then◌else◌, List, [], ◌∷◌, map, replicate, option_map, slice_index_or, slice_set, Option, None, Some}
 use Rattle.swap_base.specs.declared.Slab.{Slab}
 use Rattle.swap_activity.specs.Rates as activity
-use Rattle.swap_activity.specs.Rates.{Activity, still, end_period}
+use Rattle.swap_activity.specs.Rates.{Activity, activity_at_start, end_period}
 use Rattle.swap_slabs.specs.declared.SlabState.{SlabState}
 use Rattle.swap_slabs.specs.Slabs.{is_local}
 use Rattle.swap_rates.specs.declared.rates.Candidate.{Candidate}
 
 -- no slab was hit
 abbrev pub all_still : ℕ → List Activity
-all_still slabs = replicate slabs still
+all_still slabs = replicate slabs activity_at_start
 
 abbrev pub rate_of : List Activity → Slab → Activity
-rate_of rates slab = slice_index_or rates slab.0 still
+rate_of rates slab = slice_index_or rates slab.0 activity_at_start
 
 -- the value of a slab's rate
 abbrev pub value_of : List Activity → Slab → ℕ
@@ -27,7 +27,7 @@ periods_ended rates = map end_period rates
 
 -- a slab is a candidate while it's local and its value is at least so many hits in each period
 abbrev pub is_candidate : ℕ → SlabState → ℕ → Bool
-is_candidate hot state value = is_local state && nat_le (hot * activity.one) value
+is_candidate hot state value = is_local state && nat_le (hot * activity.one_hit) value
 
 -- the value is above that of the best so far
 abbrev pub is_above : Option Candidate → ℕ → Bool

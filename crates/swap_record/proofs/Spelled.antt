@@ -6,7 +6,7 @@ use Rattle.std.specs.List.{find, join_with_byte}
 use Rattle.std.specs.Option.{unwrap_or, option_map}
 use Rattle.std.specs.Str.{bytes_eq}
 use Rattle.std.proofs.lemmas.List.{length-take}
-use Rattle.swap_io.specs.Words.{lengths, repeated, shortest_piece, shortest, hex}
+use Rattle.swap_io.specs.Words.{lengths, repeat_piece, shortest_piece, shortest, hex}
 use Rattle.swap_record.specs.declared.Entry.{Entry}
 use Rattle.swap_record.specs.History.{Row}
 use Rattle.swap_record.specs.Text.{spaced_after}
@@ -56,7 +56,7 @@ four line a b c d = ap (λ text. text ++ 32 ∷ d) (three line a b c) ∙ word_m
 
 -- a page's word has at most two digits for each byte
 pub shortest_within : (page : List ℕ) → length (shortest page) ≤ 2 * length page
-shortest_within page = omega (arith, length-hex (shortest_piece page), piece_within page (λ piece. bytes_eq (repeated (length page) piece) page) lengths)
+shortest_within page = omega (arith, length-hex (shortest_piece page), piece_within page (λ piece. bytes_eq (repeat_piece (length page) piece) page) lengths)
 
 -- a row by its two parts
 pub row_by_parts :

@@ -9,7 +9,7 @@ use Rattle.std.proofs.lemmas.List.Sums.{count_by-le-length, sum_by-cons}
 use Rattle.std.proofs.Math.Nat.{mul-le-mul_right}
 use Rattle.swap_base.specs.declared.Caller.{Caller}
 use Rattle.swap_record.specs.declared.Entry.{Entry}
-use Rattle.swap_record.specs.History.{History, Row, named, count_of, is_by}
+use Rattle.swap_record.specs.History.{History, Row, row_named, count_of, is_by}
 use Rattle.swap_record.specs.InMemory.{rows_in, history_in, AreCounts}
 
 pub length_rows : (n : ℕ) (es : List Entry) (bs : List ℕ) → length (rows_in n es bs) ≡ length es
@@ -64,19 +64,19 @@ behind row H k d is lt =
 
 named_in :
     (row : Row) (H : History) (k : ℕ) (d : Row) (b : Bool) → (length H == k) ≡ b → k < length (row ∷ H)
-    → (k < length H → named H k ≡ Some (get_or H (length H - 1 - k) d))
-    → (if b then Some row else named H k) ≡ Some (get_or (row ∷ H) (length (row ∷ H) - 1 - k) d)
+    → (k < length H → row_named H k ≡ Some (get_or H (length H - 1 - k) d))
+    → (if b then Some row else row_named H k) ≡ Some (get_or (row ∷ H) (length (row ∷ H) - 1 - k) d)
 named_in row H k d true is lt rest = ap Some (sym (at_front row H k d is))
 named_in row H k d false is lt rest = let here = behind row H k d is lt in rest here.0 ∙ ap Some (sym here.1)
 
-named_back : (H : History) (k : ℕ) (d : Row) → k < length H → named H k ≡ Some (get_or H (length H - 1 - k) d)
+named_back : (H : History) (k : ℕ) (d : Row) → k < length H → row_named H k ≡ Some (get_or H (length H - 1 - k) d)
 named_back [] k d lt = absurd (omega arith)
 named_back (row ∷ H) k d lt = named_in row H k d (length H == k) refl lt (λ here. named_back H k d here)
 
 -- the entry of a name is the one at that place of the rows
 pub named_at :
     (n : ℕ) (es : List Entry) (bs : List ℕ) (k : ℕ) (e : Entry) → k < length es
-    → named (history_in n es bs) k ≡ Some (record { entry = get_or es k e; bytes = take n (drop (k * n) bs) })
+    → row_named (history_in n es bs) k ≡ Some (record { entry = get_or es k e; bytes = take n (drop (k * n) bs) })
 named_at n es bs k e lt =
     let d : Row = record { entry = e; bytes = [] } in
     let back : length (rows_in n es bs) - 1 - (length (history_in n es bs) - 1 - k) ≡ k = omega (arith, length_rows n es bs, length_history n es bs) in

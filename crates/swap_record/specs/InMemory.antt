@@ -7,7 +7,7 @@ use Rattle.swap_base.specs.declared.Caller.{Caller}
 use Rattle.swap_record.specs.declared.Entry.{Entry}
 use Rattle.swap_record.specs.declared.TheConstants.{MOST_CALLERS, MOST_ENTRIES}
 use Rattle.swap_record.specs.History.{History, Row, count_of}
-use Rattle.swap_record.specs.Book.{HasNumbers}
+use Rattle.swap_record.specs.RecordView.{HasNumbers}
 
 -- the entries with their pages, the oldest first
 abbrev pub rows_in : ℕ → List Entry → List ℕ → List Row

@@ -7,26 +7,26 @@ use Rattle.swap_record.specs.declared.Op.TheVariants.{PageOut, PageIn, Failed}
 use Rattle.swap_record.specs.declared.Verdict.{Verdict}
 use Rattle.swap_record.specs.declared.Verdict.TheVariants.{Legal, NotLegal}
 use Rattle.swap_record.specs.History.{History, IsLegal, last, is_zero}
-use Rattle.swap_record.specs.Book.{Book}
+use Rattle.swap_record.specs.RecordView.{RecordView}
 
 -- the history as it was when it had n entries
 abbrev pub oldest : ℕ → History → History
 oldest n H = drop (length H - n) H
 
 -- the history of a record is one of an array of pages of its size, that starts as zeros
-abbrev pub IsLegalBook : Book → History → Type 0
+abbrev pub IsLegalBook : RecordView → History → Type 0
 IsLegalBook b H = IsLegal (replicate b.page_bytes 0) H
 
 -- an entry is the first that is wrong: it is marked, or the history with it isn't legal, and of those before it no
 -- one is, since `noted` is the first that is marked
-pub record IsFirstWrong (b : Book) (n : ℕ) : Type 0 where
+pub record IsFirstWrong (b : RecordView) (n : ℕ) : Type 0 where
   pub within : n < length b.history
   pub unmarked : (k : ℕ) → b.noted ≡ Some k → k < n → ⊥
   pub legal : IsLegalBook b (oldest n b.history)
   pub wrong : (b.noted ≡ Some n) ⊎ (IsLegalBook b (oldest (suc n) b.history) → ⊥)
 
 -- the answer that a record gets
-abbrev pub Judges : Book → Verdict → Type 0
+abbrev pub Judges : RecordView → Verdict → Type 0
 Judges b Legal = (b.noted ≡ None) × IsLegalBook b b.history
 Judges b (NotLegal at) = IsFirstWrong b at.0
 

@@ -9,7 +9,7 @@ use Rattle.swap_base.specs.declared.CallKind.TheVariants as kind
 use Rattle.swap_io.specs.Words.{shortest}
 use Rattle.swap_record.specs.declared.Op.{Op}
 use Rattle.swap_record.specs.declared.Op.TheVariants as op
-use Rattle.swap_record.specs.History.{History, Row, named}
+use Rattle.swap_record.specs.History.{History, Row, row_named}
 
 abbrev pub origin_words : Origin → List (List ℕ)
 origin_words origin.Zero = codes "zero" ∷ []
@@ -24,8 +24,8 @@ named_word (Some e) = decimal e.0
 -- an entry: its name, what the call did, and the page
 abbrev pub op_words : ℕ → List ℕ → Op → List (List ℕ)
 op_words page bytes op.PageOut = codes "out" ∷ decimal page ∷ shortest bytes ∷ []
-op_words page bytes (op.PageIn named from) =
-    codes "in" ∷ decimal page ∷ codes "of" ∷ named_word named ∷ origin_words from ++ shortest bytes ∷ []
+op_words page bytes (op.PageIn row_named from) =
+    codes "in" ∷ decimal page ∷ codes "of" ∷ named_word row_named ∷ origin_words from ++ shortest bytes ∷ []
 op_words page bytes (op.Failed kind.PageOut since at) =
     codes "fault" ∷ codes "out" ∷ decimal page ∷ decimal since ∷ decimal at ∷ shortest bytes ∷ []
 op_words page bytes (op.Failed kind.PageIn since at) =
@@ -36,7 +36,7 @@ row_words n None = []
 row_words n (Some row) = codes "entry" ∷ decimal n ∷ op_words row.entry.page.0 row.bytes row.entry.op
 
 abbrev pub entry_words : History → EntryNo → List (List ℕ)
-entry_words H e = row_words e.0 (named H e.0)
+entry_words H e = row_words e.0 (row_named H e.0)
 
 -- the words with one space between each two
 abbrev pub entry_text : History → EntryNo → List ℕ

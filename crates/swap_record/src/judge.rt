@@ -1,5 +1,5 @@
 ghost use Rattle.std.specs.Prelude.{◌≡◌, ℕ, ◌⊎◌, false, ◌<◌, ◌≤◌, ◌==◌, ◌&&◌, ◌↔◌, ◌∷◌, suc, get_or, length, replicate, if◌then◌else◌, IfOk, IfSome, IfNone, OnOk, IsTrue, option_map, unwrap_or, Some, None};
-ghost use Rattle.swap_record.specs.History.{Row, named, is_page_out};
+ghost use Rattle.swap_record.specs.History.{Row, row_named, is_page_out};
 ghost use Rattle.swap_record.specs.Judging.{oldest, IsLegalBook, IsRight, HasNewest, Judges};
 
 use super::{Entry, Op, Record, Verdict};
@@ -64,7 +64,7 @@ impl Record {
         requires { IfSome no (λ n. n.0 < length self.now.history) }
         ensures none { IfNone no (result.now ≡ zeros.now) }
         ensures some { IfSome no
-            (λ n. option_map (λ (row : Row). row.bytes) (named self.now.history n.0)
+            (λ n. option_map (λ (row : Row). row.bytes) (row_named self.now.history n.0)
             ≡ Some result.now) }
     {
         match no {

@@ -1,6 +1,6 @@
 ghost use Rattle.std.specs.Prelude.{◌≡◌, ◌+◌, ◌-◌, ◌<◌, ◌≤◌, ◌↔◌, ◌==◌, [], length, max, option_map, OnOk, OnErr, Some};
-ghost use Rattle.swap_record.specs.History.{Row, next_name, named};
-ghost use Rattle.swap_record.specs.Book.{IsBook, written, first_noted};
+ghost use Rattle.swap_record.specs.History.{Row, next_name, row_named};
+ghost use Rattle.swap_record.specs.RecordView.{IsBook, push_after, first_noted};
 
 use super::{Entry, MOST_CALLERS, MOST_ENTRIES, Op};
 use std::alloc::Global;
@@ -26,9 +26,9 @@ pub struct Record {
 }
 
 impl Model for Record {
-    ghost use Rattle.swap_record.specs.Book.{Book};
+    ghost use Rattle.swap_record.specs.RecordView.{RecordView};
 
-    ghost Value = { Book };
+    ghost Value = { RecordView };
 
     ghost use Rattle.swap_record.specs.InMemory.{history_in, IsKept};
 
@@ -151,7 +151,7 @@ impl Record {
 
     pub fn entry(&self, no: EntryNo) -> Entry
         requires { no.0 < length self.now.history }
-        ensures { option_map (λ (row : Row). row.entry) (named self.now.history no.0)
+        ensures { option_map (λ (row : Row). row.entry) (row_named self.now.history no.0)
             ≡ Some result }
     {
         self.entries[no.0 as usize]
@@ -160,7 +160,7 @@ impl Record {
     /// The bytes of an entry's page.
     pub fn bytes(&self, no: EntryNo) -> &[u8]
         requires { no.0 < length self.now.history }
-        ensures bytes { option_map (λ (row : Row). row.bytes) (named self.now.history no.0)
+        ensures bytes { option_map (λ (row : Row). row.bytes) (row_named self.now.history no.0)
             ≡ Some result.now }
         ensures len { length result.now ≡ self.now.page_bytes }
         ensures within { self.now.page_bytes ≤ 4_096 }
@@ -174,7 +174,7 @@ impl Record {
         requires caller { caller.0 < MOST_CALLERS }
         requires room { 0 < self.old.spare }
         requires bytes { length bytes.now ≡ self.old.page_bytes }
-        ensures after { self.new ≡ written self.old caller page Op.PageOut bytes.now }
+        ensures after { self.new ≡ push_after self.old caller page Op.PageOut bytes.now }
         ensures name { result ≡ next_name self.old.history }
     {
         self.push(caller, page, Op::PageOut, bytes)
@@ -192,7 +192,7 @@ impl Record {
         requires caller { caller.0 < MOST_CALLERS }
         requires room { 0 < self.old.spare }
         requires bytes { length bytes.now ≡ self.old.page_bytes }
-        ensures after { self.new ≡ written self.old caller page (Op.PageIn named origin) bytes.now }
+        ensures after { self.new ≡ push_after self.old caller page (Op.PageIn named origin) bytes.now }
         ensures name { result ≡ next_name self.old.history }
     {
         self.push(caller, page, Op::PageIn { named, origin }, bytes)
@@ -212,7 +212,7 @@ impl Record {
         requires room { 0 < self.old.spare }
         requires bytes { length bytes.now ≡ self.old.page_bytes }
         ensures after { self.new
-            ≡ written self.old caller page (Op.Failed kind since at) bytes.now }
+            ≡ push_after self.old caller page (Op.Failed kind since at) bytes.now }
         ensures name { result ≡ next_name self.old.history }
     {
         self.push(caller, page, Op::Failed { kind, since, at }, bytes)
@@ -222,7 +222,7 @@ impl Record {
         requires caller { caller.0 < MOST_CALLERS }
         requires room { 0 < self.old.spare }
         requires bytes { length bytes.now ≡ self.old.page_bytes }
-        ensures after { self.new ≡ written self.old caller page op bytes.now }
+        ensures after { self.new ≡ push_after self.old caller page op bytes.now }
         ensures name { result ≡ next_name self.old.history }
     {
         let no = EntryNo(self.entries.len() as u32);

@@ -16,7 +16,7 @@ use Rattle.swap_choice.specs.declared.lenders.Asked.{Asked}
 use Rattle.swap_choice.specs.declared.lenders.Asked.TheVariants.{Nobody, One, Two}
 use Rattle.swap_choice.specs.Asked as choice
 use Rattle.swap_choice.proofs.PicksLemmas.{asked_members, asked_different}
-use Rattle.swap_remote.specs.Remote.{Remote, up_from, fresh, others, only_mapped, mapped_by}
+use Rattle.swap_remote.specs.Remote.{Remote, up_from, fresh_lenders, other_lenders, only_mapped, mapped_by}
 use Rattle.swap_remote.specs.Kept.{AreAsked}
 
 -- what is true of each lender that meets a test is true of each that is listed
@@ -67,44 +67,46 @@ module _ (r : Remote) where
   not_both k m none some same =
       false≢true (sym (ap not (ap (λ j. slabs.holds r.slabs (record { 0 = j })) same ∙ some)) ∙ none)
 
-  all_distinct : IsDistinct nat_eq (fresh r ++ others r)
+  all_distinct : IsDistinct nat_eq (fresh_lenders r ++ other_lenders r)
   all_distinct =
-      both_distinct (fresh r) (others r) (up_distinct (λ l. not (slabs.holds r.slabs l)) r.links 0) (up_distinct (λ l. slabs.holds r.slabs l) r.links 0)
-      (up_each (λ x. AllByRecursion (λ y. nat_eq x y ≡ false) (others r)) (λ l. not (slabs.holds r.slabs l)) r.links 0
+      both_distinct (fresh_lenders r) (other_lenders r) (up_distinct (λ l. not (slabs.holds r.slabs l)) r.links 0)
+      (up_distinct (λ l. slabs.holds r.slabs l) r.links 0)
+      (up_each (λ x. AllByRecursion (λ y. nat_eq x y ≡ false) (other_lenders r)) (λ l. not (slabs.holds r.slabs l)) r.links 0
       (λ k low high none. up_each (λ y. nat_eq k y ≡ false) (λ l. slabs.holds r.slabs l) r.links 0 (λ m low' high' some. ne_eqb k m (not_both k m none some))))
 
-  all_within : AllByRecursion (λ n. n < length r.links) (fresh r ++ others r)
+  all_within : AllByRecursion (λ n. n < length r.links) (fresh_lenders r ++ other_lenders r)
   all_within =
-      each_append (λ n. n < length r.links) (fresh r) (others r)
+      each_append (λ n. n < length r.links) (fresh_lenders r) (other_lenders r)
       (up_each (λ n. n < length r.links) (λ l. not (slabs.holds r.slabs l)) r.links 0 (λ k low high t. omega (arith, high)))
       (up_each (λ n. n < length r.links) (λ l. slabs.holds r.slabs l) r.links 0 (λ k low high t. omega (arith, high)))
 
-  member_within : (w n : ℕ) → Contains (choice.named (choice.asked w (fresh r) (others r))) n → n < length r.links
+  member_within : (w n : ℕ) → Contains (choice.lenders_asked (choice.two_asked w (fresh_lenders r) (other_lenders r))) n → n < length r.links
   member_within w n is =
-      All-contains (λ k. k < length r.links) (fresh r ++ others r) n (All-from_recursion (λ k. k < length r.links) (fresh r ++ others r) all_within)
-      (asked_members w (fresh r) (others r) n is)
+      All-contains (λ k. k < length r.links) (fresh_lenders r
+      ++ other_lenders r) n (All-from_recursion (λ k. k < length r.links) (fresh_lenders r ++ other_lenders r) all_within)
+      (asked_members w (fresh_lenders r) (other_lenders r) n is)
 
 -- two that are distinct are different
 differ : (n m : ℕ) → IsDistinct nat_eq (n ∷ m ∷ []) → n ≢ m
 unfolding IsDistinct
 differ n m apart same = false≢true (sym apart.0.0 ∙ eq-eqb n m same)
 
-fits : (a : Asked) → ((n : ℕ) → Contains (choice.named a) n → n < MOST_LENDERS) → IsDistinct nat_eq (choice.named a) → AreAsked a
+fits : (a : Asked) → ((n : ℕ) → Contains (choice.lenders_asked a) n → n < MOST_LENDERS) → IsDistinct nat_eq (choice.lenders_asked a) → AreAsked a
 fits Nobody within apart = tt
 fits (One n) within apart = within n (0, omega arith, refl)
 fits (Two n m) within apart = (within n (0, omega arith, refl), within m (1, omega arith, refl), differ n m apart)
 
-pub asked_fit : (w : ℕ) (r : Remote) → length r.links ≡ MOST_LENDERS → AreAsked (choice.asked w (fresh r) (others r))
+pub asked_fit : (w : ℕ) (r : Remote) → length r.links ≡ MOST_LENDERS → AreAsked (choice.two_asked w (fresh_lenders r) (other_lenders r))
 asked_fit w r len =
-    fits (choice.asked w (fresh r) (others r)) (λ n is. subst (λ k. n < k) len (member_within r w n is))
-    (asked_different w (fresh r) (others r) (all_distinct r))
+    fits (choice.two_asked w (fresh_lenders r) (other_lenders r)) (λ n is. subst (λ k. n < k) len (member_within r w n is))
+    (asked_different w (fresh_lenders r) (other_lenders r) (all_distinct r))
 
-pub asked_differ : (w : ℕ) (r : Remote) (n m : ℕ) → choice.asked w (fresh r) (others r) ≡ Two n m → n ≡ m → ⊥
-asked_differ w r n m is = differ n m (subst (λ a. IsDistinct nat_eq (choice.named a)) is (asked_different w (fresh r) (others r) (all_distinct r)))
+pub asked_differ : (w : ℕ) (r : Remote) (n m : ℕ) → choice.two_asked w (fresh_lenders r) (other_lenders r) ≡ Two n m → n ≡ m → ⊥
+asked_differ w r n m is =
+    differ n m (subst (λ a. IsDistinct nat_eq (choice.lenders_asked a)) is (asked_different w (fresh_lenders r) (other_lenders r) (all_distinct r)))
 
 some_is : (a b : Slab) → Some a ≡ Some b → a ≡ b
 some_is a b h = cc
 
 none_some : (a : Slab) → None ≡ Some a → ⊥
 none_some a h = cc
-

@@ -13,8 +13,8 @@ use Rattle.swap_base.specs.Sizes.{Sizes, pages_of, slab_of}
 use Rattle.swap_bits.specs.Bits.{has, is_in_range, without_range, TakesRange, KeepsBound}
 use Rattle.swap_slabs.specs.declared.SlabState.{SlabState}
 use Rattle.swap_slabs.specs.declared.SlabState.TheVariants.{Local}
-use Rattle.swap_slabs.specs.Slabs.{state_of, with_state, is_at, after_lost, lost, holds}
-use Rattle.swap_slabs.specs.Rows.{one}
+use Rattle.swap_slabs.specs.Slabs.{state_of, with_state, is_at, after_lost, lost_after, holds}
+use Rattle.swap_slabs.specs.Rows.{one_if}
 use Rattle.swap_remote.specs.Remote.{left_from}
 use Rattle.swap_remote.specs.lemmas.Cleared.{at, in_slab, off_slab, length-left, get_or-left}
 
@@ -22,13 +22,13 @@ use Rattle.swap_remote.specs.lemmas.Cleared.{at, in_slab, off_slab, length-left,
 pub record IsLeaving (s : Sizes) (lender : Lender) (states : List SlabState) (bits : List Bool) (states' : List SlabState) (bits' : List Bool) : Type 0 where
   pub slabs_len : length states' ≡ s.slabs
   pub bits_len : length bits' ≡ pages_of s
-  pub slabs_left : lost states' lender ≡ lost states lender
+  pub slabs_left : lost_after states' lender ≡ lost_after states lender
   pub bits_left : left_from s states' lender bits' 0 ≡ left_from s states lender bits 0
 
 -- a slab at the lender is sent home, with its bits cleared
 module _ (s : Sizes) (states : List SlabState) (lender : Lender) (bits : List Bool) (slab : Slab) (within : slab.0 < length states)
     (here : is_at lender (state_of states slab) ≡ true) where
-  sent_lost : lost (with_state states slab Local) lender ≡ lost states lender
+  sent_lost : lost_after (with_state states slab Local) lender ≡ lost_after states lender
   sent_lost =
       map-set_same (after_lost lender) states slab.0 Local Local (sym (cond-true (is_at lender (state_of states slab)) Local (state_of states slab) here))
 
@@ -75,7 +75,7 @@ module _ (s : Sizes) (states : List SlabState) (lender : Lender) (bits : List Bo
       }
 
   pub fewer_at : count_by (λ state. is_at lender state) (with_state states slab Local) < count_by (λ state. is_at lender state) states
-  fewer_at = omega (arith, sum_by-set (λ x. one (is_at lender x)) states slab.0 Local Local within, ap (λ b. one b) here)
+  fewer_at = omega (arith, sum_by-set (λ x. one_if (is_at lender x)) states slab.0 Local Local within, ap (λ b. one_if b) here)
 
 -- none is left at the lender
 module _ (s : Sizes) (states : List SlabState) (lender : Lender) (none : holds states lender ≡ false) where
@@ -88,9 +88,9 @@ module _ (s : Sizes) (states : List SlabState) (lender : Lender) (none : holds s
       (λ (t : is_at lender (get_or states n Local) ≡ false). t) (cases_Bool (is_at lender (get_or states n Local))))
       (λ (ge : length states ≤ n). ap (is_at lender) (get_or_past states n Local ge)) (cases_lt n (length states))
 
-  pub none_lost : lost states lender ≡ states
+  pub none_lost : lost_after states lender ≡ states
   none_lost =
-      ext_get_or Local (lost states lender) states (length-map states (after_lost lender))
+      ext_get_or Local (lost_after states lender) states (length-map states (after_lost lender))
       (λ i lt. get_or-map (after_lost lender) states i Local ∙ cond-false (is_at lender (get_or states i Local)) Local (get_or states i Local) (none_at i))
 
   pub none_left : (bits : List Bool) (n : ℕ) → left_from s states lender bits n ≡ bits

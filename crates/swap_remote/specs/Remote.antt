@@ -23,13 +23,18 @@ pub record Remote : Type 0 where
   pub links : List LinkState
 
 -- with the sizes of the device
-pub record Table : Type 0 where
+pub record RemoteView : Type 0 where
   pub sizes : Sizes
   pub remote : Remote
 
 -- no link is up, no slab mapped, no bit set
-abbrev pub none : Sizes → Remote
-none s = record { bits = no_numbers (pages_of s); slabs = slabs.all_local s.slabs; links = rings.all_down MOST_LENDERS }
+abbrev pub remote_at_start : Sizes → Remote
+remote_at_start s = record {
+  bits = no_numbers (pages_of s);
+  slabs = slabs.all_local s.slabs;
+  links = rings.all_down
+      MOST_LENDERS;
+}
 
 -- the slab of a page, and its state
 abbrev pub slab_for : Sizes → Page → Slab
@@ -61,11 +66,11 @@ up_from test (link ∷ links) n =
     if link.up && test (record { 0 = n }) then n ∷ up_from test links (n + 1) else up_from test links (n + 1)
 
 -- the lenders that may be asked for a slab: those that hold none, and the others
-abbrev pub fresh : Remote → List ℕ
-fresh r = up_from (λ l. not (slabs.holds r.slabs l)) r.links 0
+abbrev pub fresh_lenders : Remote → List ℕ
+fresh_lenders r = up_from (λ l. not (slabs.holds r.slabs l)) r.links 0
 
-abbrev pub others : Remote → List ℕ
-others r = up_from (λ l. slabs.holds r.slabs l) r.links 0
+abbrev pub other_lenders : Remote → List ℕ
+other_lenders r = up_from (λ l. slabs.holds r.slabs l) r.links 0
 
 -- remote memory can be read for this page
 abbrev pub has_page : Remote → Page → Bool
@@ -77,53 +82,76 @@ names_page s r lender page lease place =
     slabs.has_lease lender lease (state_for s r.slabs page) && place_of s page.0 == place
 
 -- a page was changed: remote memory can't be read for it
-abbrev pub changed : Remote → Page → Remote
-changed r page = record r { bits = without_number r.bits page.0 }
+abbrev pub changed_after : Remote → Page → Remote
+changed_after r page = record r { bits = without_number r.bits page.0 }
 
 -- a request for a page was sent to the lender of its slab
 abbrev pub sent_for : Sizes → Remote → Lender → Page → Request → Remote
 sent_for s r lender page item =
-    record r { slabs = slabs.begun r.slabs (slab_for s page); links = rings.sent r.links lender item }
+    record r { slabs = slabs.begun_after r.slabs (slab_for s page); links = rings.sent_after r.links lender item }
 
 -- a slab was asked for: of one lender, or of a second beside the first
 abbrev pub query_sent : Remote → Slab → Option Lender → Lender → Remote
 query_sent r slab None lender =
-    record r { slabs = slabs.asked r.slabs slab lender None; links = rings.sent r.links lender (request.Query slab) }
+    record r {
+      slabs = slabs.asked_after r.slabs slab lender None;
+      links = rings.sent_after r.links lender
+          (request.Query slab);
+    }
 query_sent r slab (Some first) lender =
-    record r
-    { slabs = slabs.asked r.slabs slab first (Some lender); links = rings.sent r.links lender (request.Query slab) }
+    record r {
+      slabs = slabs.asked_after r.slabs slab first (Some lender);
+      links = rings.sent_after r.links lender
+          (request.Query slab);
+    }
 
 -- a lender that was asked tells how many slots are free, or is gone
-abbrev pub told : Remote → Lender → Slab → ℕ → Remote
-told r lender slab free =
-    record r { slabs = slabs.answered r.slabs slab lender (reply.Free free); links = rings.answered r.links lender }
+abbrev pub told_after : Remote → Lender → Slab → ℕ → Remote
+told_after r lender slab free =
+    record r {
+      slabs = slabs.answered_after r.slabs slab lender (reply.Free free);
+      links = rings.answered_after r.links
+          lender;
+    }
 
-abbrev pub gone : Remote → Lender → Slab → Remote
-gone r lender slab = record r { slabs = slabs.answered r.slabs slab lender reply.Gone }
+abbrev pub gone_after : Remote → Lender → Slab → Remote
+gone_after r lender slab = record r { slabs = slabs.answered_after r.slabs slab lender reply.Gone }
 
 -- a slab is borrowed, lent, or refused
 abbrev pub borrow_sent : Remote → Slab → Lender → Remote
 borrow_sent r slab lender =
-    record r { slabs = slabs.borrowed r.slabs slab lender; links = rings.sent r.links lender (request.Borrow slab) }
+    record r {
+      slabs = slabs.borrowed_after r.slabs slab lender;
+      links = rings.sent_after r.links lender
+          (request.Borrow slab);
+    }
 
-abbrev pub lent : Remote → Lender → Slab → Lease → Remote
-lent r lender slab lease = record r { slabs = slabs.lent r.slabs slab lease; links = rings.answered r.links lender }
+abbrev pub lent_after : Remote → Lender → Slab → Lease → Remote
+lent_after r lender slab lease = record r {
+  slabs = slabs.lent_after r.slabs slab lease;
+  links = rings.answered_after
+      r.links lender;
+}
 
-abbrev pub refused : Remote → Lender → Slab → Remote
-refused r lender slab = record r { slabs = slabs.refused r.slabs slab; links = rings.answered r.links lender }
+abbrev pub refused_after : Remote → Lender → Slab → Remote
+refused_after r lender slab = record r {
+  slabs = slabs.refused_after r.slabs slab;
+  links = rings.answered_after r.links
+      lender;
+}
 
 -- the oldest request, one for this page, was answered
 abbrev pub settled_for : Sizes → Remote → Lender → Page → Remote
 settled_for s r lender page =
-    record r { slabs = slabs.settled r.slabs (slab_for s page); links = rings.answered r.links lender }
+    record r { slabs = slabs.settled_after r.slabs (slab_for s page); links = rings.answered_after r.links lender }
 
 -- and it was a write: remote memory can be read for the page where the slab is mapped and the page is as it was written
 abbrev pub with_page_if : Bool → Remote → Page → Remote
 with_page_if true r page = record r { bits = with_number r.bits page.0 }
 with_page_if false r page = r
 
-abbrev pub written : Sizes → Remote → Lender → Page → Bool → Remote
-written s r lender page newest =
+abbrev pub written_after : Sizes → Remote → Lender → Page → Bool → Remote
+written_after s r lender page newest =
     with_page_if (newest && slabs.is_mapped (state_for s r.slabs page)) (settled_for s r lender page) page
 
 -- the slab that is mapped at the lender with this lease
@@ -135,11 +163,11 @@ abbrev pub mapped_by : List SlabState → Lender → Lease → Option Slab
 mapped_by states lender lease = only_mapped states (slabs.by_lease states lender lease)
 
 -- a mapped slab is taken back: no page of it can be read, and it drains
-abbrev pub evicted : Sizes → Remote → Slab → Remote
-evicted s r slab =
+abbrev pub evicted_after : Sizes → Remote → Slab → Remote
+evicted_after s r slab =
     record r {
       bits = without_range r.bits (slab.0 * s.pages_per_slab) (slab.0 * s.pages_per_slab + s.pages_per_slab);
-      slabs = slabs.evicted r.slabs slab;
+      slabs = slabs.evicted_after r.slabs slab;
     }
 
 -- the pages from n on that aren't at a lender
@@ -149,14 +177,14 @@ left_from s states lender (bit ∷ bits) n =
     (bit && not (slabs.is_at lender (state_for s states (record { 0 = n })))) ∷ left_from s states lender bits (n + 1)
 
 -- a link was lost: it is down, and the slabs at its lender are local with their bits cleared
-abbrev pub lost : Sizes → Remote → Lender → Remote
-lost s r lender =
+abbrev pub lost_after : Sizes → Remote → Lender → Remote
+lost_after s r lender =
     record {
       bits = left_from s r.slabs lender r.bits 0;
-      slabs = slabs.lost r.slabs lender;
-      links = rings.lost r.links lender;
+      slabs = slabs.lost_after r.slabs lender;
+      links = rings.lost_after r.links lender;
     }
 
 -- a link was made
-abbrev pub raised : Remote → Lender → Remote
-raised r lender = record r { links = rings.raised r.links lender }
+abbrev pub raised_after : Remote → Lender → Remote
+raised_after r lender = record r { links = rings.raised_after r.links lender }

@@ -5,7 +5,7 @@ ghost use Rattle.swap_slabs.specs.Kept.{IsSlabs, IsNew};
 ghost use Rattle.swap_choice.specs.Asked as choice;
 ghost use Rattle.swap_slabs.specs.declared.TheConstants.{MOST_LENDERS, MOST_FLYING};
 ghost use Rattle.swap_rings.specs.Rings as rings;
-ghost use Rattle.swap_remote.specs.Remote.{none, slab_for, state_for, mapping, open_at, target, up_from, fresh, others, has_page, names_page, changed, sent_for, query_sent, told, gone, borrow_sent, lent, refused, settled_for, with_page_if, written, mapped_by, evicted, left_from, lost, raised};
+ghost use Rattle.swap_remote.specs.Remote.{remote_at_start, slab_for, state_for, mapping, open_at, target, up_from, fresh_lenders, other_lenders, has_page, names_page, changed_after, sent_for, query_sent, told_after, gone_after, borrow_sent, lent_after, refused_after, settled_for, with_page_if, written_after, mapped_by, evicted_after, left_from, lost_after, raised_after};
 ghost use Rattle.swap_remote.specs.Kept.{MayAsk, AreAsked};
 
 use arrayvec::ArrayVec;
@@ -28,10 +28,10 @@ pub struct Remote {
 }
 
 impl Model for Remote {
-    ghost use Rattle.swap_remote.specs.Remote.{Table};
+    ghost use Rattle.swap_remote.specs.Remote.{RemoteView};
     ghost use Rattle.swap_remote.specs.Kept.{AreTables};
 
-    ghost Value = { Table };
+    ghost Value = { RemoteView };
 
     ghost view = { λ r.
         record {
@@ -130,7 +130,7 @@ fn send_home(geometry: &Geometry, states: &mut Slabs, bits: &mut PageBits, lende
     requires lender { lender.0 < MOST_LENDERS }
     requires states { length states.old ≡ geometry.now.slabs }
     requires bits { length bits.old ≡ pages_of geometry.now }
-    ensures states { states.new ≡ slabs.lost states.old lender }
+    ensures states { states.new ≡ slabs.lost_after states.old lender }
     ensures bits { bits.new ≡ left_from geometry.now states.old lender bits.old 0 }
 {
     let each = geometry.pages_per_slab();
@@ -145,7 +145,7 @@ fn send_home(geometry: &Geometry, states: &mut Slabs, bits: &mut PageBits, lende
 impl Remote {
     /// No link is up, no slab mapped, no bit set. No other call of `Remote` takes memory.
     pub fn make(alloc: Global, geometry: Geometry) -> Result<Remote, NoMemory>
-        ensures { IfOk result (λ r. r ≡ record { sizes = geometry; remote = none geometry }) }
+        ensures { IfOk result (λ r. r ≡ record { sizes = geometry; remote = remote_at_start geometry }) }
     {
         Ok(Remote {
             geometry,
@@ -268,7 +268,7 @@ impl Remote {
     /// that hold none.
     pub fn to_ask(&self, word: u64) -> Asked
         ensures asked { result
-            ≡ choice.asked word (fresh self.now.remote) (others self.now.remote) }
+            ≡ choice.two_asked word (fresh_lenders self.now.remote) (other_lenders self.now.remote) }
         ensures lenders { AreAsked result }
     {
         let askable = lenders_up(&self.rings, &self.slabs);
@@ -284,7 +284,7 @@ impl Remote {
 
     /// How many slabs are mapped.
     pub fn mapped(&self) -> u32
-        ensures { result ≡ slabs.mapped self.now.remote.slabs }
+        ensures { result ≡ slabs.mapped_count self.now.remote.slabs }
     {
         self.slabs.mapped()
     }
@@ -292,7 +292,7 @@ impl Remote {
     /// A page was changed: remote memory can't be read for it.
     pub fn changed(&mut self, page: Page)
         requires { page.0 < pages_of self.old.sizes }
-        ensures { self.new ≡ record self.old { remote = changed self.old.remote page } }
+        ensures { self.new ≡ record self.old { remote = changed_after self.old.remote page } }
     {
         self.bits.clear(page.0);
     }
@@ -339,7 +339,7 @@ impl Remote {
         requires lender { lender.0 < MOST_LENDERS }
         requires asks { IsTrue (slabs.asks lender (slabs.state_of self.old.remote.slabs slab)) }
         ensures tables { self.new
-            ≡ record self.old { remote = told self.old.remote lender slab free } }
+            ≡ record self.old { remote = told_after self.old.remote lender slab free } }
         ensures choice { result
             ≡ slabs.answer_choice (slabs.state_of self.old.remote.slabs slab) lender
             (Reply.Free free) }
@@ -352,7 +352,7 @@ impl Remote {
     pub fn gone(&mut self, lender: Lender, slab: Slab) -> Option<Chosen>
         requires slab { slab.0 < self.old.sizes.slabs }
         requires asks { IsTrue (slabs.asks lender (slabs.state_of self.old.remote.slabs slab)) }
-        ensures tables { self.new ≡ record self.old { remote = gone self.old.remote lender slab } }
+        ensures tables { self.new ≡ record self.old { remote = gone_after self.old.remote lender slab } }
         ensures choice { result
             ≡ slabs.answer_choice (slabs.state_of self.old.remote.slabs slab) lender Reply.Gone }
     {
@@ -379,7 +379,7 @@ impl Remote {
         requires borrowing { slabs.state_of self.old.remote.slabs slab
             ≡ SlabState.Borrowing lender }
         requires lease { slabs.by_lease self.old.remote.slabs lender lease ≡ None }
-        ensures { self.new ≡ record self.old { remote = lent self.old.remote lender slab lease } }
+        ensures { self.new ≡ record self.old { remote = lent_after self.old.remote lender slab lease } }
     {
         self.slabs.lent(slab, lease);
         self.rings.answer(lender);
@@ -391,7 +391,7 @@ impl Remote {
         requires lender { lender.0 < MOST_LENDERS }
         requires borrowing { slabs.state_of self.old.remote.slabs slab
             ≡ SlabState.Borrowing lender }
-        ensures { self.new ≡ record self.old { remote = refused self.old.remote lender slab } }
+        ensures { self.new ≡ record self.old { remote = refused_after self.old.remote lender slab } }
     {
         self.slabs.refused(slab);
         self.rings.answer(lender);
@@ -422,7 +422,7 @@ impl Remote {
             < slabs.flying_of (state_for self.old.sizes self.old.remote.slabs page) }
         ensures tables { self.new
             ≡ record self.old
-            { remote = written self.old.sizes self.old.remote lender page newest } }
+            { remote = written_after self.old.sizes self.old.remote lender page newest } }
         ensures lease { result
             ≡ slabs.settled_lease (state_for self.old.sizes self.old.remote.slabs page) }
     {
@@ -440,7 +440,7 @@ impl Remote {
         requires slab { slab.0 < self.old.sizes.slabs }
         requires mapped { IsTrue (slabs.is_mapped (slabs.state_of self.old.remote.slabs slab)) }
         ensures tables { self.new
-            ≡ record self.old { remote = evicted self.old.sizes self.old.remote slab } }
+            ≡ record self.old { remote = evicted_after self.old.sizes self.old.remote slab } }
         ensures lease { result ≡ slabs.evicted_lease (slabs.state_of self.old.remote.slabs slab) }
     {
         let each = self.geometry.pages_per_slab();
@@ -453,7 +453,7 @@ impl Remote {
     pub fn lost(&mut self, lender: Lender)
         requires { lender.0 < MOST_LENDERS }
         ensures { self.new
-            ≡ record self.old { remote = lost self.old.sizes self.old.remote lender } }
+            ≡ record self.old { remote = lost_after self.old.sizes self.old.remote lender } }
     {
         send_home(&self.geometry, &mut self.slabs, &mut self.bits, lender);
         self.rings.lose(lender);
@@ -462,7 +462,7 @@ impl Remote {
     /// A link was made: it is up, with nothing under way.
     pub fn raised(&mut self, lender: Lender)
         requires { lender.0 < MOST_LENDERS }
-        ensures { self.new ≡ record self.old { remote = raised self.old.remote lender } }
+        ensures { self.new ≡ record self.old { remote = raised_after self.old.remote lender } }
     {
         self.rings.raise(lender);
     }

@@ -17,8 +17,8 @@ pub record Rings : Type 0 where
 abbrev pub down : LinkState
 down = record { up = false; ring = [] }
 
-abbrev pub fresh : LinkState
-fresh = record { up = true; ring = [] }
+abbrev pub link_at_start : LinkState
+link_at_start = record { up = true; ring = [] }
 
 -- every link is down
 abbrev pub all_down : ℕ → List LinkState
@@ -56,18 +56,18 @@ sent_on link request = record link { ring = link.ring ++ request ∷ [] }
 abbrev pub answered_on : LinkState → LinkState
 answered_on link = record link { ring = without_oldest link.ring }
 
-abbrev pub sent : List LinkState → Lender → Request → List LinkState
-sent links lender request = with_link links lender (sent_on (link_of links lender) request)
+abbrev pub sent_after : List LinkState → Lender → Request → List LinkState
+sent_after links lender request = with_link links lender (sent_on (link_of links lender) request)
 
-abbrev pub answered : List LinkState → Lender → List LinkState
-answered links lender = with_link links lender (answered_on (link_of links lender))
+abbrev pub answered_after : List LinkState → Lender → List LinkState
+answered_after links lender = with_link links lender (answered_on (link_of links lender))
 
 -- a link is up, with nothing under way, or down
-abbrev pub raised : List LinkState → Lender → List LinkState
-raised links lender = with_link links lender fresh
+abbrev pub raised_after : List LinkState → Lender → List LinkState
+raised_after links lender = with_link links lender link_at_start
 
-abbrev pub lost : List LinkState → Lender → List LinkState
-lost links lender = with_link links lender down
+abbrev pub lost_after : List LinkState → Lender → List LinkState
+lost_after links lender = with_link links lender down
 
 -- a ring is no longer than the window
 abbrev pub AreWithin : ℕ → List LinkState → Type 0

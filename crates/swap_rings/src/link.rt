@@ -1,5 +1,5 @@
 ghost use Rattle.std.specs.Prelude.{◌≡◌, ◌<◌, IfOk, length};
-ghost use Rattle.swap_rings.specs.Rings.{down, fresh, oldest, sent_on, answered_on, may_send};
+ghost use Rattle.swap_rings.specs.Rings.{down, link_at_start, oldest, sent_on, answered_on, may_send};
 
 use crate::{MOST_UNDER_WAY, Request};
 use std::alloc::{AllocError, Global};
@@ -72,7 +72,7 @@ impl Link {
 
     /// The link is up, with nothing under way.
     pub(crate) fn raise(&mut self)
-        ensures { self.new ≡ fresh }
+        ensures { self.new ≡ link_at_start }
     {
         self.ring.clear();
         self.up = true;

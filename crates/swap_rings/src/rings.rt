@@ -1,5 +1,5 @@
 ghost use Rattle.std.specs.Prelude.{◌≡◌, ◌<◌, length, IfOk, IsTrue, IsSome};
-ghost use Rattle.swap_rings.specs.Rings.{all_down, link_of, is_up, ring_of, may_send, oldest, sent, answered, raised, lost, AreWithin};
+ghost use Rattle.swap_rings.specs.Rings.{all_down, link_of, is_up, ring_of, may_send, oldest, sent_after, answered_after, raised_after, lost_after, AreWithin};
 
 use crate::Request;
 use crate::link::Link;
@@ -92,7 +92,7 @@ impl Rings {
     pub fn send(&mut self, lender: Lender, request: Request)
         requires lender { lender.0 < length self.old.links }
         requires room { length (ring_of self.old.links lender) < self.old.window }
-        ensures { self.new ≡ record self.old { links = sent self.old.links lender request } }
+        ensures { self.new ≡ record self.old { links = sent_after self.old.links lender request } }
     {
         let link = &mut self.links[lender.0 as usize];
         link.send(request);
@@ -101,7 +101,7 @@ impl Rings {
     /// The oldest request was answered.
     pub fn answer(&mut self, lender: Lender)
         requires { lender.0 < length self.old.links }
-        ensures { self.new ≡ record self.old { links = answered self.old.links lender } }
+        ensures { self.new ≡ record self.old { links = answered_after self.old.links lender } }
     {
         let link = &mut self.links[lender.0 as usize];
         link.answer();
@@ -110,7 +110,7 @@ impl Rings {
     /// A link was made: it is up, with nothing under way.
     pub fn raise(&mut self, lender: Lender)
         requires { lender.0 < length self.old.links }
-        ensures { self.new ≡ record self.old { links = raised self.old.links lender } }
+        ensures { self.new ≡ record self.old { links = raised_after self.old.links lender } }
     {
         let link = &mut self.links[lender.0 as usize];
         link.raise();
@@ -119,7 +119,7 @@ impl Rings {
     /// A link was lost: it is down, with nothing under way.
     pub fn lose(&mut self, lender: Lender)
         requires { lender.0 < length self.old.links }
-        ensures { self.new ≡ record self.old { links = lost self.old.links lender } }
+        ensures { self.new ≡ record self.old { links = lost_after self.old.links lender } }
     {
         let link = &mut self.links[lender.0 as usize];
         link.lose();

@@ -13,17 +13,17 @@ use Rattle.swap_wire.specs.declared.Event.{Event}
 use Rattle.swap_wire.specs.declared.Seen.{Seen}
 use Rattle.swap_record.specs.declared.Op.{Op}
 use Rattle.swap_record.specs.declared.Op.TheVariants as op
-use Rattle.swap_record.specs.History.{History, next_name, pushed}
+use Rattle.swap_record.specs.History.{History, next_name, with_row}
 use Rattle.swap_queue.specs.Queue.{Queue, Copy}
 use Rattle.swap_queue.specs.Queue as queue
 use Rattle.swap_disk.specs.Disk.{Taken}
 use Rattle.swap_base.specs.declared.DiskWhich.{DiskWhich}
 use Rattle.swap_base.specs.declared.DiskWhich.TheVariants as which
-use Rattle.swap_calls.specs.Calls.{Call, state_of, call_of, idle}
+use Rattle.swap_calls.specs.Calls.{Call, state_of, call_of, idle_call}
 use Rattle.swap_calls.specs.declared.Arrived.TheVariants as arrived
 use Rattle.swap_calls.specs.declared.CallState.{CallState}
 use Rattle.swap_calls.specs.declared.CallState.TheVariants.{Room, Reading}
-use Rattle.swap_table.specs.Device.{Device, wrote, took, took_back}
+use Rattle.swap_table.specs.Device.{Device, wrote_after, took_after, took_back}
 use Rattle.swap_table.specs.declared.DiskStep.TheVariants as ends
 use Rattle.swap_table.specs.Fits.{IsFair}
 use Rattle.swap_table.specs.Happens.{see_disk}
@@ -56,7 +56,7 @@ pub record Enters (s : Sizes) (e : Event) (x : Seen) (before now : History) : Ty
   pub op : Op
   pub bytes : List ℕ
   pub sent : Option Lender
-  pub is : now ≡ pushed before caller page op bytes
+  pub is : now ≡ with_row before caller page op bytes
   pub seen : x ≡ seen_by op (next_name before) sent
   pub of : caller_or_first e ≡ caller
   pub agree : agrees e (shown_of before page op bytes sent) ≡ true
@@ -77,7 +77,7 @@ pub calls_within : (T : Bool) (A : List ℕ → List ℕ → Type 0) (zeros : Li
 calls_within T A zeros d all c p =
     let call = call_of d.calls c in
     let fair : IsFair T A (pages_of d.sizes) zeros d.history d.queue call.bytes call.state =
-    All-get_or (λ (call : Call). IsFair T A (pages_of d.sizes) zeros d.history d.queue call.bytes call.state) d.calls c.0 idle all tt in
+    All-get_or (λ (call : Call). IsFair T A (pages_of d.sizes) zeros d.history d.queue call.bytes call.state) d.calls c.0 idle_call all tt in
     let P : CallState → Type 0 = λ x. IsFair T A (pages_of d.sizes) zeros d.history d.queue call.bytes x in
     (λ since at. subst P at fair, λ n v how newer since at. (subst P at fair).0)
 
@@ -94,13 +94,13 @@ took_none d (Some t) = go t.done.which t.done.page t.done.ok t.bytes
     by_next p copy None = refl
     by_next p copy (Some x) = refl
 
-    back : (p : Page) (copy : Option Copy) (ok : Bool) → let a = wrote d p copy ok in (entry_seen (see_disk a.1) ≡ None) × (a.0.history ≡ d.history)
+    back : (p : Page) (copy : Option Copy) (ok : Bool) → let a = wrote_after d p copy ok in (entry_seen (see_disk a.1) ≡ None) × (a.0.history ≡ d.history)
     back p None ok = (refl, refl)
     back p (Some copy) true = (refl, refl)
-    back p (Some copy) false = (by_next p copy (queue.next d.queue p), refl)
+    back p (Some copy) false = (by_next p copy (queue.next_copy d.queue p), refl)
 
     go : (w : DiskWhich) (p : Page) (ok : Bool) (bytes : List ℕ)
-        → let a = took d w p ok bytes in (entry_seen (see_disk a.1) ≡ None) × (a.0.history ≡ d.history)
+        → let a = took_after d w p ok bytes in (entry_seen (see_disk a.1) ≡ None) × (a.0.history ≡ d.history)
     go (which.Write q) p ok bytes = back p (queue.flying d.queue p) ok
     go (which.Read c) p true bytes = (refl, refl)
     go (which.Read c) p false bytes = (refl, refl)

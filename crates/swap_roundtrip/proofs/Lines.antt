@@ -13,16 +13,16 @@ use Rattle.swap_io.specs.ReadBack.{AreBytes}
 use Rattle.swap_io.proofs.Back.{page_again}
 use Rattle.swap_record.specs.declared.Op.{Op}
 use Rattle.swap_record.specs.declared.Op.TheVariants as op
-use Rattle.swap_record.specs.History.{History, Row, named, next_name, row_of, pushed}
+use Rattle.swap_record.specs.History.{History, Row, row_named, next_name, row_of, with_row}
 use Rattle.swap_wire.specs.declared.Event.{Event}
 use Rattle.swap_wire.specs.declared.Seen.{Seen}
-use Rattle.swap_script.specs.Lines.{spaced, ended}
+use Rattle.swap_script.specs.Lines.{with_spaces, with_line_end}
 use Rattle.swap_script.specs.Transcript.{line, event_words}
 use Rattle.swap_world.specs.Runs.{entry_seen, GoesOn}
 use Rattle.swap_transcript.specs.Messages.{IsSmall}
 use Rattle.swap_transcript.specs.Told.{Told, Saw, Entered, Shown}
 use Rattle.swap_transcript.specs.Printed.{HasPageWord, HasOpWords, MayBeSent, HasPairWords, pair_words}
-use Rattle.swap_transcript.specs.Transcripts.{Pair, Judged, entries_in, tells_page, with_told, entered}
+use Rattle.swap_transcript.specs.Transcripts.{Pair, Judged, entries_in, tells_page, with_told, enter_shown}
 use Rattle.swap_transcript.specs.Laws.{seen_by, LinesArePrinted}
 use Rattle.swap_roundtrip.specs.Numbers.{HasSeenNumbers, HasOpNumbers, RowFits, LineFits}
 use Rattle.swap_roundtrip.proofs.Shapes.{Shape}
@@ -42,14 +42,14 @@ pub record LineBack (s : Sizes) (e : Event) (x : Seen) (before now F : History) 
   pub page : tells_page s told ≡ true
   pub judged : with_told (unmarked before) e told ≡ unmarked now
   pub count : length now ≡ length before + entries_in told
-  pub is_line : line F (e, x) ≡ ended (spaced (pair_words (pair_with e told)))
+  pub is_line : line F (e, x) ≡ with_line_end (with_spaces (pair_words (pair_with e told)))
 
 -- the entry of a name stays in a history that goes on
-named_over : (r : Row) (H : History) (n : ℕ) (b : Bool) → eqb (length H) n ≡ b → b ≡ false → named (r ∷ H) n ≡ named H n
-named_over r H n b is other = ap (λ t. cond t (Some r) (named H n)) (is ∙ other)
+named_over : (r : Row) (H : History) (n : ℕ) (b : Bool) → eqb (length H) n ≡ b → b ≡ false → row_named (r ∷ H) n ≡ row_named H n
+named_over r H n b is other = ap (λ t. cond t (Some r) (row_named H n)) (is ∙ other)
 
-pub named_there : (later before : History) (row : Row) → named (later ++ row ∷ before) (length before) ≡ Some row
-named_there [] before row = ap (λ t. cond t (Some row) (named before (length before))) (eq-eqb (length before) (length before) refl)
+pub named_there : (later before : History) (row : Row) → row_named (later ++ row ∷ before) (length before) ≡ Some row
+named_there [] before row = ap (λ t. cond t (Some row) (row_named before (length before))) (eq-eqb (length before) (length before) refl)
 named_there (r ∷ later) before row =
     let long = length-append later (row ∷ before) in
     named_over r (later ++ row ∷ before) (length before) (eqb (length (later ++ row ∷ before)) (length before)) refl (grind (arith, nat_tests, long))
@@ -91,7 +91,7 @@ plain_line s e x before now F printed fits none same shape = record {
   judged = ap unmarked (sym same);
   count = let l : length now ≡ length before = ap length same in omega (arith, l);
   is_line =
-      ap (λ w. ended (spaced (event_words e ++ codes "=" ∷ w))) (sym (seen_same s F x))
+      ap (λ w. with_line_end (with_spaces (event_words e ++ codes "=" ∷ w))) (sym (seen_same s F x))
       ∙ printed F (pair_with e (Saw (seen_back s x))) (plain_back s x none);
 }
 
@@ -102,12 +102,12 @@ entry_line s e x before now F within printed goes fits r =
     let no : EntryNo = next_name before in
     let shown : Shown = shown_of before r.page r.op r.bytes r.sent in
     let numbers : HasSeenNumbers (seen_by r.op no r.sent) = subst HasSeenNumbers r.seen fits.seen in
-    let here : named now (length before) ≡ Some row = ap (λ H. named H (length before)) r.is ∙ named_there [] before row in
+    let here : row_named now (length before) ≡ Some row = ap (λ H. row_named H (length before)) r.is ∙ named_there [] before row in
     let row_fits : RowFits s.page_bytes row = fits.entry no row (ap entry_seen r.seen ∙ seen_entry r.op no r.sent) here in
     let page : HasPageWord s.page_bytes r.bytes = page_word s r.bytes within row_fits.bytes row_fits.len in
     let sent : MayBeSent r.op r.sent = may_be_sent r.op no r.sent numbers r.only_out in
-    let there : named F (length before) ≡ Some row =
-    ap (λ H. named H (length before)) (goes.1 ∙ ap (λ H. goes.0 ++ H) r.is) ∙ named_there goes.0 before row in
+    let there : row_named F (length before) ≡ Some row =
+    ap (λ H. row_named H (length before)) (goes.1 ∙ ap (λ H. goes.0 ++ H) r.is) ∙ named_there goes.0 before row in
     record {
       told = Entered shown;
       words =
@@ -125,11 +125,11 @@ entry_line s e x before now F within printed goes fits r =
           };
       page = lt-ltb r.page.0 (pages_of s) r.within;
       judged =
-          ap (λ c. entered (unmarked before) c shown) r.of
-          ∙ ap (λ b. record { history = pushed before r.caller r.page r.op r.bytes; noted = cond b None (Some (length before)) })
+          ap (λ c. enter_shown (unmarked before) c shown) r.of
+          ∙ ap (λ b. record { history = with_row before r.caller r.page r.op r.bytes; noted = cond b None (Some (length before)) })
           (eq-eqb (length before) (length before) refl)
           ∙ ap unmarked (sym r.is);
-      count = let l : length now ≡ length (pushed before r.caller r.page r.op r.bytes) = ap length r.is in omega (arith, l);
+      count = let l : length now ≡ length (with_row before r.caller r.page r.op r.bytes) = ap length r.is in omega (arith, l);
       is_line =
           ap (λ y. line F (e, y)) r.seen
           ∙ printed F (pair_with e (Entered shown)) (record { row = row; is = there; page = refl; op = refl; bytes = refl; sent = sent });

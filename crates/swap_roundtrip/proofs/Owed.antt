@@ -130,7 +130,8 @@ Few s above is = (above.events + length is ≤ 4_194_304) × ((above.calls + cal
 
 few_more : (s : Sizes) (lenders : ℕ) (above : reading.Above) (o : Option Line) (is : List Input) → fault_of grammar.Script s lenders above o ≡ None
     → (above.events ≤ 4_194_304) × (above.calls * s.page_bytes ≤ 1_073_741_824)
-    → ((reading.counted above o).events ≤ 4_194_304 → (reading.counted above o).calls * s.page_bytes ≤ 1_073_741_824 → Few s (reading.counted above o) is)
+    → ((reading.count_line above o).events ≤ 4_194_304 → (reading.count_line above o).calls * s.page_bytes ≤ 1_073_741_824
+    → Few s (reading.count_line above o) is)
     → Few s above (cons_option (option_map (input_of s) o) is)
 few_more s lenders above None is e so_far later = cc
 few_more s lenders above (Some line) is e so_far later =
@@ -148,9 +149,9 @@ few_lines s end lenders [] above e events calls =
     (omega (arith, events), subst (λ n. n * s.page_bytes ≤ 1_073_741_824) (sym sum) calls)
 few_lines s end lenders ((n, text) ∷ rest) above e events calls =
     let line = line_of grammar.Script (words_of text) in
-    let parts = none_or n (fault_of grammar.Script s lenders above line) (first_fault grammar.Script end s lenders rest (reading.counted above line)) e in
+    let parts = none_or n (fault_of grammar.Script s lenders above line) (first_fault grammar.Script end s lenders rest (reading.count_line above line)) e in
     few_more s lenders above line (inputs_of grammar.Script s rest) parts.0 (events, calls)
-    (λ ev ca. few_lines s end lenders rest (reading.counted above line) parts.1 ev ca)
+    (λ ev ca. few_lines s end lenders rest (reading.count_line above line) parts.1 ev ca)
 
 pub sized : (text : List ℕ) (s : Script) → script text ≡ Ok s → Sized s
 sized text s e =

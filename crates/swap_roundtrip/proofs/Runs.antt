@@ -11,10 +11,10 @@ use Rattle.swap_wire.specs.declared.Event.{Event}
 use Rattle.swap_wire.specs.declared.Event.TheVariants as event
 use Rattle.swap_wire.specs.declared.Seen.{Seen}
 use Rattle.swap_wire.specs.Fabric.{FabricOf}
-use Rattle.swap_disk.specs.Drive as drive
+use Rattle.swap_disk.specs.MemDiskView as drive
 use Rattle.swap_link.specs.Harbor as harbor
 use Rattle.swap_slabs.specs.declared.TheConstants.{MOST_LENDERS}
-use Rattle.swap_calls.specs.Calls.{idle}
+use Rattle.swap_calls.specs.Calls.{idle_call}
 use Rattle.swap_table.specs.Device.{Device}
 use Rattle.swap_table.specs.Comes.{ComesTo}
 use Rattle.swap_table.specs.Happens.{happens}
@@ -26,7 +26,7 @@ use Rattle.swap_world.specs.Laws.{AreInputs, AlwaysLegal, HistoriesGoOn}
 use Rattle.swap_world.proofs.Memory.{IsSound, starts_sound, next_sound, next_step, sound_fits}
 use Rattle.swap_world.proofs.Steps.{step_comes}
 use Rattle.swap_world.proofs.Parts.{event_adds, event_grows}
-use Rattle.swap_script.specs.Lines.{spaced, ended}
+use Rattle.swap_script.specs.Lines.{with_spaces, with_line_end}
 use Rattle.swap_script.specs.Laws.{EventsInRange, PagesAreWhole, HandsInAPage}
 use Rattle.swap_script.specs.Reading.{calls_of, calls_in}
 use Rattle.swap_script.specs.Transcript.{line, lender_header}
@@ -34,7 +34,7 @@ use Rattle.swap_script.specs.Transcript as printed
 use Rattle.swap_script.proofs.Read.{calls_of-cons}
 use Rattle.swap_transcript.specs.Readers.{Words}
 use Rattle.swap_transcript.specs.Printed.{pair_words}
-use Rattle.swap_transcript.specs.Transcripts.{Pair, Above, Transcript, nothing_above, counted, with_pairs, judged, entries_in}
+use Rattle.swap_transcript.specs.Transcripts.{Pair, Above, Transcript, nothing_above, count_pair, with_pairs, judge, entries_in}
 use Rattle.swap_transcript.specs.Verdicts.{entries_of}
 use Rattle.swap_transcript.specs.Transcripts as transcripts
 use Rattle.swap_transcript.specs.Laws.{MayFollow, LinesArePrinted, PrintedIsRead, text_of, transcript_words, lender_words, end_words}
@@ -131,9 +131,9 @@ new_call (event.Crash l) = refl
 new_call (event.Host l u w) = refl
 new_call (event.Round w) = refl
 
-none_busy : (n : ℕ) → count_by is_busy_call (replicate n idle) ≡ 0
+none_busy : (n : ℕ) → count_by is_busy_call (replicate n idle_call) ≡ 0
 none_busy zero = refl
-none_busy (suc n) = let c = count_by-cons is_busy_call idle (replicate n idle) in let r = none_busy n in omega (arith, c, r)
+none_busy (suc n) = let c = count_by-cons is_busy_call idle_call (replicate n idle_call) in let r = none_busy n in omega (arith, c, r)
 
 -- the lines of the events from a world on, read back
 pub record RunBack (s : Sizes) (above : Above) (w : World) (is : List Input) (F : History) : Type 0 where
@@ -166,8 +166,8 @@ module _ (s : Sizes) (n most : ℕ) (limits : AreInLimits s) (print : LinesArePr
       let entries' : above.entries + entries_in back.told ≡ length H' = omega (arith, entries, back.count) in
       let within : (above.entries + entries_in back.told) * s.page_bytes ≤ 1_073_741_824 =
       omega (arith, mul-le (above.entries + entries_in back.told) s.page_bytes most s.page_bytes (omega (arith, entries', room')) (omega arith), few) in
-      let rest : RunBack s (counted above pair) x.world is F =
-      run_back is x.world (counted above pair) F e (next_sound s n w i inputs.0 sound) inputs.1 fit.1 entries' (omega (arith, events)) room' in
+      let rest : RunBack s (count_pair above pair) x.world is F =
+      run_back is x.world (count_pair above pair) F e (next_sound s n w i inputs.0 sound) inputs.1 fit.1 entries' (omega (arith, events)) room' in
       record {
         pairs = pair ∷ rest.pairs;
         follow = (back.words, owes_none s n above pair inputs.0.0 back.page within (omega (arith, events)), rest.follow);
@@ -203,13 +203,13 @@ lenders_text [] = refl
 lenders_text (spec ∷ specs) = ap (λ t. lender_header spec ++ t) (lenders_text specs)
 
 text-append : (xs ys : List Words) → text_of (xs ++ ys) ≡ text_of xs ++ text_of ys
-text-append xs ys = flat_map-append (λ words. ended (spaced words)) xs ys
+text-append xs ys = flat_map-append (λ words. with_line_end (with_spaces words)) xs ys
 
 text_is : (t : Transcript) (lines : List ℕ) (n : ℕ) → lines ≡ text_of (map pair_words t.pairs) → entries_of t ≡ n
     → text_of (transcript_words t) ≡ printed.header t.sizes ++ flat_map lender_header t.lenders ++ lines ++ printed.end_line n
 text_is t lines n prints count =
     let end : text_of (end_words (entries_of t) ∷ []) ≡ printed.end_line n =
-    append-nil (ended (spaced (end_words (entries_of t)))) ∙ ap printed.end_line count in
+    append-nil (with_line_end (with_spaces (end_words (entries_of t)))) ∙ ap printed.end_line count in
     let body : text_of (map pair_words t.pairs ++ end_words (entries_of t) ∷ []) ≡ lines ++ printed.end_line n =
     text-append (map pair_words t.pairs) (end_words (entries_of t) ∷ []) ∙ ap₂ (λ a b. a ++ b) (sym prints) end in
     let head : List ℕ = printed.header t.sizes in
@@ -232,7 +232,7 @@ back legal on print read range pages text s e fit =
     run_back s.sizes n (calls_of s.inputs) known.sizes print on known.calls s.inputs (start_of s) nothing_above F refl
     (starts_sound s.sizes specs few) inputs fit refl (omega (arith, known.events)) room in
     let t : Transcript = record { sizes = s.sizes; lenders = specs; pairs = run.pairs } in
-    let is_judged : judged t ≡ unmarked F = run.judges in
+    let is_judged : judge t ≡ unmarked F = run.judges in
     let count : entries_of t ≡ length F = ap (λ j. length j.history) is_judged in
     let whole : text_of (transcript_words t) ≡ output s = text_is t (flat_map (line F) (seens (start_of s) s.inputs)) (length F) run.prints count in
     record {

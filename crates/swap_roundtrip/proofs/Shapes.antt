@@ -18,14 +18,14 @@ use Rattle.swap_wire.specs.Fabric.{FabricCall, FabricAnswer}
 use Rattle.swap_queue.specs.Queue as queue
 use Rattle.swap_queue.specs.Queue.{Copy}
 use Rattle.swap_calls.specs.Calls.{state_of, is_idle}
-use Rattle.swap_disk.specs.Drive.{Drive, port_of}
-use Rattle.swap_disk.specs.Drive as drive
+use Rattle.swap_disk.specs.MemDiskView.{MemDiskView, port_of}
+use Rattle.swap_disk.specs.MemDiskView as drive
 use Rattle.swap_disk.specs.Disk as disk
 use Rattle.swap_disk.specs.Disk.{Flight, Finished, Taken, Write, Read, is_flight_of, finish_flight, in_flight}
 use Rattle.swap_disk.specs.Port.{DiskCall, DiskAnswer, LetFinish}
 use Rattle.swap_table.specs.Ports.{Prog, Ret, AskDisk, AskFabric, Along, Leads}
 use Rattle.swap_table.specs.Device as device
-use Rattle.swap_table.specs.Device.{Device, wrote, took, took_back, start_copy, start_front}
+use Rattle.swap_table.specs.Device.{Device, wrote_after, took_after, took_back, start_copy, start_front}
 use Rattle.swap_table.specs.Fits.{IsInLine, IsExpected}
 use Rattle.swap_table.specs.Happens.{happens, seen_by, see_out, see_in, see_step, see_start, see_disk, see_tick, see_map, see_link, see_gave, see_cut, see_crash, see_host, see_take, taken_if}
 use Rattle.swap_table.specs.declared.OutStep.{OutStep}
@@ -112,11 +112,12 @@ tick_shape : (n word : ℕ) (r : Option Placed) → Shape n (event.Tick word) (s
 tick_shape n word None = tt
 tick_shape n word (Some placed) = tt
 
-wrote_shape : (n : ℕ) (d : Device) (q p : Page) (copy : Option Copy) (ok : Bool) → Shape n (event.Disk (which.Write q) ok) (see_disk (wrote d p copy ok).1)
+wrote_shape : (n : ℕ) (d : Device) (q p : Page) (copy : Option Copy) (ok : Bool)
+    → Shape n (event.Disk (which.Write q) ok) (see_disk (wrote_after d p copy ok).1)
 wrote_shape n d q p None true = tt
 wrote_shape n d q p None false = tt
 wrote_shape n d q p (Some copy) true = tt
-wrote_shape n d q p (Some copy) false = go (queue.next d.queue p)
+wrote_shape n d q p (Some copy) false = go (queue.next_copy d.queue p)
   where
     go : (o : Option Copy) → Shape n (event.Disk (which.Write q) false) (see_disk (cond (is_none o) (ends.Kept p copy.entry) (ends.Dropped p copy.entry)))
     go None = tt
@@ -134,7 +135,7 @@ found_is w (g ∷ fs) f e = found_if w g f (find (is_flight_of w) fs) (is_flight
 
 -- the operation that a disk in memory lets finish is the one that it gives back
 back_shape : (n : ℕ) (d : Device) (w : DiskWhich) (ok : Bool) (f : Flight) (bytes : List ℕ) → is_flight_of w f ≡ true
-    → ((c : Caller) (p : Page) → f ≡ Read c p → p.0 < n) → Shape n (event.Disk w ok) (see_disk (took d (disk.which_of f) (disk.page_of f) ok bytes).1)
+    → ((c : Caller) (p : Page) → f ≡ Read c p → p.0 < n) → Shape n (event.Disk w ok) (see_disk (took_after d (disk.which_of f) (disk.page_of f) ok bytes).1)
 back_shape n d (which.Write q) ok (Write p b) bytes is range = wrote_shape n d q p (queue.flying d.queue p) ok
 back_shape n d (which.Read c) true (Read e p) bytes is range = range e p refl
 back_shape n d (which.Read c) false (Read e p) bytes is range = range e p refl
@@ -144,7 +145,7 @@ back_shape n d (which.Read c) ok (Write p b) bytes is range = cc
 taken_shape : (n : ℕ) (d : Device) (k : disk.Disk) (w : DiskWhich) (ok : Bool) (fin : Option Finished) (fl : Option Flight)
     → (is_none fin && is_some fl) ≡ true → ((f : Flight) → fl ≡ Some f → is_flight_of w f ≡ true)
     → ((f : Flight) → fl ≡ Some f → (c : Caller) (p : Page) → f ≡ Read c p → p.0 < n)
-    → Shape n (event.Disk w ok) (see_disk (took_back d (disk.taken (finish_flight k fin fl ok))).1)
+    → Shape n (event.Disk w ok) (see_disk (took_back d (disk.take_from (finish_flight k fin fl ok))).1)
 taken_shape n d k w ok (Some x) fl can is range = cc
 taken_shape n d k w ok None None can is range = cc
 taken_shape n d k w ok None (Some f) can is range = back_shape n d w ok f _ (is f refl) (range f refl)
@@ -174,7 +175,7 @@ module _ {D F : Type 0} (disk_moves : D → (c : DiskCall) → DiskAnswer c → 
   start_shape : (n : ℕ) (q : queue.Queue) (d : Device) (line : List Page) (k : D) (f : F) → AllByRecursion (IsInLine n q) line
       → Leads disk_moves moves (seen_by see_start (start_front d line)) k f (λ (a : Device × Seen) _ _. Shape n event.Start a.1)
   start_shape n q d [] k f all = tt
-  start_shape n q d (p ∷ line) k f all = copy_shape n d p (queue.next d.queue p) k f all.0.0
+  start_shape n q d (p ∷ line) k f all = copy_shape n d p (queue.next_copy d.queue p) k f all.0.0
 
   -- whatever the ports do, but for the end of an operation
   pub other_shape : (d : Device) (k : D) (f : F) (page : List ℕ) (e : Event) → AllByRecursion (IsInLine (pages_of d.sizes) d.queue) d.queue.line
@@ -251,21 +252,21 @@ flights_within T n callers q calls flights all w f is c p e =
     let P : Flight → Type 0 = λ x. IsExpected T n callers q calls x in (subst P e expected).1
 
 -- the end of an operation, over a disk in memory
-ends_shape : {F : Type 0} (moves : F → (c : FabricCall) → FabricAnswer c → F → Type 0) (n : ℕ) (d d' : Device) (k k' : Drive) (f f' : F) (w : DiskWhich)
-    (ok : Bool) (s : Seen) (r : Bool) (mid : Drive) → FlightsWithin n k.disk.flights → drive.ask k (LetFinish w ok) ≡ (r, mid)
+ends_shape : {F : Type 0} (moves : F → (c : FabricCall) → FabricAnswer c → F → Type 0) (n : ℕ) (d d' : Device) (k k' : MemDiskView) (f f' : F) (w : DiskWhich)
+    (ok : Bool) (s : Seen) (r : Bool) (mid : MemDiskView) → FlightsWithin n k.disk.flights → drive.ask k (LetFinish w ok) ≡ (r, mid)
     → Along drive.Moves moves (taken_if d r) mid f k' f' (d', s) → Shape n (event.Disk w ok) s
 ends_shape moves n d d' k k' f f' w ok s false mid within asked along =
     let P : Seen → Type 0 = λ x. Shape n (event.Disk w ok) x in subst P (sym (ap (λ (a : Device × Seen). a.1) along.2)) (nothing_disk n w ok)
 ends_shape moves n d d' k k' f f' w ok s true mid within asked along =
-    let can : (is_none k.disk.finished && is_some (in_flight k.disk w)) ≡ true = ap (λ (a : Bool × Drive). a.0) asked in
-    let there : record k { disk = disk.finish k.disk w ok } ≡ mid = ap (λ (a : Bool × Drive). a.1) asked in
-    let gives : disk.taken (disk.finish k.disk w ok) ≡ along.0 =
-    ap (λ (x : Drive). disk.taken x.disk) there ∙ ap (λ (a : Option Taken × Drive). a.0) along.2.1 in
+    let can : (is_none k.disk.finished && is_some (in_flight k.disk w)) ≡ true = ap (λ (a : Bool × MemDiskView). a.0) asked in
+    let there : record k { disk = disk.finish k.disk w ok } ≡ mid = ap (λ (a : Bool × MemDiskView). a.1) asked in
+    let gives : disk.take_from (disk.finish k.disk w ok) ≡ along.0 =
+    ap (λ (x : MemDiskView). disk.take_from x.disk) there ∙ ap (λ (a : Option Taken × MemDiskView). a.0) along.2.1 in
     let shape = taken_shape n d k.disk w ok k.disk.finished (in_flight k.disk w) can (λ f e. found_is w k.disk.flights f e) (λ f e. within w f e) in
     let P : Seen → Type 0 = λ x. Shape n (event.Disk w ok) x in
     subst P (ap (λ t. see_disk (took_back d t).1) gives ∙ sym (ap (λ (a : Device × Seen). a.1) along.3.2)) shape
 
-pub disk_shape : {F : Type 0} (moves : F → (c : FabricCall) → FabricAnswer c → F → Type 0) (n : ℕ) (d d' : Device) (k k' : Drive) (f f' : F)
+pub disk_shape : {F : Type 0} (moves : F → (c : FabricCall) → FabricAnswer c → F → Type 0) (n : ℕ) (d d' : Device) (k k' : MemDiskView) (f f' : F)
     (page : List ℕ) (w : DiskWhich) (ok : Bool) (s : Seen) → FlightsWithin n k.disk.flights
     → Along drive.Moves moves (happens d page (event.Disk w ok)) k f k' f' (d', s) → Shape n (event.Disk w ok) s
 disk_shape moves n d d' k k' f f' page w ok s within along = ends_shape moves n d d' k k' f f' w ok s along.0 along.1 within along.2.1 along.3

@@ -25,7 +25,7 @@ pub record IsReadBack (s : Script) (text : List ℕ) : Type 0 where
   pub reads : transcripts.transcript text ≡ Ok transcript
   pub sizes : transcript.sizes ≡ s.sizes
   pub lenders : transcript.lenders ≡ s.lenders
-  pub judged : transcripts.judged transcript ≡ record { history = history (reach (start_of s) s.inputs); noted = None }
+  pub judged : transcripts.judge transcript ≡ record { history = history (reach (start_of s) s.inputs); noted = None }
   pub legal : Judges (book_of transcript) verdict.Legal
 
 -- so of each script whose lines print numbers that fit their types

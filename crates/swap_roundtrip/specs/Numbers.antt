@@ -10,7 +10,7 @@ use Rattle.swap_wire.specs.declared.Seen.TheVariants as seen
 use Rattle.swap_record.specs.declared.Op.{Op}
 use Rattle.swap_record.specs.declared.Op.TheVariants as op
 use Rattle.swap_record.specs.declared.Entry.{Entry}
-use Rattle.swap_record.specs.History.{History, Row, named}
+use Rattle.swap_record.specs.History.{History, Row, row_named}
 use Rattle.swap_wire.specs.Input.{Input}
 use Rattle.swap_wire.specs.declared.Event.{Event}
 use Rattle.swap_world.specs.World.{World, next, history}
@@ -79,7 +79,7 @@ pub record RowFits (size : ℕ) (row : Row) : Type 0 where
 pub record LineFits (size : ℕ) (e : Event) (s : Seen) (H : History) : Type 0 where
   pub event : HasEventWords e
   pub seen : HasSeenNumbers s
-  pub entry : (n : EntryNo) (row : Row) → entry_seen s ≡ Some n → named H n.0 ≡ Some row → RowFits size row
+  pub entry : (n : EntryNo) (row : Row) → entry_seen s ≡ Some n → row_named H n.0 ≡ Some row → RowFits size row
 
 -- so of each event from a world on
 abbrev pub NumbersFit : World → List Input → Type 0

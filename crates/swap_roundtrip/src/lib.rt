@@ -6,7 +6,7 @@ ghost use Rattle.swap_io.specs.ReadBack.{AreBytes};
 ghost use Rattle.swap_script.specs.Transcript.{HasEntry};
 ghost use Rattle.swap_transcript.specs.Printed.{HasEventWords};
 ghost use Rattle.swap_roundtrip.specs.Back.{ScriptsAreReadBack};
-ghost use Rattle.swap_record.specs.History.{Row, named};
+ghost use Rattle.swap_record.specs.History.{Row, row_named};
 ghost use Rattle.swap_roundtrip.specs.Numbers.{HasEntryNumbers, HasSeenNumbers, LineFits, RowFits};
 
 use swap_base::EntryNo;
@@ -39,7 +39,7 @@ fn page_numbers(page: &[u8])
 // So do those of an entry of a history, and its page is whole.
 fn row_fits(no: EntryNo, history: &Record)
     requires { no.0 < length history.now.history }
-    ensures { (row : Row) → named history.now.history no.0 ≡ Some row
+    ensures { (row : Row) → row_named history.now.history no.0 ≡ Some row
         → RowFits history.now.page_bytes row }
 {
     entry_numbers(history.entry(no));

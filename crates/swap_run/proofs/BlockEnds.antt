@@ -4,7 +4,7 @@ use Rattle.std.specs.Io.KnownBytes.{Appends, Keeps, append_known}
 use Rattle.std.proofs.KnownBytes.{Appends-kept}
 use Rattle.std.proofs.lemmas.List.{take_at, take_all, take-take, length-take, nil_from_length}
 use Rattle.swap_io.specs.Causes.{Rose, AppendsFront}
-use Rattle.swap_io.specs.Gathered.{Gathered, gathered}
+use Rattle.swap_io.specs.Gathered.{Gathered, gathered_bytes}
 use Rattle.swap_run.specs.declared.Ending.{Ending}
 use Rattle.swap_run.specs.declared.Ending.TheVariants as ending
 use Rattle.swap_run.specs.Clause.{Stream, stream, ScriptEnds, RanScript, BrokeOff}
@@ -61,36 +61,36 @@ other_ends source before mid held f g ending.TooLong fresh other p = (p.0, out_n
 
 -- a transcript that was gathered whole and handed on, or not
 ran_whole :
-    (source : Stream) (before : Option (List ℕ)) (f : ℕ) (mid now : Gathered) (fault : Bool) → now.held ≡ [] → Keeps (gathered mid) (gathered now)
-    → RanScript source (stream (append_known before []) (gathered mid) f mid.faults) fault
+    (source : Stream) (before : Option (List ℕ)) (f : ℕ) (mid now : Gathered) (fault : Bool) → now.held ≡ [] → Keeps (gathered_bytes mid) (gathered_bytes now)
+    → RanScript source (stream (append_known before []) (gathered_bytes mid) f mid.faults) fault
     → RanScript source (stream before now.handed f now.faults) fault
 ran_whole source before f mid now fault none kept p = record {
   script = p.script;
   read = p.read;
-  wrote = out_all before (gathered mid) now.handed now.held (transcript_of p.script) none p.wrote kept;
+  wrote = out_all before (gathered_bytes mid) now.handed now.held (transcript_of p.script) none p.wrote kept;
   fault = p.fault;
   headline = p.headline;
   read_back = p.read_back;
 }
 
 broke_off :
-    (source : Stream) (before : Option (List ℕ)) (f : ℕ) (mid now : Gathered) (fault : Bool) → IsFresh before → Keeps (gathered mid) (gathered now)
-    → f ≤ mid.faults → Rose mid.faults now.faults → RanScript source (stream (append_known before []) (gathered mid) f mid.faults) fault
+    (source : Stream) (before : Option (List ℕ)) (f : ℕ) (mid now : Gathered) (fault : Bool) → IsFresh before → Keeps (gathered_bytes mid) (gathered_bytes now)
+    → f ≤ mid.faults → Rose mid.faults now.faults → RanScript source (stream (append_known before []) (gathered_bytes mid) f mid.faults) fault
     → BrokeOff source (stream before now.handed f now.faults)
 broke_off source before f mid now fault fresh kept later rose p = record {
   script = p.script;
   read = p.read;
   wrote =
       out_front before now.handed now.held (transcript_of p.script) fresh
-      (all_is_front (append_known before []) (gathered now) (transcript_of p.script)
-      (Appends-kept (append_known before []) (gathered mid) (gathered now) (transcript_of p.script) p.wrote kept));
+      (all_is_front (append_known before []) (gathered_bytes now) (transcript_of p.script)
+      (Appends-kept (append_known before []) (gathered_bytes mid) (gathered_bytes now) (transcript_of p.script) p.wrote kept));
   failed = omega (arith, later, rose);
 }
 
 whole_ends :
     (source : Stream) (before : Option (List ℕ)) (f : ℕ) (mid now : Gathered) (ran end : Ending) → IsFresh before → f ≤ mid.faults → is_whole ran ≡ true
     → LastWrite ran mid now end
-    → ScriptEnds source (stream (append_known before []) (gathered mid) f mid.faults) ran → ScriptEnds source (stream before now.handed f now.faults) end
+    → ScriptEnds source (stream (append_known before []) (gathered_bytes mid) f mid.faults) ran → ScriptEnds source (stream before now.handed f now.faults) end
 whole_ends source before f mid now ending.Done end fresh later whole last p =
     elim last.1 [
       | inl same ↦
@@ -119,7 +119,7 @@ whole_ends source before f mid now ending.TooLong end fresh later whole last p =
 hands_on_at :
     (b : Bool) (source : Stream) (before : Option (List ℕ)) (f : ℕ) (mid now : Gathered) (ran end : Ending) → is_whole ran ≡ b → IsFresh before → f ≤ mid.faults
     → HandsOnAt b ran mid now end
-    → ScriptEnds source (stream (append_known before []) (gathered mid) f mid.faults) ran → ScriptEnds source (stream before now.handed f now.faults) end
+    → ScriptEnds source (stream (append_known before []) (gathered_bytes mid) f mid.faults) ran → ScriptEnds source (stream before now.handed f now.faults) end
 hands_on_at true source before f mid now ran end is fresh later hands p = whole_ends source before f mid now ran end fresh later is hands p
 hands_on_at false source before f mid now ran end is fresh later hands p =
     subst (λ e. ScriptEnds source (stream before now.handed f now.faults) e) (sym hands.0)
@@ -130,8 +130,8 @@ hands_on_at false source before f mid now ran end is fresh later hands p =
 pub ends_in_blocks :
     (source : Stream) (before mid now : Gathered) (ran end : Ending) → before.held ≡ [] → IsFresh before.handed → before.faults ≤ mid.faults
     → HandsOn ran mid now end
-    → ScriptEnds source (stream (gathered before) (gathered mid) before.faults mid.faults) ran
+    → ScriptEnds source (stream (gathered_bytes before) (gathered_bytes mid) before.faults mid.faults) ran
     → ScriptEnds source (stream before.handed now.handed before.faults now.faults) end
 ends_in_blocks source before mid now ran end none fresh later hands p =
     hands_on_at (is_whole ran) source before.handed before.faults mid now ran end refl fresh later hands
-    (subst (λ held. ScriptEnds source (stream (append_known before.handed held) (gathered mid) before.faults mid.faults) ran) none p)
+    (subst (λ held. ScriptEnds source (stream (append_known before.handed held) (gathered_bytes mid) before.faults mid.faults) ran) none p)

@@ -3,7 +3,7 @@ use Rattle.std.proofs.Common.{◌≡◌, ℕ, suc, ◌-◌, List, ◌++◌, leng
 use Rattle.std.proofs.lemmas.List.{take-append-drop}
 use Rattle.swap_record.specs.History.{History, IsOrdered, IsFaithful, IsLegal}
 use Rattle.swap_record.specs.Laws.{OrderedPasses, FaithfulPasses}
-use Rattle.swap_record.specs.Book.{Book}
+use Rattle.swap_record.specs.RecordView.{RecordView}
 use Rattle.swap_record.specs.Judging.{Judges}
 use Rattle.swap_record.specs.declared.Verdict.{Verdict}
 use Rattle.swap_record.specs.declared.Verdict.TheVariants as verdict
@@ -22,7 +22,7 @@ legal_before ordered faithful zeros H k h =
     let split : H ≡ take k H ++ drop k H = sym (take-append-drop k H) in
     (ordered (take k H) (drop k H) (subst IsOrdered split h.0), faithful zeros (take k H) (drop k H) (subst (IsFaithful zeros) split h.1))
 
-one_verdict : OrderedPasses → FaithfulPasses → (b : Book) (at : EntryNo) → Judges b verdict.Legal → Judges b (verdict.NotLegal at) → ⊥
+one_verdict : OrderedPasses → FaithfulPasses → (b : RecordView) (at : EntryNo) → Judges b verdict.Legal → Judges b (verdict.NotLegal at) → ⊥
 one_verdict ordered faithful b at legal wrong =
     elim wrong.wrong [
       | inl noted ↦ (let both : None ≡ Some at.0 = sym legal.0 ∙ noted in cc)

@@ -3,7 +3,7 @@ use Rattle.std.proofs.Common.{◌≡◌, ℕ, ◌≤◌, List, [], length, refl,
 use Rattle.std.specs.Io.KnownBytes.{Appends, append_known}
 use Rattle.std.proofs.KnownBytes.{Appends-kept}
 use Rattle.swap_io.specs.Causes.{WasReadWhole}
-use Rattle.swap_io.specs.Gathered.{Gathered, gathered}
+use Rattle.swap_io.specs.Gathered.{Gathered, gathered_bytes}
 use Rattle.swap_record.specs.declared.Verdict.{Verdict}
 use Rattle.swap_record.specs.declared.Verdict.TheVariants as verdict
 use Rattle.swap_script.specs.declared.ScriptRefused.{ScriptRefused}
@@ -41,17 +41,17 @@ judged_text source text r whole within h = judged_as source text (transcript tex
 -- a verdict that is told before a sink that gathers
 handed_on :
     (j : Judgement) (before : Option (List ℕ)) (f : ℕ) (mid now : Gathered) (ran end : Ending) → IsFresh before → f ≤ mid.faults → HandsOn ran mid now end
-    → VerdictEnds j (stream (append_known before []) (gathered mid) f mid.faults) ran → VerdictEnds j (stream before now.handed f now.faults) end
+    → VerdictEnds j (stream (append_known before []) (gathered_bytes mid) f mid.faults) ran → VerdictEnds j (stream before now.handed f now.faults) end
 handed_on j before f mid now ending.Done end fresh later hands v =
     elim hands.1 [
       | inl same ↦
           subst (VerdictEnds j (stream before now.handed f now.faults)) (sym same.0)
-          (v.0, out_all before (gathered mid) now.handed now.held (verdict_line j) same.1 v.1 hands.0)
+          (v.0, out_all before (gathered_bytes mid) now.handed now.held (verdict_line j) same.1 v.1 hands.0)
       | inr failed ↦
           subst (VerdictEnds j (stream before now.handed f now.faults)) (sym failed.0) (
             out_front before now.handed now.held (verdict_line j) fresh
-                (all_is_front (append_known before []) (gathered now) (verdict_line j)
-                (Appends-kept (append_known before []) (gathered mid) (gathered now) (verdict_line j) v.1 hands.0)),
+                (all_is_front (append_known before []) (gathered_bytes now) (verdict_line j)
+                (Appends-kept (append_known before []) (gathered_bytes mid) (gathered_bytes now) (verdict_line j) v.1 hands.0)),
             omega (arith, later, failed.1),
           )
     ]
@@ -59,12 +59,12 @@ handed_on j before f mid now ending.NotLegal end fresh later hands v =
     elim hands.1 [
       | inl same ↦
           subst (VerdictEnds j (stream before now.handed f now.faults)) (sym same.0)
-          (v.0, v.1, out_all before (gathered mid) now.handed now.held (verdict_line j) same.1 v.2 hands.0)
+          (v.0, v.1, out_all before (gathered_bytes mid) now.handed now.held (verdict_line j) same.1 v.2 hands.0)
       | inr failed ↦
           subst (VerdictEnds j (stream before now.handed f now.faults)) (sym failed.0) (
             out_front before now.handed now.held (verdict_line j) fresh
-                (all_is_front (append_known before []) (gathered now) (verdict_line j)
-                (Appends-kept (append_known before []) (gathered mid) (gathered now) (verdict_line j) v.2 hands.0)),
+                (all_is_front (append_known before []) (gathered_bytes now) (verdict_line j)
+                (Appends-kept (append_known before []) (gathered_bytes mid) (gathered_bytes now) (verdict_line j) v.2 hands.0)),
             omega (arith, later, failed.1),
           )
     ]
@@ -84,11 +84,11 @@ handed_on j before f mid now ending.TooLong end fresh later hands v = absurd v
 
 pub verdict_in_blocks :
     (j : Judgement) (before mid now : Gathered) (ran end : Ending) → before.held ≡ [] → IsFresh before.handed → before.faults ≤ mid.faults
-    → HandsOn ran mid now end → VerdictEnds j (stream (gathered before) (gathered mid) before.faults mid.faults) ran
+    → HandsOn ran mid now end → VerdictEnds j (stream (gathered_bytes before) (gathered_bytes mid) before.faults mid.faults) ran
     → VerdictEnds j (stream before.handed now.handed before.faults now.faults) end
 verdict_in_blocks j before mid now ran end none fresh later hands v =
     handed_on j before.handed before.faults mid now ran end fresh later hands
-    (subst (λ held. VerdictEnds j (stream (append_known before.handed held) (gathered mid) before.faults mid.faults) ran) none v)
+    (subst (λ held. VerdictEnds j (stream (append_known before.handed held) (gathered_bytes mid) before.faults mid.faults) ran) none v)
 
 -- a text that was judged, that is no transcript, or that wasn't read
 pub text_judged : (read : Result Transcript ScriptRefused) (j : Judgement) → Answers read (Ok j) → TextJudged read (Ok j)

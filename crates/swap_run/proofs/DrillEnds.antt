@@ -5,7 +5,7 @@ use Rattle.std.proofs.KnownBytes.{Appends-kept}
 use Rattle.std.proofs.lemmas.Bool.{leb-true}
 use Rattle.swap_io.specs.Causes.{Rose}
 use Rattle.swap_io.specs.Words.{number as number_of}
-use Rattle.swap_io.specs.Gathered.{Gathered, gathered}
+use Rattle.swap_io.specs.Gathered.{Gathered, gathered_bytes}
 use Rattle.swap_record.specs.declared.Op.{Op}
 use Rattle.swap_record.specs.declared.Op.TheVariants as op
 use Rattle.swap_record.specs.History.{History, Row}
@@ -59,25 +59,30 @@ some_counted (row ∷ H) e =
 -- a drill's summary before a sink that gathers
 ran_whole :
     (number calls : ℕ) (before : Option (List ℕ)) (f : ℕ) (mid now : Gathered) (fault : Bool) → now.held ≡ []
-    → RanDrill number calls (stream (append_known before []) (gathered mid) f mid.faults) fault → Keeps (gathered mid) (gathered now)
+    → RanDrill number calls (stream (append_known before []) (gathered_bytes mid) f mid.faults) fault → Keeps (gathered_bytes mid) (gathered_bytes now)
     → RanDrill number calls (stream before now.handed f now.faults) fault
 ran_whole number calls before f mid now fault none p kept =
-    record { wrote = out_all before (gathered mid) now.handed now.held (drill_text number calls) none p.wrote kept; fault = p.fault; headline = p.headline }
+    record {
+      wrote = out_all before (gathered_bytes mid) now.handed now.held (drill_text number calls) none p.wrote kept;
+      fault = p.fault;
+      headline =
+          p.headline;
+    }
 
 broke_off :
     (number calls : ℕ) (before : Option (List ℕ)) (f : ℕ) (mid now : Gathered) (fault : Bool) → IsFresh before → f ≤ mid.faults → Rose mid.faults now.faults
-    → RanDrill number calls (stream (append_known before []) (gathered mid) f mid.faults) fault → Keeps (gathered mid) (gathered now)
+    → RanDrill number calls (stream (append_known before []) (gathered_bytes mid) f mid.faults) fault → Keeps (gathered_bytes mid) (gathered_bytes now)
     → DrillEnds number calls (stream before now.handed f now.faults) ending.WriteFailed
 broke_off number calls before f mid now fault fresh later rose p kept = (
   out_front before now.handed now.held (drill_text number calls) fresh
-      (all_is_front (append_known before []) (gathered now) (drill_text number calls)
-      (Appends-kept (append_known before []) (gathered mid) (gathered now) (drill_text number calls) p.wrote kept)),
+      (all_is_front (append_known before []) (gathered_bytes now) (drill_text number calls)
+      (Appends-kept (append_known before []) (gathered_bytes mid) (gathered_bytes now) (drill_text number calls) p.wrote kept)),
   omega (arith, later, rose),
 )
 
 handed_on :
     (number calls : ℕ) (before : Option (List ℕ)) (f : ℕ) (mid now : Gathered) (ran end : Ending) → IsFresh before → f ≤ mid.faults → HandsOn ran mid now end
-    → DrillEnds number calls (stream (append_known before []) (gathered mid) f mid.faults) ran
+    → DrillEnds number calls (stream (append_known before []) (gathered_bytes mid) f mid.faults) ran
     → DrillEnds number calls (stream before now.handed f now.faults) end
 handed_on number calls before f mid now ending.Done end fresh later hands p =
     elim hands.1 [
@@ -112,11 +117,11 @@ handed_on number calls before f mid now ending.TooLong end fresh later hands p =
 
 pub drill_in_blocks :
     (number calls : ℕ) (before mid now : Gathered) (ran end : Ending) → before.held ≡ [] → IsFresh before.handed → before.faults ≤ mid.faults
-    → HandsOn ran mid now end → DrillEnds number calls (stream (gathered before) (gathered mid) before.faults mid.faults) ran
+    → HandsOn ran mid now end → DrillEnds number calls (stream (gathered_bytes before) (gathered_bytes mid) before.faults mid.faults) ran
     → DrillEnds number calls (stream before.handed now.handed before.faults now.faults) end
 drill_in_blocks number calls before mid now ran end none fresh later hands p =
     handed_on number calls before.handed before.faults mid now ran end fresh later hands
-    (subst (λ held. DrillEnds number calls (stream (append_known before.handed held) (gathered mid) before.faults mid.faults) ran) none p)
+    (subst (λ held. DrillEnds number calls (stream (append_known before.handed held) (gathered_bytes mid) before.faults mid.faults) ran) none p)
 
 -- where nothing fails
 pub drills_complete : DrillsComplete

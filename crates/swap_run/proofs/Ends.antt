@@ -133,4 +133,3 @@ pub told :
     → OnErr r (AppendsFront s.before s.now line) → HasCause s.faults_before s.faults_now r → Told s bytes
 told s bytes line (Ok x) e ok err cause = inl (let P : List ℕ → Type 0 = λ l. Appends s.before s.now l in subst P e ok)
 told s bytes line (Err x) e ok err cause = inr (cause.failed, let P : List ℕ → Type 0 = λ l. AppendsFront s.before s.now l in subst P e err)
-

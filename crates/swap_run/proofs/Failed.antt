@@ -5,20 +5,20 @@ use Rattle.std.proofs.Math.Seq.{take-length}
 use Rattle.std.proofs.lemmas.List.Folds.{list_any_at}
 use Rattle.std.specs.List.{list_any}
 use Rattle.swap_record.specs.declared.Entry.{Entry}
-use Rattle.swap_record.specs.History.{History, Row, named}
+use Rattle.swap_record.specs.History.{History, Row, row_named}
 use Rattle.swap_run.specs.Run.{is_failed, is_failed_row, has_failed}
 use Rattle.swap_table.proofs.Lists.{not_eqb}
 
 -- the entry of a name is that many places from the oldest
-named_at : (H : History) (i : ℕ) (n : ℕ) (row : Row) → n + 1 + i ≡ length H → named H n ≡ Some (get_or H i row)
+named_at : (H : History) (i : ℕ) (n : ℕ) (row : Row) → n + 1 + i ≡ length H → row_named H n ≡ Some (get_or H i row)
 named_at [] i n row e = absurd (omega (arith, e))
-named_at (r ∷ H) zero n row e = let same : length H ≡ n = omega (arith, e) in ap (λ b. cond b (Some r) (named H n)) (eq-eqb (length H) n same)
+named_at (r ∷ H) zero n row e = let same : length H ≡ n = omega (arith, e) in ap (λ b. cond b (Some r) (row_named H n)) (eq-eqb (length H) n same)
 named_at (r ∷ H) (suc i) n row e =
     let ne : (length H == n) ≡ false = not_eqb (length H) n (λ same. omega (arith, e, same)) in
-    ap (λ b. cond b (Some r) (named H n)) ne ∙ named_at H i n row (omega (arith, e))
+    ap (λ b. cond b (Some r) (row_named H n)) ne ∙ named_at H i n row (omega (arith, e))
 
 entry_at :
-    (H : History) (i : ℕ) (n : ℕ) (row : Row) (entry : Entry) → n + 1 + i ≡ length H → option_map (λ (r : Row). r.entry) (named H n) ≡ Some entry
+    (H : History) (i : ℕ) (n : ℕ) (row : Row) (entry : Entry) → n + 1 + i ≡ length H → option_map (λ (r : Row). r.entry) (row_named H n) ≡ Some entry
     → (get_or H i row).entry ≡ entry
 entry_at H i n row entry e is = some_is (ap (λ o. option_map (λ (r : Row). r.entry) o) (sym (named_at H i n row e)) ∙ is)
   where
@@ -46,13 +46,13 @@ some_row : Entry → Row
 some_row entry = record { entry = entry; bytes = [] }
 
 pub failed_here :
-    (H : History) (i n : ℕ) (entry : Entry) → n + 1 + i ≡ length H → option_map (λ (r : Row). r.entry) (named H n) ≡ Some entry → is_failed entry.op ≡ true
+    (H : History) (i n : ℕ) (entry : Entry) → n + 1 + i ≡ length H → option_map (λ (r : Row). r.entry) (row_named H n) ≡ Some entry → is_failed entry.op ≡ true
     → has_failed H ≡ true
 failed_here H i n entry e is failed =
     list_any_at is_failed_row H i (some_row entry) (omega (arith, e)) (ap (λ (x : Entry). is_failed x.op) (entry_at H i n (some_row entry) entry e is) ∙ failed)
 
 pub none_here :
-    (H : History) (i n : ℕ) (entry : Entry) → n + 1 + i ≡ length H → option_map (λ (r : Row). r.entry) (named H n) ≡ Some entry → is_failed entry.op ≡ false
+    (H : History) (i n : ℕ) (entry : Entry) → n + 1 + i ≡ length H → option_map (λ (r : Row). r.entry) (row_named H n) ≡ Some entry → is_failed entry.op ≡ false
     → list_any is_failed_row (take i H) ≡ false → list_any is_failed_row (take (i + 1) H) ≡ false
 none_here H i n entry e is failed none =
     let more =

@@ -16,8 +16,8 @@ use Rattle.swap_wire.specs.declared.Seen.{Seen}
 use Rattle.swap_wire.specs.declared.Seen.TheVariants as seen
 use Rattle.swap_base.specs.declared.EntryNo.{EntryNo}
 use Rattle.swap_record.specs.History.{History}
-use Rattle.swap_disk.specs.Drive as drive
-use Rattle.swap_disk.specs.Drive.{Drive}
+use Rattle.swap_disk.specs.MemDiskView as drive
+use Rattle.swap_disk.specs.MemDiskView.{MemDiskView}
 use Rattle.swap_link.specs.Harbor as harbor
 use Rattle.swap_link.specs.Harbor.{Harbor}
 use Rattle.swap_table.specs.Ports.{run}
@@ -26,8 +26,8 @@ use Rattle.swap_device.specs.State.{KeepsRoom}
 use Rattle.swap_world.specs.Laws.{StepsAreNext, HistoriesGoOn}
 use Rattle.swap_table.specs.Happens.{happens}
 use Rattle.swap_world.specs.World.{World, Next, IsEvent, next, next_by, next_of, reach, seens, history}
-use Rattle.swap_world.specs.Runs.{WorldOf, IsLogged, Adds, nothing, one, GoesOn, StandsIn, GrowsByCalls, is_new_call, has_effect, one_less_if}
-use Rattle.swap_script.specs.Reading.{Script, calls_of, calls_in, page_after, first_event, later, is_out}
+use Rattle.swap_world.specs.Runs.{WorldView, IsLogged, Adds, nothing, one, GoesOn, StandsIn, GrowsByCalls, is_new_call, has_effect, one_less_if}
+use Rattle.swap_script.specs.Reading.{Script, calls_of, calls_in, page_after, first_event, without_first, is_out}
 use Rattle.swap_script.specs.Laws.{LinesStay}
 use Rattle.swap_script.specs.Transcript.{HasEntry, line}
 use Rattle.swap_roundtrip.specs.Numbers.{LineFits, NumbersFit}
@@ -79,7 +79,7 @@ next-page w i is buf = go i.event (happens-page w.device i is buf)
     go (event.Round word) same = refl
     go e same = ap (λ p. next_of (run drive.ask harbor.ask p w.drive w.harbor)) same
 
-steps_to : StepsAreNext → (now after : WorldOf Drive Harbor) (i : Input) (is : List Input) (buf : List ℕ) (s : Seen)
+steps_to : StepsAreNext → (now after : WorldView MemDiskView Harbor) (i : Input) (is : List Input) (buf : List ℕ) (s : Seen)
     → IsEvent drive.Moves harbor.Moves now.core.device now.core.disk now.core.fabric
     (record { event = i.event; page = page_after (i ∷ is) buf }) s after.core.device after.core.disk after.core.fabric
     → next (world_in now) i ≡ record { world = world_in after; seen = s }
@@ -193,7 +193,7 @@ one_less true n m h = omega arith
 one_less false n m h = omega arith
 
 room_left :
-    (now after : WorldOf Drive Harbor) (left left' : Script) (i : Input) (is : List Input) (s : Seen) → left.inputs ≡ i ∷ is → left'.inputs ≡ is
+    (now after : WorldView MemDiskView Harbor) (left left' : Script) (i : Input) (is : List Input) (s : Seen) → left.inputs ≡ i ∷ is → left'.inputs ≡ is
     → left'.sizes ≡ left.sizes → left'.lenders ≡ left.lenders
     → of_device after.core.device ≡ of_device now.core.device → KeepsRoom now.core after.core → GrowsByCalls i.event now.core.device after.core.device
     → after.log_spare ≡ one_less_if (has_effect i.event s) now.log_spare
@@ -217,7 +217,8 @@ room_left now after left left' i is s el el' es eb of keeps grows log h =
 -- one more line was taken
 pub print_more :
     StepsAreNext → LinesStay
-    → (first : WorldOf Drive Harbor) (all : List Input) (now after : WorldOf Drive Harbor) (left left' : Script) (i : Input) (is : List Input) (buf : List ℕ)
+    → (first : WorldView MemDiskView Harbor) (all : List Input) (now after : WorldView MemDiskView Harbor) (left left' : Script) (i : Input) (is : List Input)
+    (buf : List ℕ)
     (s : Seen) (bytes : List ℕ) (tb tm tn : Option (List ℕ))
     → Printing first all now left tb tm → left.inputs ≡ i ∷ is → left'.inputs ≡ is → left'.sizes ≡ left.sizes → left'.lenders ≡ left.lenders
     → IsEvent drive.Moves harbor.Moves now.core.device now.core.disk now.core.fabric
@@ -257,7 +258,8 @@ print_more steps stay first all now after left left' i is buf s bytes tb tm tn k
 -- a line was broken off
 pub print_broke :
     StepsAreNext → LinesStay → HistoriesGoOn
-    → (first : WorldOf Drive Harbor) (all : List Input) (now after : WorldOf Drive Harbor) (left : Script) (i : Input) (is : List Input) (buf : List ℕ)
+    → (first : WorldView MemDiskView Harbor) (all : List Input) (now after : WorldView MemDiskView Harbor) (left : Script) (i : Input) (is : List Input)
+    (buf : List ℕ)
     (s : Seen)
     (bytes : List ℕ) (tb tm tn : Option (List ℕ))
     → Printing first all now left tb tm → left.inputs ≡ i ∷ is
@@ -338,7 +340,7 @@ adds_stand d i s H (one row seen_one same answers) =
     let P : Option EntryNo → Type 0 = λ o. MatchOption o (Unit {0}) (λ (e : EntryNo). e.0 < length H) in subst P (sym seen_one) (rw same (omega arith))
 
 -- an event was made, and its line is this
-pub record IsMade (now after : WorldOf Drive Harbor) (e : Event) (page : List ℕ) (s : Seen) (bytes : List ℕ) : Type 0 where
+pub record IsMade (now after : WorldView MemDiskView Harbor) (e : Event) (page : List ℕ) (s : Seen) (bytes : List ℕ) : Type 0 where
   pub step : IsEvent drive.Moves harbor.Moves now.core.device now.core.disk now.core.fabric
       (record { event = e; page = page }) s after.core.device after.core.disk after.core.fabric
   pub of : of_device after.core.device ≡ of_device now.core.device
@@ -355,7 +357,8 @@ line_fits_at {m} {n} {e} {s} {H} {K} fits size same = subst (LineFits n e s) sam
 
 -- no event is left, so all numbers fit
 pub all_fit :
-    (first : WorldOf Drive Harbor) (all : List Input) (now : WorldOf Drive Harbor) (left : Script) (tb tn : Option (List ℕ)) → Printing first all now left tb tn
+    (first : WorldView MemDiskView Harbor) (all : List Input) (now : WorldView MemDiskView Harbor) (left : Script) (tb tn : Option (List ℕ))
+    → Printing first all now left tb tn
     → None ≡ first_event left.inputs → NumbersFit (world_in first) all
 all_fit first all now left tb tn k none = go left.inputs refl none
   where
@@ -367,7 +370,7 @@ some_is : {X : Type 0} {x y : X} → Some x ≡ Some y → x ≡ y
 some_is e = cc
 
 made_at :
-    (now after : WorldOf Drive Harbor) (e e' : Event) (page page' : List ℕ) (s : Seen) (bytes : List ℕ) → e ≡ e' → page ≡ page'
+    (now after : WorldView MemDiskView Harbor) (e e' : Event) (page page' : List ℕ) (s : Seen) (bytes : List ℕ) → e ≡ e' → page ≡ page'
     → IsMade now after e page s bytes
     → IsMade now after e' page' s bytes
 made_at now after e e' page page' s bytes ee ep m =
@@ -376,9 +379,10 @@ made_at now after e e' page page' s bytes ee ep m =
 
 pub printed_more :
     StepsAreNext → LinesStay
-    → (first : WorldOf Drive Harbor) (all : List Input) (now after : WorldOf Drive Harbor) (left left' : Script) (e : Event) (page buf : List ℕ) (s : Seen)
+    → (first : WorldView MemDiskView Harbor) (all : List Input) (now after : WorldView MemDiskView Harbor) (left left' : Script) (e : Event) (page buf : List ℕ)
+    (s : Seen)
     (bytes : List ℕ) (tb tm tn : Option (List ℕ))
-    → Printing first all now left tb tm → Some e ≡ first_event left.inputs → left' ≡ later left → page ≡ page_after left.inputs buf
+    → Printing first all now left tb tm → Some e ≡ first_event left.inputs → left' ≡ without_first left → page ≡ page_after left.inputs buf
     → IsMade now after e page s bytes → Appends tm tn bytes → Printing first all after left' tb tn
 printed_more steps stay first all now after left left' e page buf s bytes tb tm tn k ee el ep m took = go left.inputs refl ee ep
   where
@@ -392,7 +396,8 @@ printed_more steps stay first all now after left left' e page buf s bytes tb tm 
 
 pub printed_broke :
     StepsAreNext → LinesStay → HistoriesGoOn
-    → (first : WorldOf Drive Harbor) (all : List Input) (now after : WorldOf Drive Harbor) (left : Script) (e : Event) (page buf : List ℕ) (s : Seen)
+    → (first : WorldView MemDiskView Harbor) (all : List Input) (now after : WorldView MemDiskView Harbor) (left : Script) (e : Event) (page buf : List ℕ)
+    (s : Seen)
     (bytes : List ℕ) (tb tm tn : Option (List ℕ))
     → Printing first all now left tb tm → Some e ≡ first_event left.inputs → page ≡ page_after left.inputs buf → IsMade now after e page s bytes
     → AppendsFront tm tn bytes → AppendsFront tb tn (lines_from (world_in first) all)

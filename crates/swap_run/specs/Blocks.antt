@@ -2,7 +2,7 @@
 use Rattle.std.specs.Prelude.{◌≡◌, ℕ, ◌⊎◌, Bool, true, false, List, [], Option, None, Some}
 use Rattle.std.specs.Io.KnownBytes.{Keeps}
 use Rattle.swap_io.specs.Causes.{Rose}
-use Rattle.swap_io.specs.Gathered.{Gathered, gathered}
+use Rattle.swap_io.specs.Gathered.{Gathered, gathered_bytes}
 use Rattle.swap_run.specs.declared.Ending.{Ending}
 use Rattle.swap_run.specs.declared.Ending.TheVariants as ending
 
@@ -21,7 +21,7 @@ is_whole _ = false
 -- what was gathered is handed on whole, or the last write failed
 abbrev pub LastWrite : Ending → Gathered → Gathered → Ending → Type 0
 LastWrite ran before now end =
-    Keeps (gathered before) (gathered now)
+    Keeps (gathered_bytes before) (gathered_bytes now)
     × (((end ≡ ran) × (now.held ≡ [])) ⊎ ((end ≡ ending.WriteFailed) × Rose before.faults now.faults))
 
 abbrev pub HandsOnAt : Bool → Ending → Gathered → Gathered → Ending → Type 0

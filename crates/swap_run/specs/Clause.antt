@@ -3,7 +3,7 @@ use Rattle.std.specs.Prelude.{◌≡◌, ℕ, ◌<◌, ◌≤◌, ◌⊎◌, Boo
 use Rattle.std.specs.Io.KnownBytes.{Appends, Keeps}
 use Rattle.swap_io.specs.Causes.{Rose, WasRead, WasReadWhole, AppendsFront}
 use Rattle.swap_script.specs.declared.ScriptRefused.{ScriptRefused}
-use Rattle.swap_script.specs.Lines.{is_word, ended}
+use Rattle.swap_script.specs.Lines.{is_word, with_line_end}
 use Rattle.swap_script.specs.Reading as reading
 use Rattle.swap_script.specs.Transcript.{refusal}
 use Rattle.swap_script.specs.declared.TheConstants.{TEXT_LIMIT}
@@ -225,13 +225,13 @@ status_of ending.HostFailed = 8
 status_of ending.TooLong = 9
 
 abbrev pub err_text : Ending → List ℕ
-err_text ending.Usage = ended (codes "usage: remswap script|check|drill|play|lend")
-err_text ending.ReadFailed = ended (codes "read failed")
-err_text ending.WriteFailed = ended (codes "write failed")
+err_text ending.Usage = with_line_end (codes "usage: remswap script|check|drill|play|lend")
+err_text ending.ReadFailed = with_line_end (codes "read failed")
+err_text ending.WriteFailed = with_line_end (codes "write failed")
 err_text (ending.Refused refused) = refusal refused
-err_text ending.NoMemory = ended (codes "no memory")
-err_text ending.HostFailed = ended (codes "host failed")
-err_text ending.TooLong = ended (codes "input too long")
+err_text ending.NoMemory = with_line_end (codes "no memory")
+err_text ending.HostFailed = with_line_end (codes "host failed")
+err_text ending.TooLong = with_line_end (codes "input too long")
 err_text _ = []
 
 abbrev pub IsNoRefusal : Ending → Type 0

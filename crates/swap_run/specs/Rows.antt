@@ -3,11 +3,11 @@ use Rattle.std.specs.Prelude.{◌≡◌, ℕ, List, [], ◌∷◌, flat_map, cod
 use Rattle.swap_base.specs.declared.Field.TheVariants.{PageBytes}
 use Rattle.swap_script.specs.declared.Why.{Why}
 use Rattle.swap_script.specs.declared.Why.TheVariants as why
-use Rattle.swap_script.specs.Lines.{ended}
+use Rattle.swap_script.specs.Lines.{with_line_end}
 use Rattle.swap_run.specs.Run.{output_of}
 
 abbrev text : List (List ℕ) → List ℕ
-text lines = flat_map ended lines
+text lines = flat_map with_line_end lines
 
 -- the script's lines give the transcript's lines
 abbrev Gives : List (List ℕ) → List (List ℕ) → Type 0

@@ -11,7 +11,7 @@ use Rattle.swap_script.specs.declared.Grammar.TheVariants as grammar
 use Rattle.swap_script.specs.Lines.{words_of}
 use Rattle.swap_script.specs.Forms.{Line, caller_word, call_or_operator, trace_line, line_of}
 use Rattle.swap_script.specs.Laws.{IsOfTrace, HoldTraceEvents}
-use Rattle.swap_script.specs.Reading.{Script, Above, fault_of, counted, first_fault, nothing_above, is_within_reach, inputs_of, input_of}
+use Rattle.swap_script.specs.Reading.{Script, Above, fault_of, count_line, first_fault, nothing_above, is_within_reach, inputs_of, input_of}
 use Rattle.swap_script.proofs.Parts.{operator_operates, call_calls}
 use Rattle.swap_script.proofs.Read.{owes_nothing, none_or}
 use Rattle.swap_script.proofs.Scripts.{of_text}
@@ -65,9 +65,9 @@ all_hold tcp end s lenders [] above e = tt
 all_hold tcp end s lenders ((n, text) ∷ rest) above e =
     let g = grammar.Trace tcp in
     let line = line_of g (words_of text) in
-    let parts = none_or n (fault_of g s lenders above line) (first_fault g end s lenders rest (counted above line)) e in
+    let parts = none_or n (fault_of g s lenders above line) (first_fault g end s lenders rest (count_line above line)) e in
     onto_events tcp s line (inputs_of g s rest) (fault_holds tcp s lenders above (words_of text) line refl parts.0)
-    (all_hold tcp end s lenders rest (counted above line) parts.1)
+    (all_hold tcp end s lenders rest (count_line above line) parts.1)
 
 pub hold_trace_events : (tcp : Option ℕ) → HoldTraceEvents tcp
 hold_trace_events tcp =

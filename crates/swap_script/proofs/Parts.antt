@@ -15,7 +15,7 @@ use Rattle.swap_script.specs.declared.Grammar.TheVariants as grammar
 use Rattle.swap_script.specs.declared.Part.{Part}
 use Rattle.swap_script.specs.declared.Part.TheVariants as part
 use Rattle.swap_script.specs.Lines.{words_of, is_word}
-use Rattle.swap_script.specs.Forms.{Line, line_of, by_row, operator_rows, two_words, one_word, three_words, page_out, page_in, caller_word, hex_word, page_word, slab_word, lender_word, small, call_line, call_or_operator, trace_line, lender_event, word_event, map_line, cut_line, host_line, ◌>>=◌}
+use Rattle.swap_script.specs.Forms.{Line, line_of, by_row, operator_rows, two_words, one_word, three_words, page_out, page_in, caller_word, hex_word, page_word, slab_word, lender_word, small_number, call_line, call_or_operator, trace_line, lender_event, word_event, map_line, cut_line, host_line, ◌>>=◌}
 use Rattle.swap_script.specs.Reading.{Reads, AllRead, is_in, is_operators, is_call_of, part_of, inputs_of, input_of}
 use Rattle.swap_script.specs.Laws.{IsOfTrace}
 use Rattle.swap_script.specs.Spelled.{line_in, first_caller, is_caller}
@@ -78,13 +78,13 @@ cut_operates : (words : List (List ℕ)) → Operates (cut_line words)
 cut_operates words =
     then_operates (three_words words) _
     (λ t. then_operates (lender_word t.0) _
-    (λ lender. then_operates (small t.1) _ (λ a. then_operates (small t.2) _ (λ b. event_operates (event.Cut lender a b) (refl, tt)))))
+    (λ lender. then_operates (small_number t.1) _ (λ a. then_operates (small_number t.2) _ (λ b. event_operates (event.Cut lender a b) (refl, tt)))))
 
 host_operates : (words : List (List ℕ)) → Operates (host_line words)
 host_operates words =
     then_operates (three_words words) _
     (λ t. then_operates (lender_word t.0) _
-    (λ lender. then_operates (small t.1) _ (λ a. then_operates (number t.2) _ (λ b. event_operates (event.Host lender a b) (refl, tt)))))
+    (λ lender. then_operates (small_number t.1) _ (λ a. then_operates (number t.2) _ (λ b. event_operates (event.Host lender a b) (refl, tt)))))
 
 pub operator_operates : (word : List ℕ) (words : List (List ℕ)) → Operates (by_row operator_rows word words)
 operator_operates word words =

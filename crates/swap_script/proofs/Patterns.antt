@@ -3,7 +3,7 @@ use Rattle.std.proofs.Common.{◌≡◌, ℕ, ◌/◌, Bool, true, false, cond, 
 use Rattle.std.proofs.lemmas.Bool.{and_parts, leb-true}
 use Rattle.std.specs.List.{list_any}
 use Rattle.swap_base.specs.Sizes.{page_lengths}
-use Rattle.swap_io.specs.Words.{piece_of, pairs, lengths, is_piece, repeated, filled, pattern}
+use Rattle.swap_io.specs.Words.{piece_of, pairs, lengths, is_piece, repeat_piece, fill_page, pattern}
 use Rattle.swap_io.proofs.Pieces.{divides, length-times}
 
 length-pairs : (word : List ℕ) → length (pairs word) ≡ length word / 2
@@ -13,9 +13,9 @@ length-pairs (a ∷ b ∷ rest) = omega (arith, length-pairs rest)
 
 is_some-filled :
     (size : ℕ) (piece : List ℕ) (b hex : Bool) → is_piece size piece ≡ b → is_some (cond hex (Some piece) None) ≡ true
-    → is_some (filled size (cond hex (Some piece) None)) ≡ b
-is_some-filled size piece true true e h = ap (λ t. is_some (cond t (Some (repeated size piece)) None)) e
-is_some-filled size piece false true e h = ap (λ t. is_some (cond t (Some (repeated size piece)) None)) e
+    → is_some (fill_page size (cond hex (Some piece) None)) ≡ b
+is_some-filled size piece true true e h = ap (λ t. is_some (cond t (Some (repeat_piece size piece)) None)) e
+is_some-filled size piece false true e h = ap (λ t. is_some (cond t (Some (repeat_piece size piece)) None)) e
 is_some-filled size piece b false e h = cc
 
 pub is_some_pattern :
@@ -26,15 +26,15 @@ is_some_pattern size word h =
 
 if_piece :
     (size : ℕ) (piece page : List ℕ) (b : Bool) → list_any (λ n. eqb size n) page_lengths ≡ true → is_piece size piece ≡ b
-    → cond b (Some (repeated size piece)) None ≡ Some page → length page ≡ size
+    → cond b (Some (repeat_piece size piece)) None ≡ Some page → length page ≡ size
 if_piece size piece page true is_page is e =
-    let same : repeated size piece ≡ page = cc in
+    let same : repeat_piece size piece ≡ page = cc in
     let parts = and_parts (list_any (λ n. eqb (length piece) n) lengths) (leb (length piece) size) is in
     ap length (sym same) ∙ length-times (size / length piece) piece ∙ divides size (length piece) is_page parts.0 (leb-true (length piece) size parts.1)
 if_piece size piece page false is_page is e = cc
 
 -- a page that a piece fills has its size
 pub length-filled :
-    (size : ℕ) (o : Option (List ℕ)) (page : List ℕ) → list_any (λ n. eqb size n) page_lengths ≡ true → filled size o ≡ Some page → length page ≡ size
+    (size : ℕ) (o : Option (List ℕ)) (page : List ℕ) → list_any (λ n. eqb size n) page_lengths ≡ true → fill_page size o ≡ Some page → length page ≡ size
 length-filled size None page is_page e = cc
 length-filled size (Some piece) page is_page e = if_piece size piece page (is_piece size piece) is_page refl e

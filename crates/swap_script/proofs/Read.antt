@@ -15,16 +15,16 @@ use Rattle.swap_script.specs.declared.Why.TheVariants as why
 use Rattle.swap_script.specs.declared.ScriptRefused.{ScriptRefused}
 use Rattle.swap_script.specs.Lines.{words_of}
 use Rattle.swap_script.specs.Forms.{Line, line_of}
-use Rattle.swap_script.specs.Reading.{Above, are_addressed, is_within_reach, has_caller, has_page, has_slab, has_lender, has_pattern, tests, fault_of, fault_or, counted, first_fault, input_of, inputs_of, calls_of, calls_in, Reads, AllRead}
+use Rattle.swap_script.specs.Reading.{Above, are_addressed, is_within_reach, has_caller, has_page, has_slab, has_lender, has_pattern, tests, fault_of, fault_or, count_line, first_fault, input_of, inputs_of, calls_of, calls_in, Reads, AllRead}
 use Rattle.swap_script.specs.declared.TheConstants.{CALL_BYTES, EVENT_LIMIT}
 
 -- where the first line is an event's and owes nothing
 pub first_fault-on : (g : Grammar) (end : ℕ) (s : Sizes) (lenders : ℕ) (above : Above) (n : ℕ) (text : List ℕ) (rest : List (ℕ × List ℕ)) (line : Line)
     → Some line ≡ line_of g (words_of text) → None ≡ first_beyond (tests g s lenders above line)
-    → first_fault g end s lenders ((n, text) ∷ rest) above ≡ first_fault g end s lenders rest (counted above (Some line))
+    → first_fault g end s lenders ((n, text) ∷ rest) above ≡ first_fault g end s lenders rest (count_line above (Some line))
 first_fault-on g end s lenders above n text rest line is ok =
-    ap (λ o. fault_or n (fault_of g s lenders above o) (first_fault g end s lenders rest (counted above o))) (sym is)
-    ∙ ap (λ w. fault_or n w (first_fault g end s lenders rest (counted above (Some line)))) (sym ok)
+    ap (λ o. fault_or n (fault_of g s lenders above o) (first_fault g end s lenders rest (count_line above o))) (sym is)
+    ∙ ap (λ w. fault_or n w (first_fault g end s lenders rest (count_line above (Some line)))) (sym ok)
 
 pub inputs_of-on : (g : Grammar) (s : Sizes) (n : ℕ) (text : List ℕ) (rest : List (ℕ × List ℕ)) (line : Line) → Some line ≡ line_of g (words_of text)
     → inputs_of g s ((n, text) ∷ rest) ≡ input_of s line ∷ inputs_of g s rest
@@ -89,8 +89,8 @@ pub all_read : (g : Grammar) (end : ℕ) (s : Sizes) (lenders : ℕ) (lines : Li
 all_read g end s lenders [] above e = tt
 all_read g end s lenders ((n, text) ∷ rest) above e =
     let line = line_of g (words_of text) in
-    let parts = none_or n (fault_of g s lenders above line) (first_fault g end s lenders rest (counted above line)) e in
-    (reads g s lenders above line parts.0, all_read g end s lenders rest (counted above line) parts.1)
+    let parts = none_or n (fault_of g s lenders above line) (first_fault g end s lenders rest (count_line above line)) e in
+    (reads g s lenders above line parts.0, all_read g end s lenders rest (count_line above line) parts.1)
 
 pub calls_in-le : (e : Event) → calls_in e ≤ 1
 calls_in-le (event.PageOut c p) = omega arith

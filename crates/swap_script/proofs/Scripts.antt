@@ -15,10 +15,10 @@ use Rattle.swap_script.specs.declared.Why.TheVariants as why
 use Rattle.swap_script.specs.declared.ScriptRefused.{ScriptRefused}
 use Rattle.swap_script.specs.Lines.{words_of, kept_lines, is_word}
 use Rattle.swap_script.specs.Forms.{sizes_words, spec_words}
-use Rattle.swap_script.specs.Reading.{Script, Front, front_from, reading, text_events, text_lines, end_of, geometry_line, sizes_within, fielded, spec_within, lender_line, lender_rest, lending_tests, lends_within, lent_bytes, first_fault, nothing_above, inputs_of, unless, at, IsWithinLimits, MayLend, ◌>>=◌}
+use Rattle.swap_script.specs.Reading.{Script, Front, front_from, reading, text_events, text_lines, end_of, geometry_line, sizes_within, field_fault, spec_within, lender_line, lender_rest, lending_tests, lends_within, lent_bytes, first_fault, nothing_above, inputs_of, value_unless, fault_at, IsWithinLimits, MayLend, ◌>>=◌}
 use Rattle.swap_script.proofs.Read.{passes}
 
-kept_sizes : (o : Option Field) (x s : Sizes) → fielded (unless o x) ≡ Ok s → (o ≡ None) × (x ≡ s)
+kept_sizes : (o : Option Field) (x s : Sizes) → field_fault (value_unless o x) ≡ Ok s → (o ≡ None) × (x ≡ s)
 kept_sizes None x s e = (refl, cc)
 kept_sizes (Some field) x s e = cc
 
@@ -49,7 +49,7 @@ OfChecked g P =
 none_may_lend : (s : Sizes) → MayLend s []
 none_may_lend s = record { count = omega arith; limits = All-nil IsWithinLimits; lent = omega arith }
 
-no_field : (o : Option Field) (x spec : LenderSpec) → unless (option_map why.Field o) x ≡ Ok spec → (o ≡ None) × (x ≡ spec)
+no_field : (o : Option Field) (x spec : LenderSpec) → value_unless (option_map why.Field o) x ≡ Ok spec → (o ≡ None) × (x ≡ spec)
 no_field None x spec e = (refl, cc)
 no_field (Some field) x spec e = cc
 
@@ -78,12 +78,12 @@ one_more_lends s others spec may limits e =
       lent = leb-true (lent_bytes s specs) 536_870_912 lent.0;
     }
 
-unless_none : {A : Type 0} (o : Option Why) (x y : A) → unless o x ≡ Ok y → (o ≡ None) × (x ≡ y)
+unless_none : {A : Type 0} (o : Option Why) (x y : A) → value_unless o x ≡ Ok y → (o ≡ None) × (x ≡ y)
 unless_none None x y e = (refl, cc)
 unless_none (Some w) x y e = cc
 
 if_tested : (s : Sizes) (others : List LenderSpec) (r : Result LenderSpec Why) (spec : LenderSpec) → ((x : LenderSpec) → r ≡ Ok x → IsWithinLimits x)
-    → MayLend s others → (r >>= λ x. unless (first_beyond (lending_tests s (others ++ x ∷ []))) x) ≡ Ok spec → MayLend s (others ++ spec ∷ [])
+    → MayLend s others → (r >>= λ x. value_unless (first_beyond (lending_tests s (others ++ x ∷ []))) x) ≡ Ok spec → MayLend s (others ++ spec ∷ [])
 if_tested s others (Err w) spec limits may e = cc
 if_tested s others (Ok x) spec limits may e =
     let parts = unless_none (first_beyond (lending_tests s (others ++ x ∷ []))) x spec e in
@@ -100,13 +100,13 @@ same_front s x front may e = let same : x ≡ front = cc in subst (λ (f : Front
 line_front_lends : (s : Sizes) (others : List LenderSpec) (n : ℕ) (r : Result LenderSpec Why) (rest : List (ℕ × List ℕ)) (front : Front)
     → ((spec : LenderSpec) → r ≡ Ok spec → MayLend s (others ++ spec ∷ []))
     → ((more : List LenderSpec) → MayLend s more → front_from s more rest ≡ Ok front → MayLend s front.lenders)
-    → (at n r >>= λ spec. front_from s (others ++ spec ∷ []) rest) ≡ Ok front → MayLend s front.lenders
+    → (fault_at n r >>= λ spec. front_from s (others ++ spec ∷ []) rest) ≡ Ok front → MayLend s front.lenders
 line_front_lends s others n (Err w) rest front lends later e = cc
 line_front_lends s others n (Ok spec) rest front lends later e = later (others ++ spec ∷ []) (lends spec refl) e
 
 if_lender : (s : Sizes) (others : List LenderSpec) (n : ℕ) (o : Option (List (List ℕ))) (lines rest : List (ℕ × List ℕ)) (front : Front)
     → MayLend s others → ((more : List LenderSpec) → MayLend s more → front_from s more rest ≡ Ok front → MayLend s front.lenders)
-    → option_map_or (λ words. at n (lender_line s others words) >>= λ spec. front_from s (others ++ spec ∷ []) rest) o
+    → option_map_or (λ words. fault_at n (lender_line s others words) >>= λ spec. front_from s (others ++ spec ∷ []) rest) o
     (Ok (record { lenders = others; lines = lines })) ≡ Ok front → MayLend s front.lenders
 if_lender s others n None lines rest front may later e = same_front s (record { lenders = others; lines = lines }) front may e
 if_lender s others n (Some words) lines rest front may later e =
@@ -119,7 +119,7 @@ front_lends s others [] front may e = same_front s (record { lenders = others; l
 front_lends s others ((n, text) ∷ rest) front may e =
     if_lender s others n (lender_rest (words_of text)) ((n, text) ∷ rest) rest front may (λ more lends ok. front_lends s more rest front lends ok) e
 
-unless_ok : (o : Option ScriptRefused) (x y : Script) → unless o x ≡ Ok y → (o ≡ None) × (x ≡ y)
+unless_ok : (o : Option ScriptRefused) (x y : Script) → value_unless o x ≡ Ok y → (o ≡ None) × (x ≡ y)
 unless_ok None x y e = (refl, cc)
 unless_ok (Some w) x y e = cc
 
@@ -136,7 +136,7 @@ with_front g P holds end sizes (Err w) s within may e = cc
 with_front g P holds end sizes (Ok front) s within may e = with_events g P holds end sizes front s within (may front refl) e
 
 with_sizes : (g : Grammar) (P : Script → Type 0) → OfChecked g P → (end n : ℕ) (rest : List (ℕ × List ℕ)) (r : Result Sizes Why) (s : Script)
-    → ((sizes : Sizes) → r ≡ Ok sizes → AreInLimits sizes) → (at n r >>= λ sizes. (front_from sizes [] rest >>= text_events g end sizes)) ≡ Ok s → P s
+    → ((sizes : Sizes) → r ≡ Ok sizes → AreInLimits sizes) → (fault_at n r >>= λ sizes. (front_from sizes [] rest >>= text_events g end sizes)) ≡ Ok s → P s
 with_sizes g P holds end n rest (Err w) s within e = cc
 with_sizes g P holds end n rest (Ok sizes) s within e =
     with_front g P holds end sizes (front_from sizes [] rest) s (within sizes refl) (λ front ok. front_lends sizes [] rest front (none_may_lend sizes) ok) e

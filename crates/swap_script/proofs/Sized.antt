@@ -4,11 +4,11 @@ use Rattle.std.specs.Option.{option_map}
 use Rattle.swap_base.specs.declared.Field.{Field}
 use Rattle.swap_base.specs.Sizes.{Sizes}
 use Rattle.swap_script.specs.Forms.{no_word, seven_words}
-use Rattle.swap_script.specs.Reading.{within, fielded, sizes_within}
+use Rattle.swap_script.specs.Reading.{within_limits, field_fault, sizes_within}
 
-pub sizes_within_is : (o : Option Sizes) (r : Result Sizes Field) → Some r ≡ option_map within o → sizes_within o ≡ fielded r
+pub sizes_within_is : (o : Option Sizes) (r : Result Sizes Field) → Some r ≡ option_map within_limits o → sizes_within o ≡ field_fault r
 sizes_within_is None r e = cc
-sizes_within_is (Some s) r e = let same : within s ≡ r = cc in ap fielded same
+sizes_within_is (Some s) r e = let same : within_limits s ≡ r = cc in ap field_fault same
 
 -- seven words and no more, or more
 pub seven_words-with :

@@ -25,8 +25,8 @@ pub record Line : Type 0 where
   pub hex : List ℕ
 
 -- an event that is spelled without a page
-abbrev pub plain : Event → Option Line
-plain e = Some (record { event = e; hex = [] })
+abbrev pub line_of_plain : Event → Option Line
+line_of_plain e = Some (record { event = e; hex = [] })
 
 -- the words, if there are just so many
 abbrev pub no_word : List (List ℕ) → Option (Unit {0})
@@ -50,24 +50,24 @@ seven_words (a ∷ b ∷ c ∷ d ∷ e ∷ f ∷ g ∷ []) = Some (a, b, c, d, e
 seven_words _ = None
 
 -- a number below 2 ^ 32
-abbrev pub below : ℕ → ℕ → Option ℕ
-below limit n = if nat_lt n limit then Some n else None
+abbrev pub number_below : ℕ → ℕ → Option ℕ
+number_below limit n = if nat_lt n limit then Some n else None
 
-abbrev pub small : List ℕ → Option ℕ
-small word = number word >>= below (2 ^ 32)
+abbrev pub small_number : List ℕ → Option ℕ
+small_number word = number word >>= number_below (2 ^ 32)
 
 -- the words of a caller, of a page, of a slab and of a lender
 abbrev pub caller_word : List ℕ → Option Caller
-caller_word word = small word >>= λ n. Some (record { 0 = n })
+caller_word word = small_number word >>= λ n. Some (record { 0 = n })
 
 abbrev pub page_word : List ℕ → Option Page
-page_word word = small word >>= λ n. Some (record { 0 = n })
+page_word word = small_number word >>= λ n. Some (record { 0 = n })
 
 abbrev pub slab_word : List ℕ → Option Slab
-slab_word word = small word >>= λ n. Some (record { 0 = n })
+slab_word word = small_number word >>= λ n. Some (record { 0 = n })
 
 abbrev pub lender_word : List ℕ → Option Lender
-lender_word word = small word >>= λ n. Some (record { 0 = n })
+lender_word word = small_number word >>= λ n. Some (record { 0 = n })
 
 -- a word that is hex of whole bytes
 abbrev pub hex_word : List ℕ → Option (List ℕ)
@@ -91,7 +91,7 @@ page_out caller p h = do
   Some (record { event = event.PageOut caller page; hex = hex })
 
 abbrev pub page_in : Caller → List ℕ → Option Line
-page_in caller p = page_word p >>= λ page. plain (event.PageIn caller page)
+page_in caller p = page_word p >>= λ page. line_of_plain (event.PageIn caller page)
 
 -- the forms of an event line, by its first word
 abbrev pub out_line : List (List ℕ) → Option Line
@@ -110,31 +110,31 @@ abbrev pub finish_line : List (List ℕ) → Option Line
 finish_line words = do
   c ← one_word words
   caller ← caller_word c
-  plain (event.Finish caller)
+  line_of_plain (event.Finish caller)
 
 abbrev pub start_line : List (List ℕ) → Option Line
-start_line words = no_word words >>= λ _. plain event.Start
+start_line words = no_word words >>= λ _. line_of_plain event.Start
 
 abbrev pub disk_line : List (List ℕ) → Option Line
 disk_line words = do
   (what, n, how) ← three_words words
   which ← which_words what n
   ok ← ok_word how
-  plain (event.Disk which ok)
+  line_of_plain (event.Disk which ok)
 
 abbrev pub map_line : List (List ℕ) → Option Line
 map_line words = do
   (s, l) ← two_words words
   slab ← slab_word s
   lender ← lender_word l
-  plain (event.Map slab lender)
+  line_of_plain (event.Map slab lender)
 
 -- an event that names a lender alone
 abbrev pub lender_event : (Lender → Event) → List (List ℕ) → Option Line
 lender_event of words = do
   l ← one_word words
   lender ← lender_word l
-  plain (of lender)
+  line_of_plain (of lender)
 
 abbrev pub connect_line : List (List ℕ) → Option Line
 connect_line words = lender_event event.Connect words
@@ -152,24 +152,24 @@ abbrev pub cut_line : List (List ℕ) → Option Line
 cut_line words = do
   (l, a, b) ← three_words words
   lender ← lender_word l
-  to_lender ← small a
-  to_device ← small b
-  plain (event.Cut lender to_lender to_device)
+  to_lender ← small_number a
+  to_device ← small_number b
+  line_of_plain (event.Cut lender to_lender to_device)
 
 abbrev pub host_line : List (List ℕ) → Option Line
 host_line words = do
   (l, u, w) ← three_words words
   lender ← lender_word l
-  used ← small u
+  used ← small_number u
   word ← number w
-  plain (event.Host lender used word)
+  line_of_plain (event.Host lender used word)
 
 -- an event that has a word alone, which is a number below 2 ^ 64
 abbrev pub word_event : (ℕ → Event) → List (List ℕ) → Option Line
 word_event of words = do
   w ← one_word words
   word ← number w
-  plain (of word)
+  line_of_plain (of word)
 
 abbrev pub tick_line : List (List ℕ) → Option Line
 tick_line words = word_event event.Tick words
@@ -242,13 +242,13 @@ line_of (grammar.Trace tcp) words = trace_line words
 abbrev pub sizes_words : List (List ℕ) → Option Sizes
 sizes_words words = do
   (a, b, c, d, e, f, g) ← seven_words words
-  page_bytes ← small a
-  pages_per_slab ← small b
-  slabs ← small c
-  queue ← small d
-  callers ← small e
-  window ← small f
-  hot ← small g
+  page_bytes ← small_number a
+  pages_per_slab ← small_number b
+  slabs ← small_number c
+  queue ← small_number d
+  callers ← small_number e
+  window ← small_number f
+  hot ← small_number g
   Some
       (record {
         page_bytes = page_bytes;
@@ -264,7 +264,7 @@ sizes_words words = do
 abbrev pub spec_words : List (List ℕ) → Option LenderSpec
 spec_words words = do
   (a, b, c) ← three_words words
-  slots ← small a
-  headroom ← small b
-  extra ← small c
+  slots ← small_number a
+  headroom ← small_number b
+  extra ← small_number c
   Some (record { slots = slots; headroom = headroom; extra = extra })

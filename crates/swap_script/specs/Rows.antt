@@ -13,19 +13,19 @@ use Rattle.swap_wire.specs.declared.Seen.{Seen}
 use Rattle.swap_wire.specs.declared.Seen.TheVariants as seen
 use Rattle.swap_wire.specs.Input.{Input}
 use Rattle.swap_record.specs.declared.Op.TheVariants as op
-use Rattle.swap_record.specs.History.{History, pushed}
+use Rattle.swap_record.specs.History.{History, with_row}
 use Rattle.swap_script.specs.declared.Why.{Why}
 use Rattle.swap_script.specs.declared.Why.TheVariants as why
 use Rattle.swap_script.specs.declared.Grammar.TheVariants as grammar
 use Rattle.swap_script.specs.declared.Part.{Part}
 use Rattle.swap_script.specs.declared.Part.TheVariants as part
-use Rattle.swap_script.specs.Lines.{ended, words_of}
-use Rattle.swap_script.specs.Forms.{event_line, plain}
+use Rattle.swap_script.specs.Lines.{with_line_end, words_of}
+use Rattle.swap_script.specs.Forms.{event_line, line_of_plain}
 use Rattle.swap_script.specs.Reading.{script, reading, part_of, ◌>>=◌}
 use Rattle.swap_script.specs.Transcript.{header, lender_header, line, end_line, transcript, refusal}
 
 abbrev text : List (List ℕ) → List ℕ
-text lines = flat_map ended lines
+text lines = flat_map with_line_end lines
 
 abbrev small_sizes : Sizes
 small_sizes = record { page_bytes = 8; pages_per_slab = 4; slabs = 2; queue = 4; callers = 2; window = 4; hot = 20 }
@@ -50,8 +50,8 @@ abbrev L : List ℕ
 L = codes "lender 4 1 1"
 
 -- an event without a page
-abbrev bare : Event → Input
-bare e = record { event = e; page = [] }
+abbrev bare_event : Event → Input
+bare_event e = record { event = e; page = [] }
 
 abbrev pub ScriptRows : Type 0
 ScriptRows =
@@ -84,8 +84,8 @@ take = event.Take (record { 0 = 0 })
 abbrev page_out : Event
 page_out = event.PageOut (record { 0 = 0 }) (record { 0 = 3 })
 
-abbrev written : Event
-written = event.Disk (which.Write (record { 0 = 3 })) true
+abbrev written_event : Event
+written_event = event.Disk (which.Write (record { 0 = 3 })) true
 
 abbrev page_in : Event
 page_in = event.PageIn (record { 0 = 0 }) (record { 0 = 3 })
@@ -124,8 +124,9 @@ abbrev pub LenderRows : Type 0
 LenderRows =
     Lends (text (G ∷ L ∷ [])) []
     × Lends (text page_in_from_a_lender_script)
-    (map bare (connect ∷ map_slab ∷ give ∷ give ∷ take ∷ []) ++ record { event = page_out; page = replicate 8 170 }
-    ∷ map bare (give ∷ take ∷ event.Start ∷ written ∷ page_in ∷ give ∷ take ∷ finish ∷ []))
+    (map bare_event (connect ∷ map_slab ∷ give ∷ give ∷ take ∷ [])
+    ++ record { event = page_out; page = replicate 8 170 }
+    ∷ map bare_event (give ∷ take ∷ event.Start ∷ written_event ∷ page_in ∷ give ∷ take ∷ finish ∷ []))
 
 -- with two lenders: links are made any number of times, cut, and ended by a crash
 abbrev two_specs : List LenderSpec
@@ -147,7 +148,7 @@ link_events =
 abbrev pub LinkEventRows : Type 0
 LinkEventRows =
     script (text two_lenders_script)
-    ≡ Ok (record { sizes = small_sizes; lenders = two_specs; inputs = map bare link_events })
+    ≡ Ok (record { sizes = small_sizes; lenders = two_specs; inputs = map bare_event link_events })
 
 abbrev pub FaultRows : Type 0
 FaultRows =
@@ -185,7 +186,7 @@ LenderFaultRows =
 
 -- forms of an operator's events, and those of a number that is too wide
 abbrev IsForm : List ℕ → Event → Type 0
-IsForm bytes e = event_line (words_of bytes) ≡ plain e
+IsForm bytes e = event_line (words_of bytes) ≡ line_of_plain e
 
 abbrev IsNoForm : List ℕ → Type 0
 IsNoForm bytes = event_line (words_of bytes) ≡ None
@@ -211,11 +212,11 @@ two_callers =
     ∷ codes "round 9" ∷ []
 
 abbrev calls_of_0 : List Input
-calls_of_0 = record { event = page_out; page = replicate 8 170 } ∷ bare page_in ∷ []
+calls_of_0 = record { event = page_out; page = replicate 8 170 } ∷ bare_event page_in ∷ []
 
 abbrev operators : List Input
 operators =
-    map bare (event.Connect (record { 0 = 1 }) ∷ event.Map (record { 0 = 0 }) (record { 0 = 1 })
+    map bare_event (event.Connect (record { 0 = 1 }) ∷ event.Map (record { 0 = 0 }) (record { 0 = 1 })
     ∷ event.Cut (record { 0 = 1 }) 2 3 ∷ event.Crash (record { 0 = 0 }) ∷ event.Connect (record { 0 = 1 })
     ∷ event.Host (record { 0 = 1 }) 7 4_294_967_296 ∷ event.Round 9 ∷ [])
 
@@ -225,7 +226,7 @@ part_is p inputs = (reading (grammar.Trace None) (text two_callers) >>= λ s. Ok
 abbrev pub TraceRows : Type 0
 TraceRows =
     part_is (part.CallsOf (record { 0 = 0 })) calls_of_0
-    × part_is (part.CallsOf (record { 0 = 1 })) (bare (event.PageIn (record { 0 = 1 }) (record { 0 = 3 })) ∷ [])
+    × part_is (part.CallsOf (record { 0 = 1 })) (bare_event (event.PageIn (record { 0 = 1 }) (record { 0 = 3 })) ∷ [])
     × part_is part.Operator operators
 
 abbrev TraceRefuses : Option ℕ → List ℕ → ℕ → Why → Type 0
@@ -249,20 +250,20 @@ TraceFaultRows =
     × TraceRefuses (Some 1) (text (G ∷ L ∷ codes "cut 1 0 0" ∷ [])) 3 why.Lender
 
 abbrev one_page_out : History
-one_page_out = pushed [] (record { 0 = 0 }) (record { 0 = 3 }) op.PageOut (replicate 8 170)
+one_page_out = with_row [] (record { 0 = 0 }) (record { 0 = 3 }) op.PageOut (replicate 8 170)
 
 abbrev pub PrintedRows : Type 0
 PrintedRows =
-    (header small_sizes ≡ ended G)
+    (header small_sizes ≡ with_line_end G)
     × (line one_page_out (event.PageOut (record { 0 = 0 }) (record { 0 = 3 }), seen.Done (record { 0 = 0 }) None)
-    ≡ ended (codes "out 0 3 = entry 0 out 3 aa"))
+    ≡ with_line_end (codes "out 0 3 = entry 0 out 3 aa"))
     × (line [] (event.PageIn (record { 0 = 0 }) (record { 0 = 3 }), seen.Wait via.Disk)
-    ≡ ended (codes "in 0 3 = wait disk"))
+    ≡ with_line_end (codes "in 0 3 = wait disk"))
     × (line [] (event.Disk (which.Write (record { 0 = 3 })) false, seen.WriteKept (record { 0 = 12 }))
-    ≡ ended (codes "disk write 3 bad = kept 12"))
-    × (line [] (event.Start, seen.Nothing) ≡ ended (codes "start = -"))
-    × (end_line 2 ≡ ended (codes "end 2"))
-    × (refusal (record { line = 3; why = why.Page }) ≡ ended (codes "line 3: page"))
+    ≡ with_line_end (codes "disk write 3 bad = kept 12"))
+    × (line [] (event.Start, seen.Nothing) ≡ with_line_end (codes "start = -"))
+    × (end_line 2 ≡ with_line_end (codes "end 2"))
+    × (refusal (record { line = 3; why = why.Page }) ≡ with_line_end (codes "line 3: page"))
 
 -- what was seen of the page-in that a lender answers: lease 0 and place 3
 abbrev seen_of_a_lender : List (Event × Seen)
@@ -276,7 +277,7 @@ seen_of_a_lender =
     ∷ (give, seen.Gave (msg.Write (record { 0 = 0 }) 3) (Some (msg.Wrote (record { 0 = 0 }) 3)) 0)
     ∷ (take, seen.Took (msg.Wrote (record { 0 = 0 }) 3))
     ∷ (event.Start, seen.Started (record { 0 = 3 }) (record { 0 = 0 }))
-    ∷ (written, seen.Written (record { 0 = 0 }))
+    ∷ (written_event, seen.Written (record { 0 = 0 }))
     ∷ (page_in, seen.Wait (via.Lender (record { 0 = 0 })))
     ∷ (give, seen.Gave (msg.Read (record { 0 = 0 }) 3) (Some (msg.PageIs (record { 0 = 0 }) 3)) 0)
     ∷ (take, seen.Took (msg.PageIs (record { 0 = 0 }) 3))
@@ -285,15 +286,16 @@ seen_of_a_lender =
 
 abbrev two_entries : History
 two_entries =
-    pushed one_page_out (record { 0 = 0 }) (record { 0 = 3 })
+    with_row one_page_out (record { 0 = 0 }) (record { 0 = 3 })
     (op.PageIn (Some (record { 0 = 0 })) (origin.Lender (record { 0 = 0 }))) (replicate 8 170)
 
 abbrev pub LinkRows : Type 0
 LinkRows =
-    (lender_header one_spec ≡ ended L)
+    (lender_header one_spec ≡ with_line_end L)
     × (transcript small_sizes (one_spec ∷ []) seen_of_a_lender two_entries ≡ text page_in_from_a_lender_transcript)
-    × (line [] (give, seen.Gave (msg.Rates (record { 0 = 0 }) 0) None 5) ≡ ended (codes "give 0 = rates 0 0 evict 0 2"))
-    × (line [] (give, seen.GaveEnded (msg.Done (record { 0 = 7 }))) ≡ ended (codes "give 0 = done 7 ended"))
-    × (line [] (give, seen.GaveEnd) ≡ ended (codes "give 0 = end"))
-    × (line [] (take, seen.Lost) ≡ ended (codes "take 0 = lost"))
-    × (line [] (take, seen.Lied) ≡ ended (codes "take 0 = lied"))
+    × (line [] (give, seen.Gave (msg.Rates (record { 0 = 0 }) 0) None 5)
+    ≡ with_line_end (codes "give 0 = rates 0 0 evict 0 2"))
+    × (line [] (give, seen.GaveEnded (msg.Done (record { 0 = 7 }))) ≡ with_line_end (codes "give 0 = done 7 ended"))
+    × (line [] (give, seen.GaveEnd) ≡ with_line_end (codes "give 0 = end"))
+    × (line [] (take, seen.Lost) ≡ with_line_end (codes "take 0 = lost"))
+    × (line [] (take, seen.Lied) ≡ with_line_end (codes "take 0 = lied"))

@@ -11,8 +11,8 @@ use Rattle.swap_script.specs.declared.Part.{Part}
 use Rattle.swap_script.specs.Forms.{Line, caller_word}
 use Rattle.swap_script.specs.Reading.{Above, is_in}
 
-abbrev pub spelled : CodeLine → Line
-spelled line = record { event = line.event; hex = line.hex.now }
+abbrev pub spelled_line : CodeLine → Line
+spelled_line line = record { event = line.event; hex = line.hex.now }
 
 -- a geometry that was checked
 abbrev pub as_within : Result Sizes FieldRefused → Result Sizes Field

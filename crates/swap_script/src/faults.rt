@@ -4,7 +4,7 @@ ghost use Rattle.std.specs.List.{list_any};
 ghost use Rattle.swap_base.specs.Sizes.{first_beyond};
 ghost use Rattle.swap_io.specs.Words.{pattern, piece_of, lengths};
 ghost use Rattle.swap_script.specs.Reading.{caller_of, page_of, mapped_slab, lender_of, is_out, is_far, calls_in, are_addressed, is_within_reach, has_caller, has_page, has_slab, has_lender, tests};
-ghost use Rattle.swap_script.specs.Spelled.{spelled, above_of};
+ghost use Rattle.swap_script.specs.Spelled.{spelled_line, above_of};
 
 use super::forms::Line;
 use super::{CALL_BYTES, EVENT_LIMIT, Grammar, Why};
@@ -181,7 +181,7 @@ pub fn fault_of(
     requires within { above.events ≤ EVENT_LIMIT }
     requires hex { is_out line.event ≡ true → is_some (piece_of line.hex.now) ≡ true }
     ensures { result
-        ≡ first_beyond (tests grammar geometry.now lenders (above_of above) (spelled line.entry)) }
+        ≡ first_beyond (tests grammar geometry.now lenders (above_of above) (spelled_line line.entry)) }
 {
     if !are_addressed(grammar, lenders) {
         return Some(Why::Lenders);

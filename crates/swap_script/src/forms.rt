@@ -3,9 +3,9 @@ ghost use Rattle.std.specs.Prelude.{◌≡◌, true, false, IfSome, is_some};
 ghost use Rattle.std.specs.Option.{option_map};
 ghost use Rattle.swap_io.specs.Words.{piece_of};
 ghost use Rattle.swap_script.specs.Lines.{words_of, is_word};
-ghost use Rattle.swap_script.specs.Forms.{small, caller_word, page_word, slab_word, lender_word, ok_word, which_words, page_out, page_in, out_line, in_line, finish_line, start_line, disk_line, map_line, connect_line, give_line, take_line, crash_line, cut_line, host_line, tick_line, round_line, by_row, operator_rows, call_line, event_line, trace_line, line_of, sizes_words};
-ghost use Rattle.swap_script.specs.Reading.{geometry_line, within, is_out};
-ghost use Rattle.swap_script.specs.Spelled.{spelled, as_within, first_caller, is_caller};
+ghost use Rattle.swap_script.specs.Forms.{small_number, caller_word, page_word, slab_word, lender_word, ok_word, which_words, page_out, page_in, out_line, in_line, finish_line, start_line, disk_line, map_line, connect_line, give_line, take_line, crash_line, cut_line, host_line, tick_line, round_line, by_row, operator_rows, call_line, event_line, trace_line, line_of, sizes_words};
+ghost use Rattle.swap_script.specs.Reading.{geometry_line, within_limits, is_out};
+ghost use Rattle.swap_script.specs.Spelled.{spelled_line, as_within, first_caller, is_caller};
 
 use super::text::Words;
 use super::{Grammar, Why};
@@ -28,7 +28,7 @@ pub fn is_word(word: &[u8], name: &[u8]) -> bool
 
 /// A number below 2^32.
 pub fn small(word: &[u8]) -> Option<u32>
-    ensures { result ≡ small word.now }
+    ensures { result ≡ small_number word.now }
 {
     let n = number(word)?;
     u32::try_from(n).ok()
@@ -79,7 +79,7 @@ fn which_words(what: &[u8], n: &[u8]) -> Option<DiskWhich>
 }
 
 fn page_out<'t>(caller: Caller, p: &'t [u8], hex: &'t [u8]) -> Option<Line<'t>>
-    ensures line { option_map spelled result ≡ page_out caller p.now hex.now }
+    ensures line { option_map spelled_line result ≡ page_out caller p.now hex.now }
     ensures hex { IfSome result (λ line. is_some (piece_of line.hex.now) ≡ true) }
 {
     let page = page_word(p)?;
@@ -91,7 +91,7 @@ fn page_out<'t>(caller: Caller, p: &'t [u8], hex: &'t [u8]) -> Option<Line<'t>>
 }
 
 fn page_in<'t>(caller: Caller, p: &'t [u8]) -> Option<Line<'t>>
-    ensures line { option_map spelled result ≡ page_in caller p.now }
+    ensures line { option_map spelled_line result ≡ page_in caller p.now }
     ensures plain { IfSome result (λ line. is_out line.event ≡ false) }
 {
     let page = page_word(p)?;
@@ -100,7 +100,7 @@ fn page_in<'t>(caller: Caller, p: &'t [u8]) -> Option<Line<'t>>
 }
 
 fn out_line<'t>(words: Words<'t>) -> Option<Line<'t>>
-    ensures line { option_map spelled result ≡ out_line words.entry }
+    ensures line { option_map spelled_line result ≡ out_line words.entry }
     ensures hex { IfSome result (λ line. is_some (piece_of line.hex.now) ≡ true) }
 {
     let (c, p, hex) = words.three()?;
@@ -108,7 +108,7 @@ fn out_line<'t>(words: Words<'t>) -> Option<Line<'t>>
 }
 
 fn in_line<'t>(words: Words<'t>) -> Option<Line<'t>>
-    ensures line { option_map spelled result ≡ in_line words.entry }
+    ensures line { option_map spelled_line result ≡ in_line words.entry }
     ensures plain { IfSome result (λ line. is_out line.event ≡ false) }
 {
     let (c, p) = words.two()?;
@@ -116,7 +116,7 @@ fn in_line<'t>(words: Words<'t>) -> Option<Line<'t>>
 }
 
 fn finish_line<'t>(words: Words<'t>) -> Option<Line<'t>>
-    ensures line { option_map spelled result ≡ finish_line words.entry }
+    ensures line { option_map spelled_line result ≡ finish_line words.entry }
     ensures plain { IfSome result (λ line. is_out line.event ≡ false) }
 {
     let caller = caller_word(words.one()?)?;
@@ -125,7 +125,7 @@ fn finish_line<'t>(words: Words<'t>) -> Option<Line<'t>>
 }
 
 fn start_line<'t>(words: Words<'t>) -> Option<Line<'t>>
-    ensures line { option_map spelled result ≡ start_line words.entry }
+    ensures line { option_map spelled_line result ≡ start_line words.entry }
     ensures plain { IfSome result (λ line. is_out line.event ≡ false) }
 {
     words.none()?;
@@ -136,7 +136,7 @@ fn start_line<'t>(words: Words<'t>) -> Option<Line<'t>>
 }
 
 fn disk_line<'t>(words: Words<'t>) -> Option<Line<'t>>
-    ensures line { option_map spelled result ≡ disk_line words.entry }
+    ensures line { option_map spelled_line result ≡ disk_line words.entry }
     ensures plain { IfSome result (λ line. is_out line.event ≡ false) }
 {
     let (what, n, how) = words.three()?;
@@ -147,7 +147,7 @@ fn disk_line<'t>(words: Words<'t>) -> Option<Line<'t>>
 }
 
 fn map_line<'t>(words: Words<'t>) -> Option<Line<'t>>
-    ensures line { option_map spelled result ≡ map_line words.entry }
+    ensures line { option_map spelled_line result ≡ map_line words.entry }
     ensures plain { IfSome result (λ line. is_out line.event ≡ false) }
 {
     let (s, l) = words.two()?;
@@ -158,7 +158,7 @@ fn map_line<'t>(words: Words<'t>) -> Option<Line<'t>>
 }
 
 fn connect_line<'t>(words: Words<'t>) -> Option<Line<'t>>
-    ensures line { option_map spelled result ≡ connect_line words.entry }
+    ensures line { option_map spelled_line result ≡ connect_line words.entry }
     ensures plain { IfSome result (λ line. is_out line.event ≡ false) }
 {
     let lender = lender_word(words.one()?)?;
@@ -167,7 +167,7 @@ fn connect_line<'t>(words: Words<'t>) -> Option<Line<'t>>
 }
 
 fn give_line<'t>(words: Words<'t>) -> Option<Line<'t>>
-    ensures line { option_map spelled result ≡ give_line words.entry }
+    ensures line { option_map spelled_line result ≡ give_line words.entry }
     ensures plain { IfSome result (λ line. is_out line.event ≡ false) }
 {
     let lender = lender_word(words.one()?)?;
@@ -176,7 +176,7 @@ fn give_line<'t>(words: Words<'t>) -> Option<Line<'t>>
 }
 
 fn take_line<'t>(words: Words<'t>) -> Option<Line<'t>>
-    ensures line { option_map spelled result ≡ take_line words.entry }
+    ensures line { option_map spelled_line result ≡ take_line words.entry }
     ensures plain { IfSome result (λ line. is_out line.event ≡ false) }
 {
     let lender = lender_word(words.one()?)?;
@@ -185,7 +185,7 @@ fn take_line<'t>(words: Words<'t>) -> Option<Line<'t>>
 }
 
 fn crash_line<'t>(words: Words<'t>) -> Option<Line<'t>>
-    ensures line { option_map spelled result ≡ crash_line words.entry }
+    ensures line { option_map spelled_line result ≡ crash_line words.entry }
     ensures plain { IfSome result (λ line. is_out line.event ≡ false) }
 {
     let lender = lender_word(words.one()?)?;
@@ -194,7 +194,7 @@ fn crash_line<'t>(words: Words<'t>) -> Option<Line<'t>>
 }
 
 fn cut_line<'t>(words: Words<'t>) -> Option<Line<'t>>
-    ensures line { option_map spelled result ≡ cut_line words.entry }
+    ensures line { option_map spelled_line result ≡ cut_line words.entry }
     ensures plain { IfSome result (λ line. is_out line.event ≡ false) }
 {
     let (l, a, b) = words.three()?;
@@ -210,7 +210,7 @@ fn cut_line<'t>(words: Words<'t>) -> Option<Line<'t>>
 }
 
 fn host_line<'t>(words: Words<'t>) -> Option<Line<'t>>
-    ensures line { option_map spelled result ≡ host_line words.entry }
+    ensures line { option_map spelled_line result ≡ host_line words.entry }
     ensures plain { IfSome result (λ line. is_out line.event ≡ false) }
 {
     let (l, u, w) = words.three()?;
@@ -222,7 +222,7 @@ fn host_line<'t>(words: Words<'t>) -> Option<Line<'t>>
 }
 
 fn tick_line<'t>(words: Words<'t>) -> Option<Line<'t>>
-    ensures line { option_map spelled result ≡ tick_line words.entry }
+    ensures line { option_map spelled_line result ≡ tick_line words.entry }
     ensures plain { IfSome result (λ line. is_out line.event ≡ false) }
 {
     let word = number(words.one()?)?;
@@ -231,7 +231,7 @@ fn tick_line<'t>(words: Words<'t>) -> Option<Line<'t>>
 }
 
 fn round_line<'t>(words: Words<'t>) -> Option<Line<'t>>
-    ensures line { option_map spelled result ≡ round_line words.entry }
+    ensures line { option_map spelled_line result ≡ round_line words.entry }
     ensures plain { IfSome result (λ line. is_out line.event ≡ false) }
 {
     let word = number(words.one()?)?;
@@ -241,7 +241,7 @@ fn round_line<'t>(words: Words<'t>) -> Option<Line<'t>>
 
 /// An operator's line, by its first word and the others.
 fn operator_line<'t>(first: &[u8], words: Words<'t>) -> Option<Line<'t>>
-    ensures line { option_map spelled result ≡ by_row operator_rows first.now words.entry }
+    ensures line { option_map spelled_line result ≡ by_row operator_rows first.now words.entry }
     ensures plain { IfSome result (λ line. is_out line.event ≡ false) }
 {
     if is_word(first, b"map") {
@@ -263,7 +263,7 @@ fn operator_line<'t>(first: &[u8], words: Words<'t>) -> Option<Line<'t>>
 
 /// A call of a trace, by the words behind its caller.
 fn call_line<'t>(caller: Caller, mut words: Words<'t>) -> Option<Line<'t>>
-    ensures line { option_map spelled result ≡ call_line caller words.entry }
+    ensures line { option_map spelled_line result ≡ call_line caller words.entry }
     ensures hex { IfSome result
         (λ line. is_out line.event ≡ true → is_some (piece_of line.hex.now) ≡ true) }
 {
@@ -280,7 +280,7 @@ fn call_line<'t>(caller: Caller, mut words: Words<'t>) -> Option<Line<'t>>
 
 /// The event of a script's line, if the line has the form of one.
 fn event_line<'t>(line: &'t [u8]) -> Option<Line<'t>>
-    ensures line { option_map spelled result ≡ event_line (words_of line.now) }
+    ensures line { option_map spelled_line result ≡ event_line (words_of line.now) }
     ensures hex { IfSome result
         (λ line. is_out line.event ≡ true → is_some (piece_of line.hex.now) ≡ true) }
 {
@@ -309,7 +309,7 @@ fn event_line<'t>(line: &'t [u8]) -> Option<Line<'t>>
 
 /// The event of a trace's line, if the line has the form of one.
 fn trace_line<'t>(line: &'t [u8]) -> Option<Line<'t>>
-    ensures line { option_map spelled result ≡ trace_line (words_of line.now) }
+    ensures line { option_map spelled_line result ≡ trace_line (words_of line.now) }
     ensures hex { IfSome result
         (λ line. is_out line.event ≡ true → is_some (piece_of line.hex.now) ≡ true) }
 {
@@ -323,7 +323,7 @@ fn trace_line<'t>(line: &'t [u8]) -> Option<Line<'t>>
 
 /// The event of a line, if the line has the form of one.
 pub fn line_of<'t>(grammar: Grammar, line: &'t [u8]) -> Option<Line<'t>>
-    ensures line { option_map spelled result ≡ line_of grammar (words_of line.now) }
+    ensures line { option_map spelled_line result ≡ line_of grammar (words_of line.now) }
     ensures hex { IfSome result
         (λ line. is_out line.event ≡ true → is_some (piece_of line.hex.now) ≡ true) }
 {
@@ -356,7 +356,7 @@ pub fn begins_with(caller: Caller, line: &[u8]) -> bool
 /// The sizes that a geometry line gives behind its first word, or the first that is beyond its
 /// limit.
 fn sizes_words(words: Words<'_>) -> Option<Result<Geometry, FieldRefused>>
-    ensures { option_map as_within result ≡ option_map within (sizes_words words.entry) }
+    ensures { option_map as_within result ≡ option_map within_limits (sizes_words words.entry) }
 {
     let (a, b, c, d, e, f, g) = words.seven()?;
     let page_bytes = small(a)?;

@@ -1,7 +1,7 @@
 //! What a run prints: words, parted by spaces, in a line.
 ghost use Rattle.std.specs.Prelude.{◌≡◌, ℕ, ◌+◌, ◌*◌, ◌<◌, ◌≤◌, [], ◌∷◌, ◌++◌, length, map, decimal, codes, if◌then◌else◌};
 ghost use Rattle.swap_choice.specs.Slots.{has, slots};
-ghost use Rattle.swap_script.specs.Lines.{led};
+ghost use Rattle.swap_script.specs.Lines.{words_behind};
 ghost use Rattle.swap_record.specs.Text.{entry_words};
 ghost use Rattle.swap_script.specs.Transcript.{header, lender_header, line, HasEntry, seen_words, sent_words, msg_name, msg_rest, msg_words, reply_words, slots_behind, evicted_words, second_words, gave_words, end_line, refusal, ok_or_bad, event_name, disk_words, event_rest, via_words, why_word, field_word};
 
@@ -33,7 +33,7 @@ fn number(out: &mut LineBuf, n: u64)
 
 fn two_numbers(out: &mut LineBuf, a: u64, b: u64)
     requires { length out.old + 42 ≤ 10_000 }
-    ensures text { out.new ≡ out.old ++ led (decimal a ∷ decimal b ∷ []) }
+    ensures text { out.new ≡ out.old ++ words_behind (decimal a ∷ decimal b ∷ []) }
     ensures length { length out.new ≤ length out.old + 42 }
 {
     number(out, a);
@@ -42,7 +42,7 @@ fn two_numbers(out: &mut LineBuf, a: u64, b: u64)
 
 fn three_numbers(out: &mut LineBuf, a: u64, b: u64, c: u64)
     requires { length out.old + 63 ≤ 10_000 }
-    ensures text { out.new ≡ out.old ++ led (decimal a ∷ decimal b ∷ decimal c ∷ []) }
+    ensures text { out.new ≡ out.old ++ words_behind (decimal a ∷ decimal b ∷ decimal c ∷ []) }
     ensures length { length out.new ≤ length out.old + 63 }
 {
     number(out, a);
@@ -174,7 +174,7 @@ fn ok_or_bad(ok: bool) -> &'static [u8]
 
 fn disk_words(which: DiskWhich, ok: bool, out: &mut LineBuf)
     requires { length out.old ≤ 100 }
-    ensures text { out.new ≡ out.old ++ led (disk_words which ok) }
+    ensures text { out.new ≡ out.old ++ words_behind (disk_words which ok) }
     ensures length { length out.new ≤ length out.old + 31 }
 {
     match which {
@@ -194,7 +194,7 @@ fn disk_words(which: DiskWhich, ok: bool, out: &mut LineBuf)
 /// Appends the words of an event behind its first.
 fn event_rest(event: &Event, out: &mut LineBuf)
     requires { length out.old ≤ 100 }
-    ensures text { out.new ≡ out.old ++ led (event_rest event.now) }
+    ensures text { out.new ≡ out.old ++ words_behind (event_rest event.now) }
     ensures length { length out.new ≤ length out.old + 63 }
 {
     match *event {
@@ -230,7 +230,7 @@ fn event_rest(event: &Event, out: &mut LineBuf)
 fn entry_words(history: &Record, entry: EntryNo, out: &mut LineBuf)
     requires entry { entry.0 < length history.now.history }
     requires room { length out.old ≤ 1_000 }
-    ensures text { out.new ≡ out.old ++ led (entry_words history.now.history entry) }
+    ensures text { out.new ≡ out.old ++ words_behind (entry_words history.now.history entry) }
     ensures length { length out.new ≤ length out.old + 8_401 }
 {
     out.text(b" ");
@@ -239,7 +239,7 @@ fn entry_words(history: &Record, entry: EntryNo, out: &mut LineBuf)
 
 fn via_words(via: Via, out: &mut LineBuf)
     requires { length out.old ≤ 9_900 }
-    ensures text { out.new ≡ out.old ++ led (via_words via) }
+    ensures text { out.new ≡ out.old ++ words_behind (via_words via) }
     ensures length { length out.new ≤ length out.old + 28 }
 {
     match via {
@@ -253,7 +253,7 @@ fn via_words(via: Via, out: &mut LineBuf)
 
 fn sent_words(sent: Option<Lender>, out: &mut LineBuf)
     requires { length out.old ≤ 9_900 }
-    ensures text { out.new ≡ out.old ++ led (sent_words sent) }
+    ensures text { out.new ≡ out.old ++ words_behind (sent_words sent) }
     ensures length { length out.new ≤ length out.old + 24 }
 {
     if let Some(lender) = sent {
@@ -266,7 +266,7 @@ fn sent_words(sent: Option<Lender>, out: &mut LineBuf)
 fn named_number(out: &mut LineBuf, name: &[u8], n: u64)
     requires name { length name.now ≤ 7 }
     requires room { length out.old ≤ 1_000 }
-    ensures text { out.new ≡ out.old ++ led (name.now ∷ decimal n ∷ []) }
+    ensures text { out.new ≡ out.old ++ words_behind (name.now ∷ decimal n ∷ []) }
     ensures length { length out.new ≤ length out.old + 29 }
 {
     word(out, name);
@@ -298,7 +298,7 @@ fn msg_name(msg: &Msg) -> &'static [u8]
 /// Appends the numbers of a message.
 fn msg_rest(msg: &Msg, out: &mut LineBuf)
     requires { length out.old ≤ 1_000 }
-    ensures text { out.new ≡ out.old ++ led (msg_rest msg.now) }
+    ensures text { out.new ≡ out.old ++ words_behind (msg_rest msg.now) }
     ensures length { length out.new ≤ length out.old + 42 }
 {
     match *msg {
@@ -321,7 +321,7 @@ fn msg_rest(msg: &Msg, out: &mut LineBuf)
 
 fn msg_words(msg: &Msg, out: &mut LineBuf)
     requires { length out.old ≤ 900 }
-    ensures text { out.new ≡ out.old ++ led (msg_words msg.now) }
+    ensures text { out.new ≡ out.old ++ words_behind (msg_words msg.now) }
     ensures length { length out.new ≤ length out.old + 50 }
 {
     word(out, msg_name(msg));
@@ -330,7 +330,7 @@ fn msg_words(msg: &Msg, out: &mut LineBuf)
 
 fn reply_words(reply: &Option<Msg>, out: &mut LineBuf)
     requires { length out.old ≤ 800 }
-    ensures text { out.new ≡ out.old ++ led (reply_words reply.now) }
+    ensures text { out.new ≡ out.old ++ words_behind (reply_words reply.now) }
     ensures length { length out.new ≤ length out.old + 52 }
 {
     if let Some(msg) = reply {
@@ -342,7 +342,7 @@ fn reply_words(reply: &Option<Msg>, out: &mut LineBuf)
 /// Appends a slot, if a set has it.
 fn slot_word(set: u64, slot: u32, out: &mut LineBuf)
     requires { length out.old ≤ 9_000 }
-    ensures text { out.new ≡ out.old ++ led (if has set slot then decimal slot ∷ [] else []) }
+    ensures text { out.new ≡ out.old ++ words_behind (if has set slot then decimal slot ∷ [] else []) }
     ensures length { length out.new ≤ length out.old + 21 }
 {
     if has_slot(set, slot) {
@@ -353,7 +353,7 @@ fn slot_word(set: u64, slot: u32, out: &mut LineBuf)
 /// Appends the slots of a set, ascending.
 fn slot_words(set: u64, out: &mut LineBuf)
     requires { length out.old ≤ 2_000 }
-    ensures text { out.new ≡ out.old ++ led (map decimal (slots set)) }
+    ensures text { out.new ≡ out.old ++ words_behind (map decimal (slots set)) }
     ensures length { length out.new ≤ length out.old + 1_344 }
 {
     for slot in 0..SLOTS {
@@ -365,7 +365,7 @@ fn slot_words(set: u64, out: &mut LineBuf)
 fn slots_behind(name: &[u8], set: u64, out: &mut LineBuf)
     requires name { length name.now ≤ 5 }
     requires room { length out.old ≤ 1_500 }
-    ensures text { out.new ≡ out.old ++ led (slots_behind name.now set) }
+    ensures text { out.new ≡ out.old ++ words_behind (slots_behind name.now set) }
     ensures length { length out.new ≤ length out.old + 1_350 }
 {
     if set != 0 {
@@ -376,7 +376,7 @@ fn slots_behind(name: &[u8], set: u64, out: &mut LineBuf)
 
 fn evicted_words(set: u64, out: &mut LineBuf)
     requires { length out.old ≤ 1_500 }
-    ensures text { out.new ≡ out.old ++ led (evicted_words set) }
+    ensures text { out.new ≡ out.old ++ words_behind (evicted_words set) }
     ensures length { length out.new ≤ length out.old + 1_350 }
 {
     slots_behind(b"evict", set, out);
@@ -386,7 +386,7 @@ fn evicted_words(set: u64, out: &mut LineBuf)
 fn asked_words(slab: Slab, first: Lender, second: Option<Lender>, out: &mut LineBuf)
     requires { length out.old ≤ 1_000 }
     ensures text { out.new ≡ out.old
-        ++ led (codes "ask" ∷ decimal slab.0 ∷ decimal first.0 ∷ second_words second) }
+        ++ words_behind (codes "ask" ∷ decimal slab.0 ∷ decimal first.0 ∷ second_words second) }
     ensures length { length out.new ≤ length out.old + 80 }
 {
     word(out, b"ask");
@@ -400,7 +400,7 @@ fn asked_words(slab: Slab, first: Lender, second: Option<Lender>, out: &mut Line
 /// that were told to go.
 fn gave_words(taken: &Msg, reply: &Option<Msg>, evicted: u64, out: &mut LineBuf)
     requires { length out.old ≤ 700 }
-    ensures text { out.new ≡ out.old ++ led (gave_words taken.now reply.now evicted) }
+    ensures text { out.new ≡ out.old ++ words_behind (gave_words taken.now reply.now evicted) }
     ensures length { length out.new ≤ length out.old + 1_452 }
 {
     msg_words(taken, out);
@@ -412,7 +412,7 @@ fn gave_words(taken: &Msg, reply: &Option<Msg>, evicted: u64, out: &mut LineBuf)
 fn seen_words(seen: &Seen, history: &Record, out: &mut LineBuf)
     requires entry { HasEntry history.now.history seen.now }
     requires room { length out.old ≤ 500 }
-    ensures text { out.new ≡ out.old ++ led (seen_words history.now.history seen.now) }
+    ensures text { out.new ≡ out.old ++ words_behind (seen_words history.now.history seen.now) }
     ensures length { length out.new ≤ length out.old + 8_425 }
 {
     match *seen {

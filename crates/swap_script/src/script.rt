@@ -4,8 +4,8 @@ ghost use Rattle.std.specs.Option.{option_map};
 ghost use Rattle.swap_wire.specs.Input.{IsInRange};
 ghost use Rattle.swap_script.specs.Lines.{words_of};
 ghost use Rattle.swap_script.specs.Forms.{line_of};
-ghost use Rattle.swap_script.specs.Spelled.{spelled, line_in};
-ghost use Rattle.swap_script.specs.Reading.{script, reading, front_from, text_events, end_of, first_fault, nothing_above, inputs_of, input_of, calls_of, lent_bytes, is_in, is_call_of, is_operators, script_part, IsWithinLimits, MayLend, Reads, first_event, page_after, later};
+ghost use Rattle.swap_script.specs.Spelled.{spelled_line, line_in};
+ghost use Rattle.swap_script.specs.Reading.{script, reading, front_from, text_events, end_of, first_fault, nothing_above, inputs_of, input_of, calls_of, lent_bytes, is_in, is_call_of, is_operators, script_part, IsWithinLimits, MayLend, Reads, first_event, page_after, without_first};
 
 use super::faults::{Counts, are_addressed, fault_of, is_out};
 use super::forms::{Line, begins_with, geometry_line, is_call, line_of};
@@ -83,7 +83,7 @@ fn is_elsewhere(grammar: Grammar, part: Part, line: &[u8]) -> bool
 
 /// The event of a line, if the line has the form of one and its event is in a part.
 fn line_in<'t>(grammar: Grammar, part: Part, line: &'t [u8]) -> Option<Line<'t>>
-    ensures line { option_map spelled result ≡ line_in part (line_of grammar (words_of line.now)) }
+    ensures line { option_map spelled_line result ≡ line_in part (line_of grammar (words_of line.now)) }
 {
     if is_elsewhere(grammar, part, line) {
         return None;
@@ -102,9 +102,9 @@ impl<'t> Walk<'t> {
         ensures sizes { self.new.sizes ≡ self.old.sizes }
         ensures lenders { self.new.lenders ≡ self.old.lenders }
         ensures next { MatchOption result ((self.old.inputs ≡ []) × (self.new.inputs ≡ []))
-            (λ line. self.old.inputs ≡ input_of self.old.sizes (spelled line) ∷ self.new.inputs) }
+            (λ line. self.old.inputs ≡ input_of self.old.sizes (spelled_line line) ∷ self.new.inputs) }
         ensures reads { IfSome result
-            (λ line. Reads self.old.sizes (length self.old.lenders) (Some (spelled line))) }
+            (λ line. Reads self.old.sizes (length self.old.lenders) (Some (spelled_line line))) }
     {
         'looking: while let Some(kept) = self.place.next() {
             if let Some(line) = line_in(self.grammar, self.part, kept.text) {
@@ -119,7 +119,7 @@ impl<'t> Walk<'t> {
     pub fn next(&mut self, page: &mut [u8]) -> Option<Event>
         requires { length page.old ≡ self.old.sizes.page_bytes }
         ensures event { result ≡ first_event self.old.inputs }
-        ensures left { self.new ≡ later self.old }
+        ensures left { self.new ≡ without_first self.old }
         ensures page { page.new ≡ page_after self.old.inputs page.old }
         ensures in_range { IfSome result (IsInRange self.old.sizes (length self.old.lenders)) }
     {

@@ -10,7 +10,7 @@ use Rattle.swap_wire.specs.declared.side.Side.{Side}
 use Rattle.swap_wire.specs.declared.side.Side.TheVariants.{Device}
 use Rattle.swap_wire.specs.declared.decoder.Next.TheVariants as next
 use Rattle.swap_wire.specs.Frames.{frame, IsFrame, IsPartial, IsHopeless}
-use Rattle.swap_wire.specs.Decoding.{Decoding, room, taken, fed, answered, stopping, Gives, Waits, Fails}
+use Rattle.swap_wire.specs.Decoding.{DecoderView, room, bytes_taken, feed_after, answered_after, count_up, Gives, Waits, Fails}
 use Rattle.swap_wire.specs.Streams.{frames_of, Splits}
 use Rattle.swap_sock.specs.declared.host.LinkEnd.{LinkEnd}
 use Rattle.swap_sock.specs.declared.host.LinkEnd.TheVariants as end
@@ -20,7 +20,7 @@ use Rattle.swap_serve.specs.Hearing.{Hearing, IsBegun, IsHearing, IsHeard, GoesO
 use Rattle.swap_serve.specs.Steps.{Hears, Fills, RunsDry, Reads}
 use Rattle.swap_serve.proofs.Frames.{sent_last, frames_last, hopeless_more}
 
-again : (n f : ℕ) → stopping (stopping n + f) ≡ stopping (n + f)
+again : (n f : ℕ) → count_up (count_up n + f) ≡ count_up (n + f)
 again n f = omega arith
 
 -- bytes that were read, and then more
@@ -40,18 +40,18 @@ read_none None b p = tt
 read_none (Some x) None p = absurd p
 read_none (Some x) (Some y) p = sym p
 
-fed_alive : (d : Decoding) (bytes : List ℕ) → d.bad ≡ false → fed d bytes ≡ record d { rest = d.rest ++ take (room d) bytes }
+fed_alive : (d : DecoderView) (bytes : List ℕ) → d.bad ≡ false → feed_after d bytes ≡ record d { rest = d.rest ++ take (room d) bytes }
 fed_alive d bytes e = cond-false d.bad d (record d { rest = d.rest ++ take (room d) bytes }) e
 
 -- what is fed is kept, and the rest is still ahead
-fed_goes : (d : Decoding) (bytes : List ℕ) → d.bad ≡ false → (d.rest ++ bytes) ++ [] ≡ (fed d bytes).rest ++ drop (taken d bytes) bytes
+fed_goes : (d : DecoderView) (bytes : List ℕ) → d.bad ≡ false → (d.rest ++ bytes) ++ [] ≡ (feed_after d bytes).rest ++ drop (bytes_taken d bytes) bytes
 fed_goes d bytes alive =
     let n = min (room d) (length bytes) in
-    let n_is : taken d bytes ≡ n = cond-false d.bad (length bytes) (min (length bytes) (room d)) alive ∙ omega arith in
+    let n_is : bytes_taken d bytes ≡ n = cond-false d.bad (length bytes) (min (length bytes) (room d)) alive ∙ omega arith in
     append-nil (d.rest ++ bytes) ∙ ap (λ (x : List ℕ). d.rest ++ x) (sym (take-append-drop n bytes)) ∙ sym (append_assoc d.rest (take n bytes) (drop n bytes))
     ∙ ap (λ (x : List ℕ). (d.rest ++ x) ++ drop n bytes) (take_min (room d) bytes)
-    ∙ ap (λ (x : Decoding). x.rest ++ drop n bytes) (sym (fed_alive d bytes alive))
-    ∙ ap (λ (i : ℕ). (fed d bytes).rest ++ drop i bytes) (sym n_is)
+    ∙ ap (λ (x : DecoderView). x.rest ++ drop n bytes) (sym (fed_alive d bytes alive))
+    ∙ ap (λ (i : ℕ). (feed_after d bytes).rest ++ drop i bytes) (sym n_is)
 
 range_none : (xs : List ℕ) (at end : ℕ) → end ≤ at → slice_range xs at end ≡ []
 range_none xs at end le =
@@ -62,7 +62,7 @@ few_by true n m = omega arith
 few_by false n m = omega arith
 
 -- no more is taken of a range than it has
-pub within_range : (d : Decoding) (xs : List ℕ) (at end n : ℕ) → at < end → n ≡ taken d (slice_range xs at end) → at + n ≤ end
+pub within_range : (d : DecoderView) (xs : List ℕ) (at end n : ℕ) → at < end → n ≡ bytes_taken d (slice_range xs at end) → at + n ≤ end
 within_range d xs at end n lt e =
     omega (arith, e, lt, few_by d.bad (length (slice_range xs at end)) (room d), length-take (end - at) (drop at xs))
 
@@ -77,8 +77,8 @@ range_drop xs at end n le =
 module _ {S : Type 0} (left : S → Option (List ℕ)) (faults : S → ℕ) where
   -- bytes ahead are fed
   pub fills_fed :
-      (reader : S) (ear : Ear) (d e : Decoding) (xs : List ℕ) (at end n : ℕ) → Waits d → at + n ≤ end → n ≡ taken d (slice_range xs at end)
-      → e ≡ fed d (slice_range xs at end)
+      (reader : S) (ear : Ear) (d e : DecoderView) (xs : List ℕ) (at end n : ℕ) → Waits d → at + n ≤ end → n ≡ bytes_taken d (slice_range xs at end)
+      → e ≡ feed_after d (slice_range xs at end)
       → Fills left faults (record { reader = reader; decoder = d; ahead = slice_range xs at end; ear = ear })
       (record { reader = reader; decoder = e; ahead = slice_range xs (at + n) end; ear = ear })
   fills_fed reader ear d e xs at end n waits within n_is e_is =
@@ -89,17 +89,18 @@ module _ {S : Type 0} (left : S → Option (List ℕ)) (faults : S → ℕ) wher
         read = read_none (left reader) (left reader) (keeps_same (left reader));
         later = omega arith;
         goes =
-            fed_goes d bs waits.alive ∙ ap (λ (x : Decoding). x.rest ++ drop (taken d bs) bs) (sym e_is) ∙ ap (λ (i : ℕ). e.rest ++ drop i bs) (sym n_is)
+            fed_goes d bs waits.alive ∙ ap (λ (x : DecoderView). x.rest ++ drop (bytes_taken d bs) bs) (sym e_is)
+            ∙ ap (λ (i : ℕ). e.rest ++ drop i bs) (sym n_is)
             ∙ ap (λ (x : List ℕ). e.rest ++ x) (sym (range_drop xs at end n within));
-        before = ap (λ (x : Decoding). x.before) whole;
-        side = ap (λ (x : Decoding). x.side) whole;
-        pages = ap (λ (x : Decoding). x.page_bytes) whole;
+        before = ap (λ (x : DecoderView). x.before) whole;
+        side = ap (λ (x : DecoderView). x.side) whole;
+        pages = ap (λ (x : DecoderView). x.page_bytes) whole;
         ear = refl;
       }
 
   -- bytes were read where none were ahead
   pub fills_read :
-      (a b : S) (ear : Ear) (d : Decoding) (xs buf : List ℕ) (at end n : ℕ) → end ≤ at → WasRead (left a) (left b) (take n buf) → faults a ≤ faults b
+      (a b : S) (ear : Ear) (d : DecoderView) (xs buf : List ℕ) (at end n : ℕ) → end ≤ at → WasRead (left a) (left b) (take n buf) → faults a ≤ faults b
       → Fills left faults (record { reader = a; decoder = d; ahead = slice_range xs at end; ear = ear })
       (record { reader = b; decoder = d; ahead = slice_range buf 0 n; ear = ear })
   fills_read a b ear d xs buf at end n none read later = record {
@@ -133,16 +134,16 @@ module _ {S : Type 0} (left : S → Option (List ℕ)) (faults : S → ℕ) wher
       record { whole = whole; each = sent_last Device page_bytes gs m page h.splits.each is_frame }
 
   counts_more :
-      (gs : List (Msg × List ℕ)) (m : Msg) (page : List ℕ) (n k : ℕ) → n ≡ stopping (length gs) → k ≡ stopping (n + 1)
-      → k ≡ stopping (length (gs ++ (m, page) ∷ []))
+      (gs : List (Msg × List ℕ)) (m : Msg) (page : List ℕ) (n k : ℕ) → n ≡ count_up (length gs) → k ≡ count_up (n + 1)
+      → k ≡ count_up (length (gs ++ (m, page) ∷ []))
   counts_more gs m page n k e c = omega (arith, e, c, length-append gs ((m, page) ∷ []))
 
   places_more :
-      (gs : List (Msg × List ℕ)) (m : Msg) (page : List ℕ) (n : ℕ) → n ≡ stopping (length (frames_of gs))
-      → stopping (n + length (frame m page)) ≡ stopping (length (frames_of (gs ++ (m, page) ∷ [])))
+      (gs : List (Msg × List ℕ)) (m : Msg) (page : List ℕ) (n : ℕ) → n ≡ count_up (length (frames_of gs))
+      → count_up (n + length (frame m page)) ≡ count_up (length (frames_of (gs ++ (m, page) ∷ [])))
   places_more gs m page n e =
-      ap (λ (k : ℕ). stopping (k + length (frame m page))) e ∙ again (length (frames_of gs)) (length (frame m page))
-      ∙ ap stopping (sym (length-append (frames_of gs) (frame m page)) ∙ ap length (sym (frames_last gs m page)))
+      ap (λ (k : ℕ). count_up (k + length (frame m page))) e ∙ again (length (frames_of gs)) (length (frame m page))
+      ∙ ap count_up (sym (length-append (frames_of gs) (frame m page)) ∙ ap length (sym (frames_last gs m page)))
 
   some_last : (gs : List (Msg × List ℕ)) (m : Msg) (page : List ℕ) → 0 < length (gs ++ (m, page) ∷ [])
   some_last gs m page = omega (arith, length-append gs ((m, page) ∷ []))
@@ -194,7 +195,7 @@ module _ {S : Type 0} (left : S → Option (List ℕ)) (faults : S → ℕ) wher
         → IsHearing left faults page_bytes given link a gs → Gives a.decoder m page
         → Hears sink_faults m a.ear answer ear
         → GoesOn left faults sink_faults page_bytes given link answer
-        (record { reader = a.reader; decoder = answered a.decoder (next.Got m) page; ahead = a.ahead; ear = ear })
+        (record { reader = a.reader; decoder = answered_after a.decoder (next.Got m) page; ahead = a.ahead; ear = ear })
     delivered page_bytes given link a gs m page None ear h gives hears = (
       gs ++ (m, page) ∷ [],
       record {

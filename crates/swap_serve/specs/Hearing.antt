@@ -6,7 +6,7 @@ use Rattle.swap_io.specs.Causes.{Rose, WasRead}
 use Rattle.swap_wire.specs.declared.Msg.{Msg}
 use Rattle.swap_wire.specs.declared.side.Side.TheVariants.{Device}
 use Rattle.swap_wire.specs.Frames.{IsPartial, IsHopeless}
-use Rattle.swap_wire.specs.Decoding.{Decoding, fresh, stopping}
+use Rattle.swap_wire.specs.Decoding.{DecoderView, decoder_at_start, count_up}
 use Rattle.swap_wire.specs.Streams.{frames_of, Splits}
 use Rattle.swap_sock.specs.declared.host.LinkEnd.{LinkEnd}
 use Rattle.swap_sock.specs.declared.host.LinkEnd.TheVariants as end
@@ -16,17 +16,18 @@ use Rattle.swap_node.specs.declared.node.Ear.{Ear}
 -- its reader, what is decoded, the bytes that were read and not yet fed, and the ear
 pub record Hearing (S : Type 0) : Type 0 where
   pub reader : S
-  pub decoder : Decoding
+  pub decoder : DecoderView
   pub ahead : List ℕ
   pub ear : Ear
 
 -- nothing was read of it yet
-abbrev pub begun : {S : Type 0} → S → Decoding → Ear → Hearing S
-begun reader decoder ear = record { reader = reader; decoder = decoder; ahead = []; ear = ear }
+abbrev pub hearing_at_start : {S : Type 0} → S → DecoderView → Ear → Hearing S
+hearing_at_start reader decoder ear = record { reader = reader; decoder = decoder; ahead = []; ear = ear }
 
 abbrev pub IsBegun : {S : Type 0} → Hearing S → Type 0
 IsBegun h =
-    h ≡ begun h.reader (fresh Device h.decoder.page_bytes) (record { link = h.ear.link; count = 0; ended = false })
+    h ≡ hearing_at_start h.reader (decoder_at_start Device h.decoder.page_bytes)
+    (record { link = h.ear.link; count = 0; ended = false })
 
 -- the last of the messages is this one
 pub record IsLast (gs : List (Msg × List ℕ)) (m : Msg) : Type 0 where
@@ -51,10 +52,10 @@ module _ {S : Type 0} (left : S → Option (List ℕ)) (faults : S → ℕ) wher
     pub read : WasRead (left given) (left h.reader) bytes
     pub later : faults given ≤ faults h.reader
     pub splits : Splits Device page_bytes bytes gs (h.decoder.rest ++ h.ahead)
-    pub before : h.decoder.before ≡ stopping (length (frames_of gs))
+    pub before : h.decoder.before ≡ count_up (length (frames_of gs))
     pub side : h.decoder.side ≡ Device
     pub pages : h.decoder.page_bytes ≡ page_bytes
-    pub count : h.ear.count ≡ stopping (length gs)
+    pub count : h.ear.count ≡ count_up (length gs)
     pub ended : h.ear.ended ≡ false
     pub link_is : h.ear.link ≡ link
 
@@ -66,7 +67,7 @@ module _ {S : Type 0} (left : S → Option (List ℕ)) (faults : S → ℕ) wher
     MayEnd end.ReadFailed page_bytes given reader gs rest =
         Rose (faults given) (faults reader) × IsPartial Device page_bytes rest
     MayEnd (end.Bad at) page_bytes given reader gs rest =
-        IsHopeless Device page_bytes rest × (at ≡ stopping (length (frames_of gs)))
+        IsHopeless Device page_bytes rest × (at ≡ count_up (length (frames_of gs)))
     MayEnd (end.Down sink) page_bytes given reader gs rest = (0 < sink_faults sink) × (0 < length gs)
     MayEnd (end.Ended m) page_bytes given reader gs rest = IsLast gs m
 
@@ -80,7 +81,7 @@ module _ {S : Type 0} (left : S → Option (List ℕ)) (faults : S → ℕ) wher
       pub read : WasRead (left given) (left back.reader) bytes
       pub later : faults given ≤ faults back.reader
       pub splits : Splits Device page_bytes bytes messages rest
-      pub count : ear.count ≡ stopping (length messages)
+      pub count : ear.count ≡ count_up (length messages)
       pub ended : ear.ended ≡ is_ended back.end
       pub link_is : ear.link ≡ link
       pub end : MayEnd back.end page_bytes given back.reader messages rest

@@ -2,7 +2,7 @@
 use Rattle.std.specs.Prelude.{◌≡◌, ℕ, ◌<◌, ◌≤◌, Bool, false, List, [], ◌++◌, Option, None, Some}
 use Rattle.std.specs.Io.KnownBytes.{IsAtEnd}
 use Rattle.swap_io.specs.Causes.{Rose, WasRead}
-use Rattle.swap_io.specs.Memory.{raised}
+use Rattle.swap_io.specs.Memory.{raise}
 use Rattle.swap_wire.specs.declared.Msg.{Msg}
 use Rattle.swap_sock.specs.declared.host.LinkEnd.{LinkEnd}
 use Rattle.swap_sock.specs.declared.host.LinkEnd.TheVariants as end
@@ -27,7 +27,7 @@ pub record Hears {K : Type 0} (sink_faults : K → ℕ) (m : Msg) (before : Ear)
     (now : Ear) : Type 0 where
   pub answers : Answers sink_faults m answer
   pub link : now.link ≡ before.link
-  pub count : now.count ≡ raised before.count
+  pub count : now.count ≡ raise before.count
   pub ended : now.ended ≡ is_ended_by answer
 
 module _ {S : Type 0} (left : S → Option (List ℕ)) (faults : S → ℕ) where

@@ -1,8 +1,8 @@
 ghost use Rattle.std.specs.Prelude.{◌≡◌, ◌≤◌, ◌<◌, [], IfOk, true, false};
 ghost use Rattle.swap_wire.specs.declared.side.Side.TheVariants.{Device};
-ghost use Rattle.swap_wire.specs.Decoding.{fresh, Waits};
+ghost use Rattle.swap_wire.specs.Decoding.{decoder_at_start, Waits};
 ghost use Rattle.swap_sock.specs.Dealings.{left_by};
-ghost use Rattle.swap_serve.specs.Hearing.{Steps, begun, IsBegun, IsHeard};
+ghost use Rattle.swap_serve.specs.Hearing.{Steps, hearing_at_start, IsBegun, IsHeard};
 ghost use Rattle.swap_serve.specs.Steps.{Hears, Reads};
 
 use std::alloc::Global;
@@ -28,9 +28,9 @@ pub(crate) struct Buffers {
 
 impl Model for Buffers {
     ghost use Rattle.std.specs.Prelude.{◌≡◌, ◌<◌, ◌≤◌, length};
-    ghost use Rattle.swap_wire.specs.Decoding.{Decoding};
+    ghost use Rattle.swap_wire.specs.Decoding.{DecoderView};
 
-    ghost Value = { Decoding };
+    ghost Value = { DecoderView };
 
     ghost view = { λ b. b.decoder };
 
@@ -43,7 +43,7 @@ impl Buffers {
     pub(crate) fn make(alloc: Global, page_bytes: u32) -> Result<Buffers, NoMemory>
         requires least { 8 ≤ page_bytes }
         requires most { page_bytes ≤ 4096 }
-        ensures { IfOk result (λ b. b ≡ fresh Device page_bytes) }
+        ensures { IfOk result (λ b. b ≡ decoder_at_start Device page_bytes) }
     {
         let decoder = Decoder::make(alloc, Side::Device, page_bytes)?;
         let Ok(page) = vec![in alloc; 0; page_bytes as usize] else {
@@ -95,7 +95,7 @@ impl<S: Source + Drop> Model for Listener<S> {
 impl<S: Source + Drop> Listener<S> {
     /// Nothing was read of the link yet.
     pub(crate) fn new(reader: S, ear: Ear, buffers: Buffers) -> Listener<S>
-        ensures { result ≡ begun reader buffers ear }
+        ensures { result ≡ hearing_at_start reader buffers ear }
     {
         let Buffers {
             decoder,

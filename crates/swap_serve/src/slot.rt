@@ -1,7 +1,7 @@
 ghost use Rattle.std.specs.Prelude.{◌≡◌};
 ghost use Rattle.std.specs.Arc.{arc_value};
 ghost use Rattle.swap_wire.specs.declared.side.Side.TheVariants.{Device};
-ghost use Rattle.swap_wire.specs.Decoding.{fresh};
+ghost use Rattle.swap_wire.specs.Decoding.{decoder_at_start};
 ghost use Rattle.swap_sock.specs.Dealings.{left_by};
 ghost use Rattle.swap_serve.specs.Hearing.{IsBegun, IsHeard};
 

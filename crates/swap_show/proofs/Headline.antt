@@ -8,19 +8,19 @@ use Rattle.swap_base.specs.declared.geometry.LenderSpec.{LenderSpec}
 use Rattle.swap_wire.specs.declared.Event.{Event}
 use Rattle.swap_wire.specs.declared.Seen.{Seen}
 use Rattle.swap_slabs.specs.declared.TheConstants.{MOST_LENDERS}
-use Rattle.swap_disk.specs.Drive as drive
-use Rattle.swap_disk.specs.Drive.{Drive, new_drive, port_of}
+use Rattle.swap_disk.specs.MemDiskView as drive
+use Rattle.swap_disk.specs.MemDiskView.{MemDiskView, new_drive, port_of}
 use Rattle.swap_link.specs.Channel.{Channel}
 use Rattle.swap_link.specs.Harbor as harbor
 use Rattle.swap_link.specs.Harbor.{Harbor, new_channel, of_harbor}
 use Rattle.swap_joint.specs.Owned.{IsLent}
 use Rattle.swap_script.specs.Reading.{Script}
-use Rattle.swap_table.specs.Device.{Device, new}
+use Rattle.swap_table.specs.Device.{Device, device_at_start}
 use Rattle.swap_table.specs.Fits.{IsBlank}
 use Rattle.swap_trace.specs.Laws.{HaveLenders}
 use Rattle.swap_world.specs.Laws as world
 use Rattle.swap_world.specs.Laws.{Began}
-use Rattle.swap_world.specs.Runs.{WorldOf, IsRun, begin, made_of}
+use Rattle.swap_world.specs.Runs.{WorldView, IsRun, begin, made_of}
 use Rattle.swap_world.specs.World.{new_harbor}
 use Rattle.swap_world.proofs.Memory.{drive_meaning, harbor_meaning}
 use Rattle.swap_world.proofs.Runs.{all_faithful}
@@ -57,53 +57,53 @@ fresh s specs =
 
 module _ (laws : Laws) (t : Script) (few : length t.lenders ≤ MOST_LENDERS) where
   -- from the first world on these lines were left
-  abbrev Runs : List (Event × Seen) → Device → Drive → Harbor → Type 0
-  Runs log d k h = RunsTo drive.Moves harbor.Moves (new t.sizes (length t.lenders)) (new_drive t.sizes) (new_harbor t.sizes t.lenders) log d k h
+  abbrev Runs : List (Event × Seen) → Device → MemDiskView → Harbor → Type 0
+  Runs log d k h = RunsTo drive.Moves harbor.Moves (device_at_start t.sizes (length t.lenders)) (new_drive t.sizes) (new_harbor t.sizes t.lenders) log d k h
 
-  abbrev Acted : WorldOf Drive Harbor → List Act → Device → Drive → Harbor → Type 0
+  abbrev Acted : WorldView MemDiskView Harbor → List Act → Device → MemDiskView → Harbor → Type 0
   Acted from acts d k h = IsActed drive.Moves harbor.Moves from.core.device from.core.disk from.core.fabric acts d k h
 
   began : Began drive_meaning harbor_meaning t.sizes (length t.lenders) (new_drive t.sizes) (new_harbor t.sizes t.lenders)
   began = record { blank = blank t.sizes; is_of = is_of t.sizes t.lenders; few = few }
 
-  first_runs : (first : WorldOf Drive Harbor) → IsFirst t first → Runs [] first.core.device first.core.disk first.core.fabric
+  first_runs : (first : WorldView MemDiskView Harbor) → IsFirst t first → Runs [] first.core.device first.core.disk first.core.fabric
   first_runs first is =
       let P : Device → Type 0 = λ d. Runs [] d first.core.disk first.core.fabric in
-      let Q : Drive → Type 0 = λ k. Runs [] (new t.sizes (length t.lenders)) k first.core.fabric in
-      let R : Harbor → Type 0 = λ h. Runs [] (new t.sizes (length t.lenders)) (new_drive t.sizes) h in
+      let Q : MemDiskView → Type 0 = λ k. Runs [] (device_at_start t.sizes (length t.lenders)) k first.core.fabric in
+      let R : Harbor → Type 0 = λ h. Runs [] (device_at_start t.sizes (length t.lenders)) (new_drive t.sizes) h in
       subst P (sym is.device) (subst Q (sym is.disk) (subst R (sym is.fabric) (record { written = []; parts = tt; run = begin; logged = refl })))
 
   more_runs :
-      (from : WorldOf Drive Harbor) (log : List (Event × Seen)) (acts : List Act) (d : Device) (k : Drive) (h : Harbor)
+      (from : WorldView MemDiskView Harbor) (log : List (Event × Seen)) (acts : List Act) (d : Device) (k : MemDiskView) (h : Harbor)
       → Runs log from.core.device from.core.disk from.core.fabric → Acted from acts d k h → Runs (log ++ lines_of acts) d k h
   more_runs from log acts d k h runs acted =
       laws.acts t.sizes (length t.lenders) (new_drive t.sizes)
       (new_harbor t.sizes t.lenders) log from.core.device from.core.disk from.core.fabric acts d k h began runs acted
 
-  lent_in : (log : List (Event × Seen)) (d : Device) (k : Drive) (h : Harbor) → Runs log d k h → IsLent d h
+  lent_in : (log : List (Event × Seen)) (d : Device) (k : MemDiskView) (h : Harbor) → Runs log d k h → IsLent d h
   lent_in log d k h runs =
       (laws.lent t.sizes (length t.lenders) (new_drive t.sizes) (new_harbor t.sizes t.lenders) (made_of runs.written) d k h (blank t.sizes)
       (fresh t.sizes t.lenders) few runs.run).lent
 
   keeps_lent :
-      (from : WorldOf Drive Harbor) (log : List (Event × Seen)) (acts : List Act) → Runs log from.core.device from.core.disk from.core.fabric
+      (from : WorldView MemDiskView Harbor) (log : List (Event × Seen)) (acts : List Act) → Runs log from.core.device from.core.disk from.core.fabric
       → KeepsLent from acts
   keeps_lent from log acts runs later earlier d k h is acted = lent_in (log ++ lines_of earlier) d k h (more_runs from log earlier d k h runs acted)
 
-  run_of : (first w : WorldOf Drive Harbor) → IsFirst t first → Runs w.log w.core.device w.core.disk w.core.fabric → IsRunOf t first w
+  run_of : (first w : WorldView MemDiskView Harbor) → IsFirst t first → Runs w.log w.core.device w.core.disk w.core.fabric → IsRunOf t first w
   run_of first w is runs =
       let holds =
       laws.holds t.sizes (length t.lenders) (new_drive t.sizes) (new_harbor t.sizes t.lenders)
       (made_of runs.written) w.core.device w.core.disk w.core.fabric began runs.run in
       let P : Device → Type 0 =
       λ d. IsRun drive.Moves harbor.Moves d first.core.disk first.core.fabric (made_of runs.written) w.core.device w.core.disk w.core.fabric in
-      let Q : Drive → Type 0 =
+      let Q : MemDiskView → Type 0 =
       λ k.
-      IsRun drive.Moves harbor.Moves (new t.sizes (length t.lenders)) k first.core.fabric
+      IsRun drive.Moves harbor.Moves (device_at_start t.sizes (length t.lenders)) k first.core.fabric
       (made_of runs.written) w.core.device w.core.disk w.core.fabric in
       let R : Harbor → Type 0 =
       λ h.
-      IsRun drive.Moves harbor.Moves (new t.sizes (length t.lenders)) (new_drive t.sizes) h
+      IsRun drive.Moves harbor.Moves (device_at_start t.sizes (length t.lenders)) (new_drive t.sizes) h
       (made_of runs.written) w.core.device w.core.disk w.core.fabric in
       record {
         written = runs.written;
@@ -116,7 +116,7 @@ module _ (laws : Laws) (t : Script) (few : length t.lenders ≤ MOST_LENDERS) wh
       }
 
   played_headline :
-      (number : ℕ) (first w : WorldOf Drive Harbor) (played : IsPlayedOut drive.Moves harbor.Moves t number first w) → IsFirst t first
+      (number : ℕ) (first w : WorldView MemDiskView Harbor) (played : IsPlayedOut drive.Moves harbor.Moves t number first w) → IsFirst t first
       → IsHeadline t number first w played
   played_headline number first w played is =
       let mid = played.connected in

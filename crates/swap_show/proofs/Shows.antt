@@ -6,8 +6,8 @@ use Rattle.swap_base.specs.Sizes.{Sizes}
 use Rattle.swap_base.specs.declared.geometry.LenderSpec.{LenderSpec}
 use Rattle.swap_base.specs.declared.NoMemory.{NoMemory}
 use Rattle.swap_io.specs.Causes.{WasReadWhole, AppendsFront}
-use Rattle.swap_disk.specs.Drive.{Drive, new_drive}
-use Rattle.swap_disk.specs.Drive as drive
+use Rattle.swap_disk.specs.MemDiskView.{MemDiskView, new_drive}
+use Rattle.swap_disk.specs.MemDiskView as drive
 use Rattle.swap_link.specs.Harbor.{Harbor}
 use Rattle.swap_link.specs.Harbor as harbor
 use Rattle.swap_wire.specs.Fabric.{FabricOf}
@@ -15,9 +15,9 @@ use Rattle.swap_script.specs.declared.ScriptRefused.{ScriptRefused}
 use Rattle.swap_script.specs.declared.TheConstants.{TEXT_LIMIT}
 use Rattle.swap_script.specs.Reading.{Script}
 use Rattle.swap_script.specs.Transcript.{transcript}
-use Rattle.swap_table.specs.Device.{Device, Core, new}
+use Rattle.swap_table.specs.Device.{Device, Core, device_at_start}
 use Rattle.swap_trace.specs.Traces.{trace}
-use Rattle.swap_world.specs.Runs.{WorldOf}
+use Rattle.swap_world.specs.Runs.{WorldView}
 use Rattle.swap_world.specs.World.{new_harbor}
 use Rattle.swap_run.specs.declared.Ending.{Ending}
 use Rattle.swap_run.specs.declared.Ending.TheVariants as ending
@@ -34,34 +34,35 @@ keeps_same (Some bytes) = refl
 
 -- a world as it is made
 pub first_is :
-    (t : Script) (s : Sizes) (specs : List LenderSpec) (n : ℕ) (k : Drive) (h : Harbor) (r : Result (WorldOf Drive Harbor) NoMemory) → s ≡ t.sizes
+    (t : Script) (s : Sizes) (specs : List LenderSpec) (n : ℕ) (k : MemDiskView) (h : Harbor) (r : Result (WorldView MemDiskView Harbor) NoMemory) → s ≡ t.sizes
     → specs ≡ t.lenders → n ≡ length t.lenders → k ≡ new_drive s → h ≡ new_harbor s specs
-    → IfOk r (λ w. w.core ≡ record { device = new s n; disk = k; fabric = h; spare = 0 }) → IfOk r (λ w. w.log ≡ []) → IfOk r (IsFirst t)
+    → IfOk r (λ w. w.core ≡ record { device = device_at_start s n; disk = k; fabric = h; spare = 0 }) → IfOk r (λ w. w.log ≡ []) → IfOk r (IsFirst t)
 first_is t s specs n k h (Ok w) es el en ek eh core log = record {
-  device = ap (λ (c : Core Drive Harbor). c.device) core ∙ ap (λ x. new x n) es ∙ ap (λ m. new t.sizes m) en;
-  disk = ap (λ (c : Core Drive Harbor). c.disk) core ∙ ek ∙ ap new_drive es;
-  fabric = ap (λ (c : Core Drive Harbor). c.fabric) core ∙ eh ∙ ap (λ x. new_harbor x specs) es ∙ ap (λ l. new_harbor t.sizes l) el;
+  device = ap (λ (c : Core MemDiskView Harbor). c.device) core ∙ ap (λ x. device_at_start x n) es ∙ ap (λ m. device_at_start t.sizes m) en;
+  disk = ap (λ (c : Core MemDiskView Harbor). c.disk) core ∙ ek ∙ ap new_drive es;
+  fabric = ap (λ (c : Core MemDiskView Harbor). c.fabric) core ∙ eh ∙ ap (λ x. new_harbor x specs) es ∙ ap (λ l. new_harbor t.sizes l) el;
   log = log;
 }
 first_is t s specs n k h (Err e) es el en ek eh core log = tt
 
 -- a world that was played has the sizes of its trace
 sizes_stay :
-    (t : Script) (number : ℕ) (first w : WorldOf Drive Harbor) → IsFirst t first → IsPlayedOut drive.Moves harbor.Moves t number first w
+    (t : Script) (number : ℕ) (first w : WorldView MemDiskView Harbor) → IsFirst t first → IsPlayedOut drive.Moves harbor.Moves t number first w
     → w.core.device.sizes ≡ t.sizes
 sizes_stay t number first w is played =
     ap (λ (o : FabricOf). o.sizes) played.carried.acted.makes.of ∙ ap (λ (o : FabricOf). o.sizes) played.connects.works.makes.of
     ∙ ap (λ (d : Device). d.sizes) is.device
 
 same_text :
-    (t : Script) (lenders : List LenderSpec) (w : WorldOf Drive Harbor) → w.core.device.sizes ≡ t.sizes → lenders ≡ t.lenders
+    (t : Script) (lenders : List LenderSpec) (w : WorldView MemDiskView Harbor) → w.core.device.sizes ≡ t.sizes → lenders ≡ t.lenders
     → world_transcript lenders w ≡ transcript_of t w
 same_text t lenders w sizes specs =
     ap (λ s. transcript s lenders w.log w.core.device.history) sizes ∙ ap (λ l. transcript t.sizes l w.log w.core.device.history) specs
 
 -- what was written of a played world
 pub trace_ends :
-    (t : Script) (number : ℕ) (lenders : List LenderSpec) (first w : WorldOf Drive Harbor) (out : Stream) (end : Ending) → lenders ≡ t.lenders → IsFirst t first
+    (t : Script) (number : ℕ) (lenders : List LenderSpec) (first w : WorldView MemDiskView Harbor) (out : Stream) (end : Ending) → lenders ≡ t.lenders
+    → IsFirst t first
     → IsPlayedOut drive.Moves harbor.Moves t number first w → WrittenBy lenders w out end → TraceEnds t number out end
 trace_ends t number lenders first w out end specs is played h = go end h
   where

@@ -11,7 +11,7 @@ use Rattle.swap_record.specs.History.{History, Row}
 use Rattle.swap_table.specs.Promises.{Promises}
 use Rattle.swap_world.specs.Failures.{HoldsEntry, HoldsEntriesSeen}
 use Rattle.swap_world.specs.Laws.{Began, Holds, HoldsAfterEach}
-use Rattle.swap_world.specs.Runs.{WorldOf, Written, Alone, Together, IsReached, StandsIn, entry_seen, made_of, logged_of}
+use Rattle.swap_world.specs.Runs.{WorldView, Written, Alone, Together, IsReached, StandsIn, entry_seen, made_of, logged_of}
 use Rattle.swap_run.proofs.Printed.{has_entry}
 use Rattle.swap_show.specs.Printing.{EntriesStand}
 
@@ -68,7 +68,7 @@ line_in H (l ∷ log) zero e s all is = let same : l ≡ (e, s) = cc in let P : 
 line_in H (l ∷ log) (suc i) e s all is = line_in H log i e s all.1 is
 
 module _ {D F : Type 0} (disk : DiskMeaning D) (fabric : FabricMeaning F) (laws : Promises fabric) where
-  pub entries_stand : (w : WorldOf D F) → HoldsAfterEach disk fabric → IsReached disk fabric w.core w.log → EntriesStand w.log w.core.device.history
+  pub entries_stand : (w : WorldView D F) → HoldsAfterEach disk fabric → IsReached disk fabric w.core w.log → EntriesStand w.log w.core.device.history
   entries_stand w always r i e s is =
       let began : Began disk fabric r.sizes r.lenders r.first r.first_fabric =
       record { blank = r.blank; is_of = laws.fresh_is_of r.first_fabric _ r.fresh; few = r.few } in

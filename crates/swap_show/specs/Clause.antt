@@ -5,14 +5,14 @@ use Rattle.swap_io.specs.Causes.{WasReadWhole, AppendsFront}
 use Rattle.swap_io.specs.declared.sources.Source.{Ghosts as SourceMeaning}
 use Rattle.swap_io.specs.declared.sinks.Sink.{Ghosts as SinkMeaning}
 use Rattle.swap_base.specs.declared.geometry.LenderSpec.{LenderSpec}
-use Rattle.swap_disk.specs.Drive.{Drive}
+use Rattle.swap_disk.specs.MemDiskView.{MemDiskView}
 use Rattle.swap_link.specs.Harbor.{Harbor}
 use Rattle.swap_script.specs.declared.ScriptRefused.{ScriptRefused}
 use Rattle.swap_script.specs.declared.TheConstants.{TEXT_LIMIT}
 use Rattle.swap_script.specs.Reading.{Script}
 use Rattle.swap_script.specs.Transcript.{transcript}
 use Rattle.swap_trace.specs.Traces.{trace}
-use Rattle.swap_world.specs.Runs.{WorldOf}
+use Rattle.swap_world.specs.Runs.{WorldView}
 use Rattle.swap_run.specs.declared.Ending.{Ending}
 use Rattle.swap_run.specs.declared.Ending.TheVariants as ending
 use Rattle.swap_run.specs.Clause.{Stream, stream, Failed, TookNothing, ReadBrokeOff, ReadTooMuch}
@@ -29,25 +29,25 @@ abbrev pub written_to : {K : Type 0} → SinkMeaning K → K → K → Stream
 written_to sink before now = stream (sink.taken before) (sink.taken now) (sink.faults before) (sink.faults now)
 
 -- what is written of a played trace: the transcript of the world's log
-abbrev pub transcript_of : Script → WorldOf Drive Harbor → List ℕ
+abbrev pub transcript_of : Script → WorldView MemDiskView Harbor → List ℕ
 transcript_of t w = transcript t.sizes t.lenders w.log w.core.device.history
 
 -- a trace was played and out took its transcript, and nothing else; a call failed or none did
 pub record PlayedIn (t : Script) (number : ℕ) (out : Stream) (with_fault : Bool) : Type 0 where
-  pub world : WorldOf Drive Harbor
+  pub world : WorldView MemDiskView Harbor
   pub shown : WasShown t number world
   pub wrote : Appends out.before out.now (transcript_of t world)
   pub fault : has_failed world.core.device.history ≡ with_fault
 
 -- a trace was played and a write failed: out took a front of its transcript
 pub record BrokeOffIn (t : Script) (number : ℕ) (out : Stream) : Type 0 where
-  pub world : WorldOf Drive Harbor
+  pub world : WorldView MemDiskView Harbor
   pub shown : WasShown t number world
   pub wrote : AppendsFront out.before out.now (transcript_of t world)
   pub failed : Failed out
 
 -- what writing a world's transcript leaves, by how it ends
-abbrev pub WrittenBy : List LenderSpec → WorldOf Drive Harbor → Stream → Ending → Type 0
+abbrev pub WrittenBy : List LenderSpec → WorldView MemDiskView Harbor → Stream → Ending → Type 0
 WrittenBy lenders w out ending.Done =
     Appends out.before out.now (world_transcript lenders w) × (has_failed w.core.device.history ≡ false)
 WrittenBy lenders w out ending.Faulted =

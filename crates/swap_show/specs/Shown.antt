@@ -4,24 +4,24 @@ use Rattle.std.specs.List.{AllByRecursion}
 use Rattle.swap_base.specs.declared.Caller.{Caller}
 use Rattle.swap_base.specs.Sizes.{zeros}
 use Rattle.swap_record.specs.History.{IsLegal}
-use Rattle.swap_disk.specs.Drive as drive
-use Rattle.swap_disk.specs.Drive.{Drive, new_drive}
+use Rattle.swap_disk.specs.MemDiskView as drive
+use Rattle.swap_disk.specs.MemDiskView.{MemDiskView, new_drive}
 use Rattle.swap_link.specs.Harbor as harbor
 use Rattle.swap_link.specs.Harbor.{Harbor}
-use Rattle.swap_table.specs.Device.{Device, new}
+use Rattle.swap_table.specs.Device.{Device, device_at_start}
 use Rattle.swap_script.specs.Reading.{Script}
 use Rattle.swap_trace.specs.Traces.{trace}
 use Rattle.swap_joint.specs.Owned.{IsLent}
 use Rattle.swap_world.specs.Answered.{AreAnsweredOnce}
 use Rattle.swap_world.specs.Failures.{HoldsEntriesSeen}
-use Rattle.swap_world.specs.Runs.{WorldOf, Written, HasParts, IsRun, logged_of, made_of}
+use Rattle.swap_world.specs.Runs.{WorldView, Written, HasParts, IsRun, logged_of, made_of}
 use Rattle.swap_world.specs.World.{new_harbor}
 use Rattle.swap_board.specs.Acts.{Act, IsActed}
 use Rattle.swap_play.specs.Playing.{IsPlayedOut}
 
 -- a device that nothing happened to, over the disk and the lenders as they are made for a trace
-pub record IsFirst (t : Script) (w : WorldOf Drive Harbor) : Type 0 where
-  pub device : w.core.device ≡ new t.sizes (length t.lenders)
+pub record IsFirst (t : Script) (w : WorldView MemDiskView Harbor) : Type 0 where
+  pub device : w.core.device ≡ device_at_start t.sizes (length t.lenders)
   pub disk : w.core.disk ≡ new_drive t.sizes
   pub fabric : w.core.fabric ≡ new_harbor t.sizes t.lenders
   pub log : w.log ≡ []
@@ -31,7 +31,7 @@ pub record IsFirst (t : Script) (w : WorldOf Drive Harbor) : Type 0 where
 -- its order. It is exactly the entries that were seen, and a failure has its cause: the counts of its own call, and for
 -- a
 -- page-in its own failed read.
-pub record IsRunOf (t : Script) (first w : WorldOf Drive Harbor) : Type 0 where
+pub record IsRunOf (t : Script) (first w : WorldView MemDiskView Harbor) : Type 0 where
   pub written : List Written
   pub parts : AllByRecursion HasParts written
   pub run : IsRun drive.Moves harbor.Moves first.core.device first.core.disk first.core.fabric
@@ -43,15 +43,15 @@ pub record IsRunOf (t : Script) (first w : WorldOf Drive Harbor) : Type 0 where
 
 -- after each front of these acts from a world: a set bit means that the remote copy is the newest, and a lent slab has
 -- one owner
-abbrev pub KeepsLent : WorldOf Drive Harbor → List Act → Type 0
+abbrev pub KeepsLent : WorldView MemDiskView Harbor → List Act → Type 0
 KeepsLent from acts =
-    (later earlier : List Act) (d : Device) (k : Drive) (h : Harbor) → acts ≡ later ++ earlier
+    (later earlier : List Act) (d : Device) (k : MemDiskView) (h : Harbor) → acts ≡ later ++ earlier
     → IsActed drive.Moves harbor.Moves from.core.device from.core.disk from.core.fabric earlier d k h → IsLent d h
 
 -- what holds of a trace that was played: its run, and what is kept along the acts that connect the lenders and those
 -- that
 -- carry the trace out
-pub record IsHeadline (t : Script) (number : ℕ) (first w : WorldOf Drive Harbor)
+pub record IsHeadline (t : Script) (number : ℕ) (first w : WorldView MemDiskView Harbor)
     (played : IsPlayedOut drive.Moves harbor.Moves t number first w) : Type 0 where
   pub run : IsRunOf t first w
   pub connecting : KeepsLent first played.connects.acts
@@ -60,12 +60,12 @@ pub record IsHeadline (t : Script) (number : ℕ) (first w : WorldOf Drive Harbo
 -- so it holds of each text that is a trace, however it was played
 abbrev pub PlaysKeepTheHeadline : Type 0
 PlaysKeepTheHeadline =
-    (text : List ℕ) (t : Script) (number : ℕ) (first w : WorldOf Drive Harbor)
+    (text : List ℕ) (t : Script) (number : ℕ) (first w : WorldView MemDiskView Harbor)
     (played : IsPlayedOut drive.Moves harbor.Moves t number first w)
     → trace None text ≡ Ok t → IsFirst t first → IsHeadline t number first w played
 
 -- a trace was played, from a world as it is made for it to this one
-pub record WasShown (t : Script) (number : ℕ) (w : WorldOf Drive Harbor) : Type 0 where
-  pub first : WorldOf Drive Harbor
+pub record WasShown (t : Script) (number : ℕ) (w : WorldView MemDiskView Harbor) : Type 0 where
+  pub first : WorldView MemDiskView Harbor
   pub is_first : IsFirst t first
   pub played : IsPlayedOut drive.Moves harbor.Moves t number first w

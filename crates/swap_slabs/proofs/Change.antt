@@ -15,7 +15,7 @@ use Rattle.swap_slabs.specs.declared.TheConstants.{MOST_LENDERS}
 use Rattle.swap_slabs.specs.Slabs.{state_of, is_at, has_lease_at, has_lease, is_mapped}
 use Rattle.swap_slabs.specs.Kept.{StateFits, IsSlabs}
 use Rattle.swap_places.specs.Line.{stands}
-use Rattle.swap_slabs.specs.Rows.{LenderRow, new_row, has_number, is_entry, without, row_of, one, borrows_from, SetsBorrowing, RowFits, Fits}
+use Rattle.swap_slabs.specs.Rows.{RowView, new_row, has_number, is_entry, without_lease, row_of, one_if, borrows_from, SetsBorrowing, RowFits, Fits}
 
 -- a slab that isn't at a lender has no lease of it
 pub no_lease_at : (l : Lender) (state : SlabState) → is_at l state ≡ false → has_lease_at l state ≡ false
@@ -40,8 +40,8 @@ module _ (states : List SlabState) (slab : Slab) (st : SlabState) (lt : slab.0 <
   abbrev pub after : List SlabState
   after = set states slab.0 st
 
-  pub count_after : (p : SlabState → Bool) → count_by p after + one (p old) ≡ count_by p states + one (p st)
-  count_after p = sum_by-set (λ x. one (p x)) states slab.0 st Local lt
+  pub count_after : (p : SlabState → Bool) → count_by p after + one_if (p old) ≡ count_by p states + one_if (p st)
+  count_after p = sum_by-set (λ x. one_if (p x)) states slab.0 st Local lt
 
   pub state_here : (s : Slab) → s.0 ≡ slab.0 → state_of after s ≡ st
   state_here s e = ap (λ n. get_or after n Local) e ∙ get_or-set_same states slab.0 st Local lt
@@ -51,13 +51,13 @@ module _ (states : List SlabState) (slab : Slab) (st : SlabState) (lt : slab.0 <
 
   pub slabs_after :
       IsSlabs states → StateFits st
-      → ((l : Lender) (k : Lease) → has_lease l k st ≡ true → count_by (λ state. has_lease l k state) states ≤ one (has_lease l k old)) → IsSlabs after
+      → ((l : Lender) (k : Lease) → has_lease l k st ≡ true → count_by (λ state. has_lease l k state) states ≤ one_if (has_lease l k old)) → IsSlabs after
   slabs_after h fits only = record {
     fits = λ s. ⊎_elim (λ e. subst StateFits (sym (state_here s e)) fits) (λ ne. subst StateFits (sym (state_other s ne)) (h.fits s)) (cases_eq s.0 slab.0);
     single = λ l k.
         ⊎_elim
-        (λ (t : has_lease l k st ≡ true). omega (arith, count_after (λ state. has_lease l k state), ap one t, only l k t))
-        (λ (t : has_lease l k st ≡ false). omega (arith, count_after (λ state. has_lease l k state), ap one t, h.single l k))
+        (λ (t : has_lease l k st ≡ true). omega (arith, count_after (λ state. has_lease l k state), ap one_if t, only l k t))
+        (λ (t : has_lease l k st ≡ false). omega (arith, count_after (λ state. has_lease l k state), ap one_if t, h.single l k))
         (cases_Bool (has_lease l k st));
   }
 
@@ -74,7 +74,7 @@ module _ (states : List SlabState) (slab : Slab) (st : SlabState) (lt : slab.0 <
 
   -- and change with it where it's entered or taken out
   pub borrowing_set :
-      (l : Lender) (before : LenderRow) (now : Bool) (row : LenderRow) → SetsBorrowing before slab now row → borrows_from l st ≡ now
+      (l : Lender) (before : RowView) (now : Bool) (row : RowView) → SetsBorrowing before slab now row → borrows_from l st ≡ now
       → ((s : Slab) → stands before.borrowing s.0 ≡ borrows_from l (state_of states s)) → (s : Slab)
       → stands row.borrowing s.0 ≡ borrows_from l (state_of after s)
   borrowing_set l before now row sets is each s =
@@ -88,28 +88,28 @@ module _ (states : List SlabState) (slab : Slab) (st : SlabState) (lt : slab.0 <
 
   -- a lender that the change is none of keeps its row
   pub row_same :
-      (l : Lender) (row : LenderRow) → is_at l old ≡ is_at l st → has_lease_at l old ≡ has_lease_at l st → ((k : Lease) → has_lease l k old ≡ has_lease l k st)
+      (l : Lender) (row : RowView) → is_at l old ≡ is_at l st → has_lease_at l old ≡ has_lease_at l st → ((k : Lease) → has_lease l k old ≡ has_lease l k st)
       → RowFits states l row → RowFits after l row
   row_same l row held leased leases h = record {
     borrowing = borrowing_same l row.borrowing (ap₂ (λ a b. a && not b) held leased) h.borrowing;
     leases = λ k s.
         h.leases k s
-        ∙ ap one
+        ∙ ap one_if
         (⊎_elim (λ e. ap (λ n. has_lease l k (get_or states n Local)) e ∙ leases k ∙ sym (ap (λ x. has_lease l k x) (state_here s e)))
         (λ ne. sym (ap (λ x. has_lease l k x) (state_other s ne))) (cases_eq s.0 slab.0));
-    number = omega (arith, h.number, count_after (λ state. has_lease_at l state), ap one leased);
+    number = omega (arith, h.number, count_after (λ state. has_lease_at l state), ap one_if leased);
     room = omega (arith, h.room, length-set states slab.0 st);
   }
 
-  pub row_away : (l : Lender) (row : LenderRow) → is_at l old ≡ false → is_at l st ≡ false → RowFits states l row → RowFits after l row
+  pub row_away : (l : Lender) (row : RowView) → is_at l old ≡ false → is_at l st ≡ false → RowFits states l row → RowFits after l row
   row_away l row before now h =
       row_same l row (before ∙ sym now) (no_lease_at l old before ∙ sym (no_lease_at l st now)) (λ k. no_lease l k old before ∙ sym (no_lease l k st now)) h
 
   -- each lender keeps its row where the slab stays with its lender and its lease
   pub fits_same :
-      (table : List LenderRow) (m m' : ℕ) → Fits states table m → IsSlabs after → ((l : Lender) → is_at l old ≡ is_at l st)
+      (table : List RowView) (m m' : ℕ) → Fits states table m → IsSlabs after → ((l : Lender) → is_at l old ≡ is_at l st)
       → ((l : Lender) → has_lease_at l old ≡ has_lease_at l st) → ((l : Lender) (k : Lease) → has_lease l k old ≡ has_lease l k st)
-      → m' + one (is_mapped old) ≡ m + one (is_mapped st) → Fits after table m'
+      → m' + one_if (is_mapped old) ≡ m + one_if (is_mapped st) → Fits after table m'
   fits_same table m m' h slabs held leased leases counted = record {
     slabs = slabs;
     few = omega (arith, h.few, length-set states slab.0 st);
@@ -120,9 +120,9 @@ module _ (states : List SlabState) (slab : Slab) (st : SlabState) (lt : slab.0 <
 
   -- one lender has another row
   pub fits_row :
-      (table : List LenderRow) (m m' : ℕ) (l : Lender) (row : LenderRow) → Fits states table m → IsSlabs after → l.0 < MOST_LENDERS
+      (table : List RowView) (m m' : ℕ) (l : Lender) (row : RowView) → Fits states table m → IsSlabs after → l.0 < MOST_LENDERS
       → ((other : Lender) → other.0 ≢ l.0 → (is_at other old ≡ false) × (is_at other st ≡ false)) → RowFits after l row
-      → m' + one (is_mapped old) ≡ m + one (is_mapped st) → Fits after (set table l.0 row) m'
+      → m' + one_if (is_mapped old) ≡ m + one_if (is_mapped st) → Fits after (set table l.0 row) m'
   fits_row table m m' l row h slabs within others fits counted =
       let inside : l.0 < length table = omega (arith, h.rows, within) in
       record {
@@ -165,21 +165,22 @@ module _ {X : Type 0} (p : X → Bool) where
 
 -- a number of leases
 pub without-count :
-    (k : Lease) (p : Leased → Bool) (xs : List Leased) (e : Leased) → find (has_number k) xs ≡ Some e → count_by p (without k xs) + one (p e) ≡ count_by p xs
+    (k : Lease) (p : Leased → Bool) (xs : List Leased) (e : Leased) → find (has_number k) xs ≡ Some e
+    → count_by p (without_lease k xs) + one_if (p e) ≡ count_by p xs
 without-count k p [] e found = cc
 without-count k p (x ∷ xs) e found =
     ⊎_elim
     (λ (t : has_number k x ≡ true).
     let same : x ≡ e = some_is x e (sym (cond-true (has_number k x) (Some x) (find (has_number k) xs) t) ∙ found) in
-    let gone : count_by p (without k (x ∷ xs)) ≡ count_by p xs = ap (λ l. count_by p l) (cond-true (has_number k x) xs (x ∷ without k xs) t) in
-    omega (arith, gone, sum_by-cons (λ (l : Leased). one (p l)) x xs, ap (λ l. one (p l)) same))
+    let gone : count_by p (without_lease k (x ∷ xs)) ≡ count_by p xs = ap (λ l. count_by p l) (cond-true (has_number k x) xs (x ∷ without_lease k xs) t) in
+    omega (arith, gone, sum_by-cons (λ (l : Leased). one_if (p l)) x xs, ap (λ l. one_if (p l)) same))
     (λ (t : has_number k x ≡ false).
-    let kept : count_by p (without k (x ∷ xs)) ≡ one (p x) + count_by p (without k xs) =
-    ap (λ l. count_by p l) (cond-false (has_number k x) xs (x ∷ without k xs) t) ∙ sum_by-cons (λ (l : Leased). one (p l)) x (without k xs) in
+    let kept : count_by p (without_lease k (x ∷ xs)) ≡ one_if (p x) + count_by p (without_lease k xs) =
+    ap (λ l. count_by p l) (cond-false (has_number k x) xs (x ∷ without_lease k xs) t) ∙ sum_by-cons (λ (l : Leased). one_if (p l)) x (without_lease k xs) in
     omega (
       arith,
       kept,
-      sum_by-cons (λ (l : Leased). one (p l)) x xs,
+      sum_by-cons (λ (l : Leased). one_if (p l)) x xs,
       without-count k p xs e (sym (cond-false (has_number k x) (Some x) (find (has_number k) xs) t) ∙ found),
     ))
     (cases_Bool (has_number k x))
@@ -187,8 +188,8 @@ without-count k p (x ∷ xs) e found =
     some_is : {X : Type 0} (x y : X) → Some x ≡ Some y → x ≡ y
     some_is x y h = cc
 
-pub length-without : (k : Lease) (xs : List Leased) (e : Leased) → find (has_number k) xs ≡ Some e → length (without k xs) + 1 ≡ length xs
-length-without k xs e found = omega (arith, without-count k (λ l. true) xs e found, all (without k xs), all xs)
+pub length-without : (k : Lease) (xs : List Leased) (e : Leased) → find (has_number k) xs ≡ Some e → length (without_lease k xs) + 1 ≡ length xs
+length-without k xs e found = omega (arith, without-count k (λ l. true) xs e found, all (without_lease k xs), all xs)
   where
     all : (ys : List Leased) → count_by (λ l. true) ys ≡ length ys
     all [] = refl
@@ -204,10 +205,10 @@ found_entry k (x ∷ xs) e found =
     let same : x ≡ e = some_is x e (sym (cond-true (has_number k x) (Some x) (find (has_number k) xs) t) ∙ found) in
     let there : is_entry k e.slab x ≡ true =
     and_from (x.lease.0 == k.0) (x.slab.0 == e.slab.0) t (eq-eqb x.slab.0 e.slab.0 (ap (λ (l : Leased). l.slab.0) same)) in
-    (ap (has_number k) (sym same) ∙ t, omega (arith, sum_by-cons (λ (l : Leased). one (is_entry k e.slab l)) x xs, ap one there)))
+    (ap (has_number k) (sym same) ∙ t, omega (arith, sum_by-cons (λ (l : Leased). one_if (is_entry k e.slab l)) x xs, ap one_if there)))
     (λ (t : has_number k x ≡ false).
     let rest = found_entry k xs e (sym (cond-false (has_number k x) (Some x) (find (has_number k) xs) t) ∙ found) in
-    (rest.0, omega (arith, sum_by-cons (λ (l : Leased). one (is_entry k e.slab l)) x xs, rest.1)))
+    (rest.0, omega (arith, sum_by-cons (λ (l : Leased). one_if (is_entry k e.slab l)) x xs, rest.1)))
     (cases_Bool (has_number k x))
   where
     some_is : {X : Type 0} (x y : X) → Some x ≡ Some y → x ≡ y
@@ -221,8 +222,8 @@ none_entry k s (x ∷ xs) found =
     (λ (t : has_number k x ≡ false).
     omega (
       arith,
-      sum_by-cons (λ (l : Leased). one (is_entry k s l)) x xs,
-      ap one (and_left (x.lease.0 == k.0) (x.slab.0 == s.0) t),
+      sum_by-cons (λ (l : Leased). one_if (is_entry k s l)) x xs,
+      ap one_if (and_left (x.lease.0 == k.0) (x.slab.0 == s.0) t),
       none_entry k s xs (sym (cond-false (has_number k x) (Some x) (find (has_number k) xs) t) ∙ found),
     ))
     (cases_Bool (has_number k x))
@@ -230,7 +231,7 @@ none_entry k s (x ∷ xs) found =
     some_none : {X : Type 0} {x : X} → Some x ≡ None → ⊥
     some_none h = cc
 
-pub one_some : (b : Bool) → 1 ≤ one b → b ≡ true
+pub one_some : (b : Bool) → 1 ≤ one_if b → b ≡ true
 one_some true le = refl
 one_some false le = absurd (omega arith)
 
@@ -249,10 +250,10 @@ only_slab states l k s t h here there =
     (omega (
       arith,
       gone,
-      ap one here,
+      ap one_if here,
       h.single l k,
-      ap one still,
-      get_or-le-sum_by (λ (x : SlabState). one (has_lease l k x)) (set states s.0 Local) t.0 Local (omega (arith, length-set states s.0 Local, within')),
+      ap one_if still,
+      get_or-le-sum_by (λ (x : SlabState). one_if (has_lease l k x)) (set states s.0 Local) t.0 Local (omega (arith, length-set states s.0 Local, within')),
     )))
     (cases_eq t.0 s.0)
   where
@@ -269,13 +270,13 @@ slab_is a b e = let F : ℕ → Slab = λ n. record { 0 = n } in ap F e
 
 -- the entry of a slab's lease is found
 pub entry_of :
-    (states : List SlabState) (l : Lender) (row : LenderRow) (k : Lease) (s : Slab) → IsSlabs states → RowFits states l row
+    (states : List SlabState) (l : Lender) (row : RowView) (k : Lease) (s : Slab) → IsSlabs states → RowFits states l row
     → has_lease l k (state_of states s) ≡ true → (o : Option Leased) → find (has_number k) row.leases ≡ o → IsSome o
-entry_of states l row k s h fits here None found = absurd (omega (arith, none_entry k s row.leases found, fits.leases k s, ap one here))
+entry_of states l row k s h fits here None found = absurd (omega (arith, none_entry k s row.leases found, fits.leases k s, ap one_if here))
 entry_of states l row k s h fits here (Some e) found = refl
 
 pub entry_slab :
-    (states : List SlabState) (l : Lender) (row : LenderRow) (k : Lease) (s : Slab) (e : Leased) → IsSlabs states → RowFits states l row
+    (states : List SlabState) (l : Lender) (row : RowView) (k : Lease) (s : Slab) (e : Leased) → IsSlabs states → RowFits states l row
     → has_lease l k (state_of states s) ≡ true → find (has_number k) row.leases ≡ Some e → (e.slab.0 ≡ s.0) × (has_number k e ≡ true)
 entry_slab states l row k s e h fits here found =
     let f = found_entry k row.leases e found in
@@ -284,22 +285,22 @@ entry_slab states l row k s e h fits here found =
 
 -- the index agrees with the states
 pub by_lease_is :
-    (states : List SlabState) (l : Lender) (row : LenderRow) (k : Lease) → IsSlabs states → RowFits states l row → (o : Option Leased)
+    (states : List SlabState) (l : Lender) (row : RowView) (k : Lease) → IsSlabs states → RowFits states l row → (o : Option Leased)
     → find (has_number k) row.leases ≡ o → (p : Option ℕ) → position (λ state. has_lease l k state) states ≡ p
     → option_map (λ (e : Leased). e.slab) o ≡ option_map (λ (n : ℕ). record { 0 = n }) p
 by_lease_is states l row k h fits None lost None none = refl
 by_lease_is states l row k h fits None lost (Some i) at =
     let here = position-Some (λ state. has_lease l k state) states i Local at in
-    absurd (omega (arith, none_entry k (record { 0 = i }) row.leases lost, fits.leases k (record { 0 = i }), ap one here.1))
+    absurd (omega (arith, none_entry k (record { 0 = i }) row.leases lost, fits.leases k (record { 0 = i }), ap one_if here.1))
 by_lease_is states l row k h fits (Some e) found None none =
     let f = found_entry k row.leases e found in
     let there : has_lease l k (state_of states e.slab) ≡ true = one_some (has_lease l k (state_of states e.slab)) (omega (arith, f.1, fits.leases k e.slab)) in
     absurd
     (omega (
       arith,
-      ap one there,
+      ap one_if there,
       count_none (λ state. has_lease l k state) states none,
-      get_or-le-sum_by (λ (x : SlabState). one (has_lease l k x)) states e.slab.0 Local (lease_in_range states l k e.slab there),
+      get_or-le-sum_by (λ (x : SlabState). one_if (has_lease l k x)) states e.slab.0 Local (lease_in_range states l k e.slab there),
     ))
 by_lease_is states l row k h fits (Some e) found (Some i) at =
     let here = position-Some (λ state. has_lease l k state) states i Local at in

@@ -15,7 +15,7 @@ use Rattle.swap_slabs.specs.declared.SlabState.TheVariants.{Local, Asking, Borro
 use Rattle.swap_slabs.specs.declared.row.Leased.{Leased}
 use Rattle.swap_slabs.specs.Slabs.{state_of, is_at, has_lease_at, has_lease, is_lender, holds}
 use Rattle.swap_slabs.proofs.Change.{one_some}
-use Rattle.swap_slabs.specs.Rows.{LenderRow, is_entry, one, borrows_from, last_or_first, slab_of_row, RowFits}
+use Rattle.swap_slabs.specs.Rows.{RowView, is_entry, one_if, borrows_from, last_or_first, slab_of_row, RowFits}
 
 -- a slab with a lease of the lender is at it, and so is one that borrows from it
 leased_at : (l : Lender) (k : Lease) (state : SlabState) → has_lease l k state ≡ true → is_at l state ≡ true
@@ -30,7 +30,7 @@ pub at_within : (states : List SlabState) (l : Lender) (s : Slab) → is_at l (s
 at_within states l s e =
     ⊎_elim (λ lt. lt) (λ ge. absurd (false≢true (sym (ap (is_at l) (get_or_past states s.0 Local ge)) ∙ e))) (cases_lt s.0 (length states))
 
-module _ (states : List SlabState) (l : Lender) (row : LenderRow) (fits : RowFits states l row) where
+module _ (states : List SlabState) (l : Lender) (row : RowView) (fits : RowFits states l row) where
   entry_at : (e : Leased) (i : ℕ) → slice_get row.leases i ≡ Some e → is_at l (state_of states e.slab) ≡ true
   entry_at e i at =
       let there : get_or row.leases i e ≡ e = get_or_from_slice_get row.leases i e e at in
@@ -41,9 +41,9 @@ module _ (states : List SlabState) (l : Lender) (row : LenderRow) (fits : RowFit
       (omega (
         arith,
         fits.leases e.lease e.slab,
-        get_or-le-sum_by (λ (x : Leased). one (is_entry e.lease e.slab x)) row.leases i e (slice_get_within row.leases i e at),
-        ap (λ x. one (is_entry e.lease e.slab x)) there,
-        ap one own,
+        get_or-le-sum_by (λ (x : Leased). one_if (is_entry e.lease e.slab x)) row.leases i e (slice_get_within row.leases i e at),
+        ap (λ x. one_if (is_entry e.lease e.slab x)) there,
+        ap one_if own,
       )))
 
   borrowing_at : (n : ℕ) (xs : List ℕ) → row.borrowing ≡ xs → slice_get xs 0 ≡ Some n → is_at l (state_of states (record { 0 = n })) ≡ true
@@ -91,11 +91,11 @@ module _ (states : List SlabState) (l : Lender) (row : LenderRow) (fits : RowFit
   not_at s lt leases borrowing =
       let unleased : has_lease_at l (state_of states s) ≡ false =
       none_one (has_lease_at l (state_of states s))
-      (omega (arith, fits.number, leases, get_or-le-sum_by (λ (x : SlabState). one (has_lease_at l x)) states s.0 Local lt)) in
+      (omega (arith, fits.number, leases, get_or-le-sum_by (λ (x : SlabState). one_if (has_lease_at l x)) states s.0 Local lt)) in
       let out : borrows_from l (state_of states s) ≡ false = sym (fits.borrowing s) ∙ ap (λ xs. stands xs s.0) borrowing in
       by_parts (is_at l (state_of states s)) (has_lease_at l (state_of states s)) unleased out
     where
-      none_one : (b : Bool) → one b ≡ 0 → b ≡ false
+      none_one : (b : Bool) → one_if b ≡ 0 → b ≡ false
       none_one true e = absurd (omega (arith, e))
       none_one false e = refl
 

@@ -9,7 +9,7 @@ use Rattle.swap_slabs.specs.declared.Pair.{Pair}
 use Rattle.swap_slabs.specs.declared.SlabState.{SlabState}
 use Rattle.swap_slabs.specs.declared.SlabState.TheVariants.{Local, Asking, Borrowing, Mapped, Draining}
 use Rattle.swap_slabs.specs.declared.TheConstants.{MOST_LENDERS, MOST_FLYING}
-use Rattle.swap_slabs.specs.Slabs.{state_of, with_state, is_borrowing, waits, replied, answered_state, after_answer, after_lent, after_begin, after_settled, after_evict, drained, flying_of, leased_of}
+use Rattle.swap_slabs.specs.Slabs.{state_of, with_state, is_borrowing, waits, with_reply, answered_state, after_answer, after_lent, after_begin, after_settled, after_evict, drain_to, flying_of, leased_of}
 use Rattle.swap_slabs.specs.Kept.{StateFits, IsSlabs, IsNew, SetsState, AllLocalKeeps, AskKeeps, AnswerKeeps, BorrowKeeps, LentKeeps, RefusedKeeps, BeginKeeps, SettledKeeps, EvictKeeps, LostKeeps}
 use Rattle.swap_slabs.proofs.Moves.{slabs_none, slabs_same, lent_slabs, replied_fits}
 use Rattle.swap_slabs.proofs.Lost.{local_slabs, lost_slabs}
@@ -41,16 +41,17 @@ module _ (states : List SlabState) (slab : Slab) (h : IsSlabs states) (lt : slab
   keep s e = same_or s (fits_of s e) (sym (ap leased_of e))
 
   answer_of :
-      (l : Lender) (reply : Reply) (pair : Pair) → state_of states slab ≡ Asking pair → IsSlabs (with_state states slab (answered_state (replied pair l reply)))
+      (l : Lender) (reply : Reply) (pair : Pair) → state_of states slab ≡ Asking pair
+      → IsSlabs (with_state states slab (answered_state (with_reply pair l reply)))
   answer_of l reply pair e =
       ⊎_elim
-      (λ (t : waits (replied pair l reply) ≡ true).
-      subst (λ s. IsSlabs (with_state states slab s)) (sym (cond-true (waits (replied pair l reply)) (Asking (replied pair l reply)) Local t))
-      (slabs_none states slab (Asking (replied pair l reply)) lt h (replied_fits pair l reply (fits_of (Asking pair) e) t) refl))
-      (λ (t : waits (replied pair l reply) ≡ false).
-      subst (λ s. IsSlabs (with_state states slab s)) (sym (cond-false (waits (replied pair l reply)) (Asking (replied pair l reply)) Local t))
+      (λ (t : waits (with_reply pair l reply) ≡ true).
+      subst (λ s. IsSlabs (with_state states slab s)) (sym (cond-true (waits (with_reply pair l reply)) (Asking (with_reply pair l reply)) Local t))
+      (slabs_none states slab (Asking (with_reply pair l reply)) lt h (replied_fits pair l reply (fits_of (Asking pair) e) t) refl))
+      (λ (t : waits (with_reply pair l reply) ≡ false).
+      subst (λ s. IsSlabs (with_state states slab s)) (sym (cond-false (waits (with_reply pair l reply)) (Asking (with_reply pair l reply)) Local t))
       (slabs_none states slab Local lt h tt refl))
-      (cases_Bool (waits (replied pair l reply)))
+      (cases_Bool (waits (with_reply pair l reply)))
 
   answer_case : (l : Lender) (reply : Reply) (s : SlabState) → state_of states slab ≡ s → IsSlabs (with_state states slab (after_answer s l reply))
   answer_case l reply Local e = keep Local e
@@ -76,7 +77,7 @@ module _ (states : List SlabState) (slab : Slab) (h : IsSlabs states) (lt : slab
 
   drained_keeps :
       (o : Lender) (k : Lease) (n : ℕ) → leased_of (state_of states slab) ≡ Some (o, k) → o.0 < MOST_LENDERS → n ≤ MOST_FLYING
-      → IsSlabs (with_state states slab (drained o k n))
+      → IsSlabs (with_state states slab (drain_to o k n))
   drained_keeps o k n e within le =
       ⊎_elim
       (λ (t : (n == 0) ≡ true).

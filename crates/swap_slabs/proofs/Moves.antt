@@ -15,9 +15,9 @@ use Rattle.swap_slabs.specs.declared.SlabState.{SlabState}
 use Rattle.swap_slabs.specs.declared.SlabState.TheVariants.{Local, Asking, Borrowing, Mapped, Draining}
 use Rattle.swap_slabs.specs.declared.row.Leased.{Leased}
 use Rattle.swap_slabs.specs.declared.TheConstants.{MOST_LENDERS, MOST_FLYING}
-use Rattle.swap_slabs.specs.Slabs.{state_of, with_state, is_local, is_mapped, lender_of, leased_of, is_lender, is_leased_at, is_lease, is_at, has_lease_at, has_lease, flying_of, replied, waits, by_lease}
+use Rattle.swap_slabs.specs.Slabs.{state_of, with_state, is_local, is_mapped, lender_of, leased_of, is_lender, is_leased_at, is_lease, is_at, has_lease_at, has_lease, flying_of, with_reply, waits, by_lease}
 use Rattle.swap_slabs.specs.Kept.{IsSecond, StateFits, IsSlabs}
-use Rattle.swap_slabs.specs.Rows.{LenderRow, has_number, is_entry, without, row_of, one, Puts, SetsBorrowing, borrows_from, RowFits, Fits}
+use Rattle.swap_slabs.specs.Rows.{RowView, has_number, is_entry, without_lease, row_of, one_if, Puts, SetsBorrowing, borrows_from, RowFits, Fits}
 use Rattle.swap_slabs.proofs.Change.{count_after, state_here, state_other, borrowing_same, borrowing_set, slabs_after, fits_same, fits_row, length-without, without-count, entry_of, entry_slab, count_none}
 
 pub local_is : (state : SlabState) → is_local state ≡ true → state ≡ Local
@@ -46,13 +46,13 @@ lender_at state m l e ne = ap (λ o. is_lender m o) e ∙ not_other m l ne
 -- a slab that isn't leased keeps leases as they are
 only_none :
     (states : List SlabState) (before : SlabState) (st : SlabState) → leased_of st ≡ None → (l : Lender) (k : Lease) → has_lease l k st ≡ true
-    → count_by (λ state. has_lease l k state) states ≤ one (has_lease l k before)
+    → count_by (λ state. has_lease l k state) states ≤ one_if (has_lease l k before)
 only_none states before st e l k t = absurd (false≢true (sym (ap (λ o. is_lease l k o) e) ∙ t))
 
 only_same :
     (states : List SlabState) (before : SlabState) (st : SlabState) → IsSlabs states → leased_of st ≡ leased_of before → (l : Lender) (k : Lease)
-    → has_lease l k st ≡ true → count_by (λ state. has_lease l k state) states ≤ one (has_lease l k before)
-only_same states before st h e l k t = omega (arith, h.single l k, ap one (sym (ap (λ o. is_lease l k o) e) ∙ t))
+    → has_lease l k st ≡ true → count_by (λ state. has_lease l k state) states ≤ one_if (has_lease l k before)
+only_same states before st h e l k t = omega (arith, h.single l k, ap one_if (sym (ap (λ o. is_lease l k o) e) ∙ t))
 
 -- a slab becomes one that has no lease
 pub slabs_none :
@@ -68,9 +68,9 @@ slabs_same states slab st lt h fits e = slabs_after states slab st lt h fits (on
 
 -- a slab keeps its lender and its lease
 pub fits_kept :
-    (states : List SlabState) (slab : Slab) (st : SlabState) (table : List LenderRow) (m m' : ℕ) → slab.0 < length states → Fits states table m → StateFits st
+    (states : List SlabState) (slab : Slab) (st : SlabState) (table : List RowView) (m m' : ℕ) → slab.0 < length states → Fits states table m → StateFits st
     → lender_of st ≡ lender_of (state_of states slab) → leased_of st ≡ leased_of (state_of states slab)
-    → m' + one (is_mapped (state_of states slab)) ≡ m + one (is_mapped st) → Fits (with_state states slab st) table m'
+    → m' + one_if (is_mapped (state_of states slab)) ≡ m + one_if (is_mapped st) → Fits (with_state states slab st) table m'
 fits_kept states slab st table m m' lt h fits at leased counted =
     fits_same states slab st lt table m m' h (slabs_same states slab st lt h.slabs fits leased) (λ l. ap (λ o. is_lender l o) (sym at))
     (λ l. ap (λ o. is_leased_at l o) (sym leased)) (λ l k. ap (λ o. is_lease l k o) (sym leased)) counted
@@ -79,11 +79,11 @@ fits_kept states slab st table m m' lt h fits at leased counted =
 leases_same :
     (states : List SlabState) (slab : Slab) (st : SlabState) → slab.0 < length states → (l : Lender) (leases : List Leased)
     → ((k : Lease) → has_lease l k (state_of states slab) ≡ has_lease l k st)
-    → ((k : Lease) (s : Slab) → count_by (λ e. is_entry k s e) leases ≡ one (has_lease l k (state_of states s))) → (k : Lease) (s : Slab)
-    → count_by (λ e. is_entry k s e) leases ≡ one (has_lease l k (state_of (set states slab.0 st) s))
+    → ((k : Lease) (s : Slab) → count_by (λ e. is_entry k s e) leases ≡ one_if (has_lease l k (state_of states s))) → (k : Lease) (s : Slab)
+    → count_by (λ e. is_entry k s e) leases ≡ one_if (has_lease l k (state_of (set states slab.0 st) s))
 leases_same states slab st lt l leases same each k s =
     each k s
-    ∙ ap one
+    ∙ ap one_if
     (⊎_elim (λ e. ap (λ n. has_lease l k (get_or states n Local)) e ∙ same k ∙ sym (ap (λ x. has_lease l k x) (state_here states slab st lt s e)))
     (λ ne. sym (ap (λ x. has_lease l k x) (state_other states slab st lt s ne))) (cases_eq s.0 slab.0))
 
@@ -100,7 +100,7 @@ leased_not l k state leased =
 
 -- a slab that has no lease enters the slabs that borrow, or is taken out
 sets_fits :
-    (states : List SlabState) (slab : Slab) (st : SlabState) (lt : slab.0 < length states) (l : Lender) (before : LenderRow) (now : Bool) (row' : LenderRow)
+    (states : List SlabState) (slab : Slab) (st : SlabState) (lt : slab.0 < length states) (l : Lender) (before : RowView) (now : Bool) (row' : RowView)
     → leased_of (state_of states slab) ≡ None → leased_of st ≡ None → borrows_from l st ≡ now → SetsBorrowing before slab now row' → RowFits states l before
     → RowFits (set states slab.0 st) l row'
 sets_fits states slab st lt l before now row' none none' is sets row =
@@ -111,14 +111,14 @@ sets_fits states slab st lt l before now row' none none' is sets row =
       leases = leases_same states slab st lt l before.leases same row.leases;
       number =
           omega
-          (arith, row.number, count_after states slab st lt (λ state. has_lease_at l state), ap (λ o. one (is_leased_at l o)) (none ∙ sym none'));
+          (arith, row.number, count_after states slab st lt (λ state. has_lease_at l state), ap (λ o. one_if (is_leased_at l o)) (none ∙ sym none'));
       room = omega (arith, row.room, length-set states slab.0 st);
     } in
     subst (λ r. RowFits (set states slab.0 st) l r) (sym sets.rest) put
 
 -- a local slab borrows
 pub borrow_fits :
-    (states : List SlabState) (slab : Slab) (table : List LenderRow) (m : ℕ) (l : Lender) (row' : LenderRow) → slab.0 < length states → Fits states table m
+    (states : List SlabState) (slab : Slab) (table : List RowView) (m : ℕ) (l : Lender) (row' : RowView) → slab.0 < length states → Fits states table m
     → is_local (state_of states slab) ≡ true → l.0 < MOST_LENDERS → SetsBorrowing (row_of table l) slab true row'
     → Fits (with_state states slab (Borrowing l)) (set table l.0 row') m
 borrow_fits states slab table m l row' lt h local within made =
@@ -126,11 +126,11 @@ borrow_fits states slab table m l row' lt h local within made =
     fits_row states slab (Borrowing l) lt table m m l row' h (slabs_none states slab (Borrowing l) lt h.slabs within refl) within
     (λ other ne. (ap (λ x. is_at other x) was, not_other other l ne))
     (sets_fits states slab (Borrowing l) lt l (row_of table l) true row' (ap leased_of was) refl (borrows_is l (Borrowing l) refl refl) made (h.row l within))
-    (omega (arith, ap (λ x. one (is_mapped x)) was))
+    (omega (arith, ap (λ x. one_if (is_mapped x)) was))
 
 -- there is room for one slab more at the lender
 pub borrow_room :
-    (states : List SlabState) (slab : Slab) (table : List LenderRow) (m : ℕ) (l : Lender) → slab.0 < length states → Fits states table m
+    (states : List SlabState) (slab : Slab) (table : List RowView) (m : ℕ) (l : Lender) → slab.0 < length states → Fits states table m
     → is_local (state_of states slab) ≡ true → l.0 < MOST_LENDERS
     → (slab.0 < (row_of table l).room) × (stands (row_of table l).borrowing slab.0 ≡ false)
 borrow_room states slab table m l lt h local within =
@@ -138,18 +138,18 @@ borrow_room states slab table m l lt h local within =
 
 -- a slab that borrows is local again
 pub refuse_fits :
-    (states : List SlabState) (slab : Slab) (table : List LenderRow) (m : ℕ) (l : Lender) (row' : LenderRow) → slab.0 < length states → Fits states table m
+    (states : List SlabState) (slab : Slab) (table : List RowView) (m : ℕ) (l : Lender) (row' : RowView) → slab.0 < length states → Fits states table m
     → state_of states slab ≡ Borrowing l → l.0 < MOST_LENDERS → SetsBorrowing (row_of table l) slab false row'
     → Fits (with_state states slab Local) (set table l.0 row') m
 refuse_fits states slab table m l row' lt h was within made =
     fits_row states slab Local lt table m m l row' h (slabs_none states slab Local lt h.slabs tt refl) within
     (λ other ne. (lender_at (state_of states slab) other l (ap lender_of was) ne, refl))
     (sets_fits states slab Local lt l (row_of table l) false row' (ap leased_of was) refl refl made (h.row l within))
-    (omega (arith, ap (λ x. one (is_mapped x)) was))
+    (omega (arith, ap (λ x. one_if (is_mapped x)) was))
 
 -- a slab that borrows stands in its lender's row
 pub borrowing_there :
-    (states : List SlabState) (slab : Slab) (table : List LenderRow) (m : ℕ) (l : Lender) → Fits states table m → state_of states slab ≡ Borrowing l
+    (states : List SlabState) (slab : Slab) (table : List RowView) (m : ℕ) (l : Lender) → Fits states table m → state_of states slab ≡ Borrowing l
     → l.0 < MOST_LENDERS → stands (row_of table l).borrowing slab.0 ≡ true
 borrowing_there states slab table m l h was within =
     (h.row l within).borrowing slab ∙ borrows_is l (state_of states slab) (ap lender_of was) (ap leased_of was)
@@ -164,7 +164,7 @@ lease_is a b e = let F : ℕ → Lease = λ n. record { 0 = n } in ap F e
 lent_single :
     (states : List SlabState) (slab : Slab) (l : Lender) (k : Lease) (n : ℕ) → position (λ state. has_lease l k state) states ≡ None → (m : Lender) (j : Lease)
     → has_lease m j (Mapped l k n) ≡ true
-    → count_by (λ state. has_lease m j state) states ≤ one (has_lease m j (state_of states slab))
+    → count_by (λ state. has_lease m j state) states ≤ one_if (has_lease m j (state_of states slab))
 lent_single states slab l k n none m j t =
     let parts = and_parts (l.0 == m.0) (k.0 == j.0) t in
     let same_l : m ≡ l = lender_is m l (sym (eqb-true l.0 m.0 parts.0)) in
@@ -192,36 +192,38 @@ and_true false = refl
 lent_entry :
     (states : List SlabState) (slab : Slab) (l : Lender) (k : Lease) (leases : List Leased) (i : ℕ) → slab.0 < length states
     → state_of states slab ≡ Borrowing l
-    → ((j : Lease) (s : Slab) → count_by (λ e. is_entry j s e) leases ≡ one (has_lease l j (state_of states s)))
+    → ((j : Lease) (s : Slab) → count_by (λ e. is_entry j s e) leases ≡ one_if (has_lease l j (state_of states s)))
     → (j : Lease) (s : Slab)
-    → count_by (λ e. is_entry j s e) (insert leases i (record { lease = k; slab = slab })) ≡ one (has_lease l j (state_of (set states slab.0 (Mapped l k 0)) s))
+    → count_by (λ e. is_entry j s e) (insert leases i (record { lease = k; slab = slab }))
+    ≡ one_if (has_lease l j (state_of (set states slab.0 (Mapped l k 0)) s))
 lent_entry states slab l k leases i lt was each j s =
-    let added = sum_by-insert (λ (e : Leased). one (is_entry j s e)) leases i (record { lease = k; slab = slab }) in
+    let added = sum_by-insert (λ (e : Leased). one_if (is_entry j s e)) leases i (record { lease = k; slab = slab }) in
     ⊎_elim
     (λ (e : s.0 ≡ slab.0).
-    let old_ : one (has_lease l j (state_of states s)) ≡ 0 = ap (λ n. one (has_lease l j (get_or states n Local))) e ∙ ap (λ x. one (has_lease l j x)) was in
-    let new_ : one (has_lease l j (state_of (set states slab.0 (Mapped l k 0)) s)) ≡ one (k.0 == j.0) =
-    ap (λ x. one (has_lease l j x)) (state_here states slab (Mapped l k 0) lt s e) ∙ ap (λ b. one (b && (k.0 == j.0))) (is_lender_self l) in
-    let more : one ((k.0 == j.0) && (slab.0 == s.0)) ≡ one (k.0 == j.0) =
-    ap (λ b. one ((k.0 == j.0) && b)) (eq-eqb slab.0 s.0 (sym e)) ∙ ap one (and_true (k.0 == j.0)) in
+    let old_ : one_if (has_lease l j (state_of states s)) ≡ 0 =
+    ap (λ n. one_if (has_lease l j (get_or states n Local))) e ∙ ap (λ x. one_if (has_lease l j x)) was in
+    let new_ : one_if (has_lease l j (state_of (set states slab.0 (Mapped l k 0)) s)) ≡ one_if (k.0 == j.0) =
+    ap (λ x. one_if (has_lease l j x)) (state_here states slab (Mapped l k 0) lt s e) ∙ ap (λ b. one_if (b && (k.0 == j.0))) (is_lender_self l) in
+    let more : one_if ((k.0 == j.0) && (slab.0 == s.0)) ≡ one_if (k.0 == j.0) =
+    ap (λ b. one_if ((k.0 == j.0) && b)) (eq-eqb slab.0 s.0 (sym e)) ∙ ap one_if (and_true (k.0 == j.0)) in
     omega (arith, added, each j s, old_, new_, more))
     (λ (ne : s.0 ≢ slab.0).
-    let new_ : one (has_lease l j (state_of (set states slab.0 (Mapped l k 0)) s)) ≡ one (has_lease l j (state_of states s)) =
-    ap (λ x. one (has_lease l j x)) (state_other states slab (Mapped l k 0) lt s ne) in
-    let more : one ((k.0 == j.0) && (slab.0 == s.0)) ≡ 0 = ap one (and_right (k.0 == j.0) (slab.0 == s.0) (ne_eqb slab.0 s.0 (λ e. ne (sym e)))) in
+    let new_ : one_if (has_lease l j (state_of (set states slab.0 (Mapped l k 0)) s)) ≡ one_if (has_lease l j (state_of states s)) =
+    ap (λ x. one_if (has_lease l j x)) (state_other states slab (Mapped l k 0) lt s ne) in
+    let more : one_if ((k.0 == j.0) && (slab.0 == s.0)) ≡ 0 = ap one_if (and_right (k.0 == j.0) (slab.0 == s.0) (ne_eqb slab.0 s.0 (λ e. ne (sym e)))) in
     omega (arith, added, each j s, new_, more))
     (cases_eq s.0 slab.0)
 
 pub lent_fits :
-    (states : List SlabState) (slab : Slab) (table : List LenderRow) (m : ℕ) (l : Lender) (k : Lease) (mid row' : LenderRow) → slab.0 < length states
+    (states : List SlabState) (slab : Slab) (table : List RowView) (m : ℕ) (l : Lender) (k : Lease) (mid row' : RowView) → slab.0 < length states
     → Fits states table m → state_of states slab ≡ Borrowing l → l.0 < MOST_LENDERS → by_lease states l k ≡ None
     → SetsBorrowing (row_of table l) slab false mid → Puts mid (record { lease = k; slab = slab }) row'
     → Fits (with_state states slab (Mapped l k 0)) (set table l.0 row') (m + 1)
 lent_fits states slab table m l k mid row' lt h was within new sets (i, le, made) =
     let row : RowFits states l (row_of table l) = h.row l within in
-    let same : mid.leases ≡ (row_of table l).leases = ap (λ (r : LenderRow). r.leases) sets.rest in
-    let room_ : mid.room ≡ (row_of table l).room = ap (λ (r : LenderRow). r.room) sets.rest in
-    let P : LenderRow → Type 0 = λ r. Fits (with_state states slab (Mapped l k 0)) (set table l.0 r) (m + 1) in
+    let same : mid.leases ≡ (row_of table l).leases = ap (λ (r : RowView). r.leases) sets.rest in
+    let room_ : mid.room ≡ (row_of table l).room = ap (λ (r : RowView). r.room) sets.rest in
+    let P : RowView → Type 0 = λ r. Fits (with_state states slab (Mapped l k 0)) (set table l.0 r) (m + 1) in
     subst P (sym made)
     (fits_row states slab (Mapped l k 0) lt table m (m + 1) l (record mid { leases = insert mid.leases i (record { lease = k; slab = slab }) }) h
     (lent_slabs states slab l k lt h.slabs within new) within
@@ -238,16 +240,16 @@ lent_fits states slab table m l k mid row' lt h was within new sets (i, le, made
             row.number,
             ap length same,
             count_after states slab (Mapped l k 0) lt (λ state. has_lease_at l state),
-            ap (λ x. one (has_lease_at l x)) was,
-            ap one (is_lender_self l),
+            ap (λ x. one_if (has_lease_at l x)) was,
+            ap one_if (is_lender_self l),
             length-insert mid.leases i (record { lease = k; slab = slab }) le,
           );
       room = omega (arith, row.room, room_, length-set states slab.0 (Mapped l k 0));
     })
-    (omega (arith, ap (λ x. one (is_mapped x)) was)))
+    (omega (arith, ap (λ x. one_if (is_mapped x)) was)))
 
 pub lent_room :
-    (states : List SlabState) (slab : Slab) (table : List LenderRow) (m : ℕ) (l : Lender) (k : Lease) → slab.0 < length states → Fits states table m
+    (states : List SlabState) (slab : Slab) (table : List RowView) (m : ℕ) (l : Lender) (k : Lease) → slab.0 < length states → Fits states table m
     → state_of states slab ≡ Borrowing l → l.0 < MOST_LENDERS
     → (length (row_of table l).leases < (row_of table l).room) × (m + 1 < 2 ^ 32)
 lent_room states slab table m l k lt h was within =
@@ -257,8 +259,8 @@ lent_room states slab table m l k lt h was within =
         row.number,
         row.room,
         count_after states slab (Mapped l k 0) lt (λ state. has_lease_at l state),
-        ap (λ x. one (has_lease_at l x)) was,
-        ap one (is_lender_self l),
+        ap (λ x. one_if (has_lease_at l x)) was,
+        ap one_if (is_lender_self l),
         count_by-le-length (λ state. has_lease_at l state) (with_state states slab (Mapped l k 0)),
         length-set states slab.0 (Mapped l k 0),
       ),
@@ -267,14 +269,14 @@ lent_room states slab table m l k lt h was within =
         h.mapped,
         h.few,
         count_after states slab (Mapped l k 0) lt is_mapped,
-        ap (λ x. one (is_mapped x)) was,
+        ap (λ x. one_if (is_mapped x)) was,
         count_by-le-length is_mapped (with_state states slab (Mapped l k 0)),
         length-set states slab.0 (Mapped l k 0),
       ),
     )
 
 -- a slab that has a lease gives it up
-module _ (states : List SlabState) (slab : Slab) (table : List LenderRow) (m m' : ℕ) (l : Lender) (k : Lease) (lt : slab.0 < length states)
+module _ (states : List SlabState) (slab : Slab) (table : List RowView) (m m' : ℕ) (l : Lender) (k : Lease) (lt : slab.0 < length states)
     (h : Fits states table m) (was : leased_of (state_of states slab) ≡ Some (l, k)) (within : l.0 < MOST_LENDERS) where
   here_lease : has_lease l k (state_of states slab) ≡ true
   here_lease = ap (λ o. is_lease l k o) was ∙ and_from (l.0 == l.0) (k.0 == k.0) (eq-eqb l.0 l.0 refl) (eq-eqb k.0 k.0 refl)
@@ -284,7 +286,7 @@ module _ (states : List SlabState) (slab : Slab) (table : List LenderRow) (m m' 
 
   given_leases :
       (e : Leased) → find (has_number k) (row_of table l).leases ≡ Some e → (j : Lease) (s : Slab)
-      → count_by (λ x. is_entry j s x) (without k (row_of table l).leases) ≡ one (has_lease l j (state_of (set states slab.0 Local) s))
+      → count_by (λ x. is_entry j s x) (without_lease k (row_of table l).leases) ≡ one_if (has_lease l j (state_of (set states slab.0 Local) s))
   given_leases e found j s =
       let row : RowFits states l (row_of table l) = h.row l within in
       let which_ = entry_slab states l (row_of table l) k slab e h.slabs row here_lease found in
@@ -292,28 +294,29 @@ module _ (states : List SlabState) (slab : Slab) (table : List LenderRow) (m m' 
       let number : e.lease.0 ≡ k.0 = eqb-true e.lease.0 k.0 which_.1 in
       ⊎_elim
       (λ (same : s.0 ≡ slab.0).
-      let new_ : one (has_lease l j (state_of (set states slab.0 Local) s)) ≡ 0 = ap (λ x. one (has_lease l j x)) (state_here states slab Local lt s same) in
-      let old_ : one (has_lease l j (state_of states s)) ≡ one (k.0 == j.0) =
-      ap (λ n. one (has_lease l j (get_or states n Local))) same ∙ ap (λ o. one (is_lease l j o)) was
-      ∙ ap (λ b. one (b && (k.0 == j.0))) (eq-eqb l.0 l.0 refl) in
-      let it : one (is_entry j s e) ≡ one (k.0 == j.0) =
-      ap (λ n. one ((n == j.0) && (e.slab.0 == s.0))) number ∙ ap (λ b. one ((k.0 == j.0) && b)) (eq-eqb e.slab.0 s.0 (which_.0 ∙ sym same))
-      ∙ ap one (and_true (k.0 == j.0)) in
+      let new_ : one_if (has_lease l j (state_of (set states slab.0 Local) s)) ≡ 0 =
+      ap (λ x. one_if (has_lease l j x)) (state_here states slab Local lt s same) in
+      let old_ : one_if (has_lease l j (state_of states s)) ≡ one_if (k.0 == j.0) =
+      ap (λ n. one_if (has_lease l j (get_or states n Local))) same ∙ ap (λ o. one_if (is_lease l j o)) was
+      ∙ ap (λ b. one_if (b && (k.0 == j.0))) (eq-eqb l.0 l.0 refl) in
+      let it : one_if (is_entry j s e) ≡ one_if (k.0 == j.0) =
+      ap (λ n. one_if ((n == j.0) && (e.slab.0 == s.0))) number ∙ ap (λ b. one_if ((k.0 == j.0) && b)) (eq-eqb e.slab.0 s.0 (which_.0 ∙ sym same))
+      ∙ ap one_if (and_true (k.0 == j.0)) in
       omega (arith, gone, row.leases j s, new_, old_, it))
       (λ (ne : s.0 ≢ slab.0).
-      let new_ : one (has_lease l j (state_of (set states slab.0 Local) s)) ≡ one (has_lease l j (state_of states s)) =
-      ap (λ x. one (has_lease l j x)) (state_other states slab Local lt s ne) in
-      let it : one (is_entry j s e) ≡ 0 = ap one (and_right (e.lease.0 == j.0) (e.slab.0 == s.0) (ne_eqb e.slab.0 s.0 (λ x. ne (sym x ∙ which_.0)))) in
+      let new_ : one_if (has_lease l j (state_of (set states slab.0 Local) s)) ≡ one_if (has_lease l j (state_of states s)) =
+      ap (λ x. one_if (has_lease l j x)) (state_other states slab Local lt s ne) in
+      let it : one_if (is_entry j s e) ≡ 0 = ap one_if (and_right (e.lease.0 == j.0) (e.slab.0 == s.0) (ne_eqb e.slab.0 s.0 (λ x. ne (sym x ∙ which_.0)))) in
       omega (arith, gone, row.leases j s, new_, it))
       (cases_eq s.0 slab.0)
 
   given_row :
       (o : Option Leased) → find (has_number k) (row_of table l).leases ≡ o → IsSome o
-      → RowFits (set states slab.0 Local) l (record (row_of table l) { leases = without k (row_of table l).leases })
+      → RowFits (set states slab.0 Local) l (record (row_of table l) { leases = without_lease k (row_of table l).leases })
   given_row None found some = absurd (false≢true some)
   given_row (Some e) found some =
       let row : RowFits states l (row_of table l) = h.row l within in
-      let leased_l : one (has_lease_at l (state_of states slab)) ≡ 1 = ap (λ o. one (is_leased_at l o)) was ∙ ap one (is_lender_self l) in
+      let leased_l : one_if (has_lease_at l (state_of states slab)) ≡ 1 = ap (λ o. one_if (is_leased_at l o)) was ∙ ap one_if (is_lender_self l) in
       record {
         borrowing = borrowing_same states slab Local lt l (row_of table l).borrowing (leased_not l k (state_of states slab) was) row.borrowing;
         leases = given_leases e found;
@@ -324,12 +327,12 @@ module _ (states : List SlabState) (slab : Slab) (table : List LenderRow) (m m' 
       }
 
   pub given_fits :
-      (row' : LenderRow) → row' ≡ record (row_of table l) { leases = without k (row_of table l).leases }
-      → m' + one (is_mapped (state_of states slab)) ≡ m → Fits (with_state states slab Local) (set table l.0 row') m'
+      (row' : RowView) → row' ≡ record (row_of table l) { leases = without_lease k (row_of table l).leases }
+      → m' + one_if (is_mapped (state_of states slab)) ≡ m → Fits (with_state states slab Local) (set table l.0 row') m'
   given_fits row' made counted =
-      let P : LenderRow → Type 0 = λ r. Fits (with_state states slab Local) (set table l.0 r) m' in
+      let P : RowView → Type 0 = λ r. Fits (with_state states slab Local) (set table l.0 r) m' in
       subst P (sym made)
-      (fits_row states slab Local lt table m m' l (record (row_of table l) { leases = without k (row_of table l).leases }) h
+      (fits_row states slab Local lt table m m' l (record (row_of table l) { leases = without_lease k (row_of table l).leases }) h
       (slabs_none states slab Local lt h.slabs tt refl) within
       (λ other ne. (lender_at (state_of states slab) other l (leased_lender (state_of states slab) l k was) ne, refl))
       (given_row (find (has_number k) (row_of table l).leases) refl lease_found) (omega (arith, counted)))
@@ -346,14 +349,14 @@ leased_range (Draining lender lease flying) l k fits e =
     let same : lender.0 ≡ l.0 = ap (λ (x : Lender × Lease). x.0.0) (some_is (lender, lease) (l, k) e) in (omega (arith, same, fits.0), fits.2)
 
 pub mapped_some :
-    (states : List SlabState) (slab : Slab) (table : List LenderRow) (m : ℕ) → slab.0 < length states → Fits states table m
-    → one (is_mapped (state_of states slab)) ≤ m
-mapped_some states slab table m lt h = omega (arith, h.mapped, get_or-le-sum_by (λ (x : SlabState). one (is_mapped x)) states slab.0 Local lt)
+    (states : List SlabState) (slab : Slab) (table : List RowView) (m : ℕ) → slab.0 < length states → Fits states table m
+    → one_if (is_mapped (state_of states slab)) ≤ m
+mapped_some states slab table m lt h = omega (arith, h.mapped, get_or-le-sum_by (λ (x : SlabState). one_if (is_mapped x)) states slab.0 Local lt)
 
 pub drain_fits :
-    (states : List SlabState) (slab : Slab) (table : List LenderRow) (m m' : ℕ) (l : Lender) (k : Lease) (n : ℕ) → slab.0 < length states → Fits states table m
+    (states : List SlabState) (slab : Slab) (table : List RowView) (m m' : ℕ) (l : Lender) (k : Lease) (n : ℕ) → slab.0 < length states → Fits states table m
     → leased_of (state_of states slab) ≡ Some (l, k) → 1 ≤ n → n ≤ flying_of (state_of states slab)
-    → m' + one (is_mapped (state_of states slab)) ≡ m → Fits (with_state states slab (Draining l k n)) table m'
+    → m' + one_if (is_mapped (state_of states slab)) ≡ m → Fits (with_state states slab (Draining l k n)) table m'
 drain_fits states slab table m m' l k n lt h was some le counted =
     let range = leased_range (state_of states slab) l k (h.slabs.fits slab) was in
     fits_kept states slab (Draining l k n) table m m' lt h (range.0, some, omega (arith, le, range.1)) (sym (leased_lender (state_of states slab) l k was))
@@ -361,23 +364,23 @@ drain_fits states slab table m m' l k n lt h was some le counted =
 
 -- the pair of a slab that asks
 pub asked_fits :
-    (states : List SlabState) (slab : Slab) (table : List LenderRow) (m : ℕ) (st : SlabState) → slab.0 < length states → Fits states table m → StateFits st
+    (states : List SlabState) (slab : Slab) (table : List RowView) (m : ℕ) (st : SlabState) → slab.0 < length states → Fits states table m → StateFits st
     → lender_of (state_of states slab) ≡ None → leased_of (state_of states slab) ≡ None → is_mapped (state_of states slab) ≡ false
     → lender_of st ≡ None → leased_of st ≡ None → is_mapped st ≡ false → Fits (with_state states slab st) table m
 asked_fits states slab table m st lt h fits at leased unmapped at' leased' unmapped' =
-    fits_kept states slab st table m m lt h fits (at' ∙ sym at) (leased' ∙ sym leased) (omega (arith, ap one unmapped, ap one unmapped'))
+    fits_kept states slab st table m m lt h fits (at' ∙ sym at) (leased' ∙ sym leased) (omega (arith, ap one_if unmapped, ap one_if unmapped'))
 
 pub replied_fits :
     (pair : Pair) (l : Lender) (reply : Reply) → (pair.first.0 < MOST_LENDERS) × IsSecond pair.first pair.second × (waits pair ≡ true)
-    → waits (replied pair l reply) ≡ true → StateFits (Asking (replied pair l reply))
+    → waits (with_reply pair l reply) ≡ true → StateFits (Asking (with_reply pair l reply))
 replied_fits pair l reply fits waiting =
     ⊎_elim
     (λ (t : (pair.first.0 == l.0) ≡ true).
-    let same : replied pair l reply ≡ record pair { one = reply } =
+    let same : with_reply pair l reply ≡ record pair { one = reply } =
     cond-true (pair.first.0 == l.0) (record pair { one = reply }) (record pair { two = reply }) t in
     subst (λ p. StateFits (Asking p)) (sym same) (fits.0, fits.1, ap waits (sym same) ∙ waiting))
     (λ (t : (pair.first.0 == l.0) ≡ false).
-    let same : replied pair l reply ≡ record pair { two = reply } =
+    let same : with_reply pair l reply ≡ record pair { two = reply } =
     cond-false (pair.first.0 == l.0) (record pair { one = reply }) (record pair { two = reply }) t in
     subst (λ p. StateFits (Asking p)) (sym same) (fits.0, fits.1, ap waits (sym same) ∙ waiting))
     (cases_Bool (pair.first.0 == l.0))

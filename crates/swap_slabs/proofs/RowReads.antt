@@ -14,10 +14,10 @@ use Rattle.swap_slabs.specs.declared.SlabState.TheVariants.{Local}
 use Rattle.swap_slabs.specs.declared.row.Leased.{Leased}
 use Rattle.swap_slabs.specs.Slabs.{state_of}
 use Rattle.swap_slabs.specs.declared.TheConstants.{MOST_LENDERS}
-use Rattle.swap_slabs.specs.Rows.{LenderRow, new_row, has_number, without, slab_in, number_of, Ascend, IsPlace, row_of, Fits}
+use Rattle.swap_slabs.specs.Rows.{RowView, new_row, has_number, without_lease, slab_in, number_of, Ascend, IsPlace, row_of, Fits}
 
 pub row_read :
-    (states : List SlabState) (table : List LenderRow) (m : ℕ) (l : Lender) → Fits states table m → l.0 < MOST_LENDERS → (row : LenderRow)
+    (states : List SlabState) (table : List RowView) (m : ℕ) (l : Lender) → Fits states table m → l.0 < MOST_LENDERS → (row : RowView)
     → row ≡ get_or table l.0 row → row ≡ row_of table l
 row_read states table m l h within row e = get_or_read table l.0 row (omega (arith, h.rows, within)) e (new_row 0)
 
@@ -58,14 +58,14 @@ place_some k xs some = place_of k xs (position (has_number k) xs) refl some
 
 without_at :
     (k : Lease) (xs : List Leased) (i : ℕ) (d : Leased) → i < length xs → has_number k (get_or xs i d) ≡ true
-    → ((j : ℕ) → j < i → has_number k (get_or xs j d) ≡ false) → remove xs i ≡ without k xs
+    → ((j : ℕ) → j < i → has_number k (get_or xs j d) ≡ false) → remove xs i ≡ without_lease k xs
 without_at k [] i d lt here before = absurd (omega arith)
-without_at k (x ∷ xs) zero d lt here before = sym (cond-true (has_number k x) xs (x ∷ without k xs) here)
+without_at k (x ∷ xs) zero d lt here before = sym (cond-true (has_number k x) xs (x ∷ without_lease k xs) here)
 without_at k (x ∷ xs) (suc i) d lt here before =
     ap (λ l. x ∷ l) (without_at k xs i d (omega arith) here (λ j lt'. before (suc j) (omega arith)))
-    ∙ sym (cond-false (has_number k x) xs (x ∷ without k xs) (before 0 (omega arith)))
+    ∙ sym (cond-false (has_number k x) xs (x ∷ without_lease k xs) (before 0 (omega arith)))
 
-pub removed_is : (k : Lease) (xs : List Leased) (i : ℕ) (d : Leased) → position (has_number k) xs ≡ Some i → remove xs i ≡ without k xs
+pub removed_is : (k : Lease) (xs : List Leased) (i : ℕ) (d : Leased) → position (has_number k) xs ≡ Some i → remove xs i ≡ without_lease k xs
 removed_is k xs i d e = let at = position-Some (has_number k) xs i d e in without_at k xs i d at.0 at.1 at.2
 
 -- the first of ascending leases that isn't below this one is its place

@@ -7,7 +7,7 @@ use Rattle.swap_slabs.specs.declared.Reply.{Reply}
 use Rattle.swap_slabs.specs.declared.SlabState.{SlabState}
 use Rattle.swap_slabs.specs.declared.SlabState.TheVariants.{Local, Asking, Borrowing, Mapped, Draining}
 use Rattle.swap_slabs.specs.declared.TheConstants.{MOST_LENDERS, MOST_FLYING}
-use Rattle.swap_slabs.specs.Slabs.{all_local, state_of, with_state, has_lease, is_borrowing, asks, waits, flying_of, asked, answered, borrowed, lent, refused, begun, settled, evicted, lost, by_lease}
+use Rattle.swap_slabs.specs.Slabs.{all_local, state_of, with_state, has_lease, is_borrowing, asks, waits, flying_of, asked_after, answered_after, borrowed_after, lent_after, refused_after, begun_after, settled_after, evicted_after, lost_after, by_lease}
 
 -- a second lender is another one, and where there is none no reply of it is waited for
 abbrev pub IsSecond : Lender → Option Lender → Type 0
@@ -51,40 +51,44 @@ AllLocalKeeps = (slabs : ℕ) → IsSlabs (all_local slabs)
 abbrev pub AskKeeps : Type 0
 AskKeeps =
     (states : List SlabState) (slab : Slab) (first : Lender) (second : Option Lender) → IsSlabs states
-    → slab.0 < length states → first.0 < MOST_LENDERS → IsSecond first second → IsSlabs (asked states slab first second)
+    → slab.0 < length states → first.0 < MOST_LENDERS → IsSecond first second
+    → IsSlabs (asked_after states slab first second)
 
 abbrev pub AnswerKeeps : Type 0
 AnswerKeeps =
     (states : List SlabState) (slab : Slab) (lender : Lender) (reply : Reply) → IsSlabs states → slab.0 < length states
-    → asks lender (state_of states slab) ≡ true → IsSlabs (answered states slab lender reply)
+    → asks lender (state_of states slab) ≡ true → IsSlabs (answered_after states slab lender reply)
 
 abbrev pub BorrowKeeps : Type 0
 BorrowKeeps =
     (states : List SlabState) (slab : Slab) (lender : Lender) → IsSlabs states → slab.0 < length states
-    → lender.0 < MOST_LENDERS → IsSlabs (borrowed states slab lender)
+    → lender.0 < MOST_LENDERS → IsSlabs (borrowed_after states slab lender)
 
 abbrev pub LentKeeps : Type 0
 LentKeeps =
     (states : List SlabState) (slab : Slab) (lease : Lease) → IsSlabs states → slab.0 < length states
     → is_borrowing (state_of states slab) ≡ true → IsNew states (state_of states slab) lease
-    → IsSlabs (lent states slab lease)
+    → IsSlabs (lent_after states slab lease)
 
 abbrev pub RefusedKeeps : Type 0
 RefusedKeeps =
-    (states : List SlabState) (slab : Slab) → IsSlabs states → slab.0 < length states → IsSlabs (refused states slab)
+    (states : List SlabState) (slab : Slab) → IsSlabs states → slab.0 < length states
+    → IsSlabs (refused_after states slab)
 
 abbrev pub BeginKeeps : Type 0
 BeginKeeps =
     (states : List SlabState) (slab : Slab) → IsSlabs states → slab.0 < length states
-    → flying_of (state_of states slab) < MOST_FLYING → IsSlabs (begun states slab)
+    → flying_of (state_of states slab) < MOST_FLYING → IsSlabs (begun_after states slab)
 
 abbrev pub SettledKeeps : Type 0
 SettledKeeps =
-    (states : List SlabState) (slab : Slab) → IsSlabs states → slab.0 < length states → IsSlabs (settled states slab)
+    (states : List SlabState) (slab : Slab) → IsSlabs states → slab.0 < length states
+    → IsSlabs (settled_after states slab)
 
 abbrev pub EvictKeeps : Type 0
 EvictKeeps =
-    (states : List SlabState) (slab : Slab) → IsSlabs states → slab.0 < length states → IsSlabs (evicted states slab)
+    (states : List SlabState) (slab : Slab) → IsSlabs states → slab.0 < length states
+    → IsSlabs (evicted_after states slab)
 
 abbrev pub LostKeeps : Type 0
-LostKeeps = (states : List SlabState) (lender : Lender) → IsSlabs states → IsSlabs (lost states lender)
+LostKeeps = (states : List SlabState) (lender : Lender) → IsSlabs states → IsSlabs (lost_after states lender)

@@ -100,8 +100,8 @@ asked_of (Some lender) = Waiting
 abbrev pub pair_of : Lender → Option Lender → Pair
 pair_of first second = record { first = first; second = second; one = Waiting; two = asked_of second }
 
-abbrev pub asked : List SlabState → Slab → Lender → Option Lender → List SlabState
-asked states slab first second = with_state states slab (Asking (pair_of first second))
+abbrev pub asked_after : List SlabState → Slab → Lender → Option Lender → List SlabState
+asked_after states slab first second = with_state states slab (Asking (pair_of first second))
 
 abbrev pub is_waiting : Reply → Bool
 is_waiting Waiting = true
@@ -124,8 +124,8 @@ asks lender (Mapped other lease flying) = false
 asks lender (Draining other lease flying) = false
 
 -- the pair with this lender's reply
-abbrev pub replied : Pair → Lender → Reply → Pair
-replied pair lender reply =
+abbrev pub with_reply : Pair → Lender → Reply → Pair
+with_reply pair lender reply =
     if pair.first.0 == lender.0 then record pair { one = reply } else record pair { two = reply }
 
 -- how many slots a lender told to be free
@@ -153,23 +153,23 @@ answered_choice pair = if waits pair then None else Some (choice pair)
 
 abbrev pub after_answer : SlabState → Lender → Reply → SlabState
 after_answer Local lender reply = Local
-after_answer (Asking pair) lender reply = answered_state (replied pair lender reply)
+after_answer (Asking pair) lender reply = answered_state (with_reply pair lender reply)
 after_answer (Borrowing other) lender reply = Borrowing other
 after_answer (Mapped other lease flying) lender reply = Mapped other lease flying
 after_answer (Draining other lease flying) lender reply = Draining other lease flying
 
 abbrev pub answer_choice : SlabState → Lender → Reply → Option Chosen
 answer_choice Local lender reply = None
-answer_choice (Asking pair) lender reply = answered_choice (replied pair lender reply)
+answer_choice (Asking pair) lender reply = answered_choice (with_reply pair lender reply)
 answer_choice (Borrowing other) lender reply = None
 answer_choice (Mapped other lease flying) lender reply = None
 answer_choice (Draining other lease flying) lender reply = None
 
-abbrev pub answered : List SlabState → Slab → Lender → Reply → List SlabState
-answered states slab lender reply = with_state states slab (after_answer (state_of states slab) lender reply)
+abbrev pub answered_after : List SlabState → Slab → Lender → Reply → List SlabState
+answered_after states slab lender reply = with_state states slab (after_answer (state_of states slab) lender reply)
 
-abbrev pub borrowed : List SlabState → Slab → Lender → List SlabState
-borrowed states slab lender = with_state states slab (Borrowing lender)
+abbrev pub borrowed_after : List SlabState → Slab → Lender → List SlabState
+borrowed_after states slab lender = with_state states slab (Borrowing lender)
 
 -- a slab that borrows is mapped with nothing flying
 abbrev pub after_lent : SlabState → Lease → SlabState
@@ -179,11 +179,11 @@ after_lent (Borrowing lender) lease = Mapped lender lease 0
 after_lent (Mapped lender other flying) lease = Mapped lender other flying
 after_lent (Draining lender other flying) lease = Draining lender other flying
 
-abbrev pub lent : List SlabState → Slab → Lease → List SlabState
-lent states slab lease = with_state states slab (after_lent (state_of states slab) lease)
+abbrev pub lent_after : List SlabState → Slab → Lease → List SlabState
+lent_after states slab lease = with_state states slab (after_lent (state_of states slab) lease)
 
-abbrev pub refused : List SlabState → Slab → List SlabState
-refused states slab = with_state states slab Local
+abbrev pub refused_after : List SlabState → Slab → List SlabState
+refused_after states slab = with_state states slab Local
 
 -- one request more flies for a mapped slab
 abbrev pub after_begin : SlabState → SlabState
@@ -193,12 +193,12 @@ after_begin (Borrowing lender) = Borrowing lender
 after_begin (Mapped lender lease flying) = Mapped lender lease (flying + 1)
 after_begin (Draining lender lease flying) = Draining lender lease flying
 
-abbrev pub begun : List SlabState → Slab → List SlabState
-begun states slab = with_state states slab (after_begin (state_of states slab))
+abbrev pub begun_after : List SlabState → Slab → List SlabState
+begun_after states slab = with_state states slab (after_begin (state_of states slab))
 
 -- a slab that drains is local, and its lease is given, once nothing flies
-abbrev pub drained : Lender → Lease → ℕ → SlabState
-drained lender lease flying = if flying == 0 then Local else Draining lender lease flying
+abbrev pub drain_to : Lender → Lease → ℕ → SlabState
+drain_to lender lease flying = if flying == 0 then Local else Draining lender lease flying
 
 abbrev pub given_at : Lease → ℕ → Option Lease
 given_at lease flying = if flying == 0 then Some lease else None
@@ -209,7 +209,7 @@ after_settled Local = Local
 after_settled (Asking pair) = Asking pair
 after_settled (Borrowing lender) = Borrowing lender
 after_settled (Mapped lender lease flying) = Mapped lender lease (flying - 1)
-after_settled (Draining lender lease flying) = drained lender lease (flying - 1)
+after_settled (Draining lender lease flying) = drain_to lender lease (flying - 1)
 
 abbrev pub settled_lease : SlabState → Option Lease
 settled_lease Local = None
@@ -218,15 +218,15 @@ settled_lease (Borrowing lender) = None
 settled_lease (Mapped lender lease flying) = None
 settled_lease (Draining lender lease flying) = given_at lease (flying - 1)
 
-abbrev pub settled : List SlabState → Slab → List SlabState
-settled states slab = with_state states slab (after_settled (state_of states slab))
+abbrev pub settled_after : List SlabState → Slab → List SlabState
+settled_after states slab = with_state states slab (after_settled (state_of states slab))
 
 -- a mapped slab is taken back: it drains
 abbrev pub after_evict : SlabState → SlabState
 after_evict Local = Local
 after_evict (Asking pair) = Asking pair
 after_evict (Borrowing lender) = Borrowing lender
-after_evict (Mapped lender lease flying) = drained lender lease flying
+after_evict (Mapped lender lease flying) = drain_to lender lease flying
 after_evict (Draining lender lease flying) = Draining lender lease flying
 
 abbrev pub evicted_lease : SlabState → Option Lease
@@ -236,15 +236,15 @@ evicted_lease (Borrowing lender) = None
 evicted_lease (Mapped lender lease flying) = given_at lease flying
 evicted_lease (Draining lender lease flying) = None
 
-abbrev pub evicted : List SlabState → Slab → List SlabState
-evicted states slab = with_state states slab (after_evict (state_of states slab))
+abbrev pub evicted_after : List SlabState → Slab → List SlabState
+evicted_after states slab = with_state states slab (after_evict (state_of states slab))
 
 -- a lender is lost: its slabs are local
 abbrev pub after_lost : Lender → SlabState → SlabState
 after_lost lender state = if is_at lender state then Local else state
 
-abbrev pub lost : List SlabState → Lender → List SlabState
-lost states lender = map (λ state. after_lost lender state) states
+abbrev pub lost_after : List SlabState → Lender → List SlabState
+lost_after states lender = map (λ state. after_lost lender state) states
 
 -- the lender holds a slab
 abbrev pub holds : List SlabState → Lender → Bool
@@ -256,5 +256,5 @@ by_lease states lender lease =
     option_map (λ (n : ℕ). record { 0 = n }) (position (λ state. has_lease lender lease state) states)
 
 -- how many slabs are mapped
-abbrev pub mapped : List SlabState → ℕ
-mapped states = count_by is_mapped states
+abbrev pub mapped_count : List SlabState → ℕ
+mapped_count states = count_by is_mapped states

@@ -1,6 +1,6 @@
 ghost use Rattle.std.specs.Prelude.{◌≡◌, ℕ, ◌<◌, ◌≤◌, ◌^◌, true, false, length, IfOk, IsSome, find, position};
 ghost use Rattle.swap_places.specs.Line.{stands};
-ghost use Rattle.swap_slabs.specs.Rows.{new_row, has_number, without, slab_in, slab_of_row, Ascend, IsPlace, Puts, SetsBorrowing};
+ghost use Rattle.swap_slabs.specs.Rows.{new_row, has_number, without_lease, slab_in, slab_of_row, Ascend, IsPlace, Puts, SetsBorrowing};
 
 use std::alloc::Global;
 use std::marker::Model;
@@ -26,9 +26,9 @@ pub(crate) struct Row {
 
 impl Model for Row {
     ghost use Rattle.std.specs.Prelude.{◌≡◌, ◌≤◌, vec_capacity};
-    ghost use Rattle.swap_slabs.specs.Rows.{LenderRow, Ascend};
+    ghost use Rattle.swap_slabs.specs.Rows.{RowView, Ascend};
 
-    ghost Value = { LenderRow };
+    ghost Value = { RowView };
 
     ghost view = { λ r.
         record { borrowing = r.borrowing.numbers; leases = r.leases.items; room = r.room } };
@@ -95,7 +95,7 @@ impl Row {
     /// A slab no longer has its lease.
     pub(crate) fn give_up(&mut self, lease: Lease)
         requires { IsSome (find (has_number lease) self.old.leases) }
-        ensures { self.new ≡ record self.old { leases = without lease self.old.leases } }
+        ensures { self.new ≡ record self.old { leases = without_lease lease self.old.leases } }
     {
         let place = place_of(&self.leases, lease).unwrap();
         self.leases.remove(place);

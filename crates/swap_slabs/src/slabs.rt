@@ -1,7 +1,7 @@
 ghost use Rattle.std.specs.Prelude.{◌≡◌, ℕ, ◌+◌, ◌<◌, ◌≤◌, false, length, IfOk, IfSome, IsSome, IsTrue, is_some, Some, None, replicate};
-ghost use Rattle.swap_slabs.specs.Slabs.{all_local, state_of, with_state, is_local, is_borrowing, is_mapped, is_at, lender_of, leased_of, flying_of, asks, is_waiting, replied, waits, free_in, choice, pair_of, asked, answered, answer_choice, borrowed, lent, refused, begun, drained, given_at, settled, settled_lease, evicted, evicted_lease, holds, by_lease, mapped};
+ghost use Rattle.swap_slabs.specs.Slabs.{all_local, state_of, with_state, is_local, is_borrowing, is_mapped, is_at, lender_of, leased_of, flying_of, asks, is_waiting, with_reply, waits, free_in, choice, pair_of, asked_after, answered_after, answer_choice, borrowed_after, lent_after, refused_after, begun_after, drain_to, given_at, settled_after, settled_lease, evicted_after, evicted_lease, holds, by_lease, mapped_count};
 ghost use Rattle.swap_slabs.specs.Kept.{IsSlabs, IsSecond, IsNew};
-ghost use Rattle.swap_slabs.specs.Rows.{new_row, one};
+ghost use Rattle.swap_slabs.specs.Rows.{new_row, one_if};
 
 use crate::row::{Leased, Row};
 use crate::{Chosen, MOST_FLYING, MOST_LENDERS, Pair, Reply, SlabState};
@@ -44,7 +44,7 @@ fn make_rows(alloc: Global, room: u32) -> Result<Vec<Row>, NoMemory>
 
 /// The pair with this lender's reply.
 fn replied(pair: Pair, lender: Lender, reply: Reply) -> Pair
-    ensures { result ≡ replied pair lender reply }
+    ensures { result ≡ with_reply pair lender reply }
 {
     if pair.first.0 == lender.0 {
         Pair { one: reply, ..pair }
@@ -88,8 +88,8 @@ fn choice(pair: Pair) -> Chosen
 
 /// The number of mapped slabs without this one.
 fn fewer(mapped: u32, state: SlabState) -> u32
-    requires { one (is_mapped state) ≤ mapped }
-    ensures { result + one (is_mapped state) ≡ mapped }
+    requires { one_if (is_mapped state) ≤ mapped }
+    ensures { result + one_if (is_mapped state) ≡ mapped }
 {
     match state {
         SlabState::Mapped { .. } => mapped - 1,
@@ -133,7 +133,7 @@ impl Slabs {
         requires state { IsTrue (is_local (state_of self.old slab)) }
         requires first { first.0 < MOST_LENDERS }
         requires second { IsSecond first second }
-        ensures { self.new ≡ asked self.old slab first second }
+        ensures { self.new ≡ asked_after self.old slab first second }
     {
         let two = match second {
             Some(_) => Reply::Waiting,
@@ -152,7 +152,7 @@ impl Slabs {
         requires slab { slab.0 < length self.old }
         requires state { state_of self.old slab ≡ SlabState.Asking (pair_of first None) }
         requires second { IsSecond first (Some second) }
-        ensures { self.new ≡ asked self.old slab first (Some second) }
+        ensures { self.new ≡ asked_after self.old slab first (Some second) }
     {
         self.states[slab.0 as usize] = SlabState::Asking(Pair {
             first,
@@ -168,7 +168,7 @@ impl Slabs {
         requires slab { slab.0 < length self.old }
         requires state { IsTrue (asks lender (state_of self.old slab)) }
         requires reply { is_waiting reply ≡ false }
-        ensures states { self.new ≡ answered self.old slab lender reply }
+        ensures states { self.new ≡ answered_after self.old slab lender reply }
         ensures choice { result ≡ answer_choice (state_of self.old slab) lender reply }
     {
         let SlabState::Asking(pair) = self.states[slab.0 as usize] else {
@@ -189,7 +189,7 @@ impl Slabs {
         requires slab { slab.0 < length self.old }
         requires state { IsTrue (is_local (state_of self.old slab)) }
         requires lender { lender.0 < MOST_LENDERS }
-        ensures { self.new ≡ borrowed self.old slab lender }
+        ensures { self.new ≡ borrowed_after self.old slab lender }
     {
         self.states[slab.0 as usize] = SlabState::Borrowing { lender };
         let row = &mut self.rows[lender.0 as usize];
@@ -201,7 +201,7 @@ impl Slabs {
         requires slab { slab.0 < length self.old }
         requires state { IsTrue (is_borrowing (state_of self.old slab)) }
         requires lease { IsNew self.old (state_of self.old slab) lease }
-        ensures { self.new ≡ lent self.old slab lease }
+        ensures { self.new ≡ lent_after self.old slab lease }
     {
         let SlabState::Borrowing { lender } = self.states[slab.0 as usize] else {
             unreachable!()
@@ -221,7 +221,7 @@ impl Slabs {
     pub fn refused(&mut self, slab: Slab)
         requires slab { slab.0 < length self.old }
         requires state { IsTrue (is_borrowing (state_of self.old slab)) }
-        ensures { self.new ≡ refused self.old slab }
+        ensures { self.new ≡ refused_after self.old slab }
     {
         let SlabState::Borrowing { lender } = self.states[slab.0 as usize] else {
             unreachable!()
@@ -236,7 +236,7 @@ impl Slabs {
         requires slab { slab.0 < length self.old }
         requires state { IsTrue (is_mapped (state_of self.old slab)) }
         requires flying { flying_of (state_of self.old slab) < MOST_FLYING }
-        ensures { self.new ≡ begun self.old slab }
+        ensures { self.new ≡ begun_after self.old slab }
     {
         let SlabState::Mapped {
             lender,
@@ -257,7 +257,7 @@ impl Slabs {
     pub fn settled(&mut self, slab: Slab) -> Option<Lease>
         requires slab { slab.0 < length self.old }
         requires flying { 0 < flying_of (state_of self.old slab) }
-        ensures states { self.new ≡ settled self.old slab }
+        ensures states { self.new ≡ settled_after self.old slab }
         ensures lease { result ≡ settled_lease (state_of self.old slab) }
     {
         match self.states[slab.0 as usize] {
@@ -287,7 +287,7 @@ impl Slabs {
     pub fn evict(&mut self, slab: Slab) -> Option<Lease>
         requires slab { slab.0 < length self.old }
         requires state { IsTrue (is_mapped (state_of self.old slab)) }
-        ensures states { self.new ≡ evicted self.old slab }
+        ensures states { self.new ≡ evicted_after self.old slab }
         ensures lease { result ≡ evicted_lease (state_of self.old slab) }
     {
         let SlabState::Mapped {
@@ -306,7 +306,7 @@ impl Slabs {
         requires slab { slab.0 < length self.old }
         requires leased { leased_of (state_of self.old slab) ≡ Some (lender, lease) }
         requires flying { flying ≤ flying_of (state_of self.old slab) }
-        ensures states { self.new ≡ with_state self.old slab (drained lender lease flying) }
+        ensures states { self.new ≡ with_state self.old slab (drain_to lender lease flying) }
         ensures lease { result ≡ given_at lease flying }
     {
         self.mapped = fewer(self.mapped, self.states[slab.0 as usize]);
@@ -371,7 +371,7 @@ impl Slabs {
 
     /// How many slabs are mapped.
     pub fn mapped(&self) -> u32
-        ensures { result ≡ mapped self.now }
+        ensures { result ≡ mapped_count self.now }
     {
         self.mapped
     }

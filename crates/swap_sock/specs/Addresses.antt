@@ -16,11 +16,11 @@ abbrev pub after_place : List ℕ → Option ℕ → List ℕ
 after_place text None = []
 after_place text (Some place) = drop (place + 1) text
 
-abbrev pub before : ℕ → List ℕ → List ℕ
-before separator text = before_place text (place_of separator text)
+abbrev pub bytes_before : ℕ → List ℕ → List ℕ
+bytes_before separator text = before_place text (place_of separator text)
 
-abbrev pub after : ℕ → List ℕ → List ℕ
-after separator text = after_place text (place_of separator text)
+abbrev pub bytes_behind : ℕ → List ℕ → List ℕ
+bytes_behind separator text = after_place text (place_of separator text)
 
 -- a number that is no more than this
 abbrev pub at_most : ℕ → Option ℕ → Option ℕ
@@ -33,20 +33,21 @@ dot = 46
 abbrev pub colon : ℕ
 colon = 58
 
-abbrev pub assembled : Option ℕ → Option ℕ → Option ℕ → Option ℕ → Option ℕ → Option Address
-assembled (Some a) (Some b) (Some c) (Some d) (Some port) = Some (record { a = a; b = b; c = c; d = d; port = port })
-assembled (Some a) (Some b) (Some c) (Some d) None = None
-assembled (Some a) (Some b) (Some c) None port = None
-assembled (Some a) (Some b) None d port = None
-assembled (Some a) None c d port = None
-assembled None b c d port = None
+abbrev pub address_of_parts : Option ℕ → Option ℕ → Option ℕ → Option ℕ → Option ℕ → Option Address
+address_of_parts (Some a) (Some b) (Some c) (Some d) (Some port) =
+    Some (record { a = a; b = b; c = c; d = d; port = port })
+address_of_parts (Some a) (Some b) (Some c) (Some d) None = None
+address_of_parts (Some a) (Some b) (Some c) None port = None
+address_of_parts (Some a) (Some b) None d port = None
+address_of_parts (Some a) None c d port = None
+address_of_parts None b c d port = None
 
 -- the address that a text spells
 abbrev pub address_in : List ℕ → Option Address
 address_in text =
-    let second = after dot text in
-    let third = after dot second in
-    let fourth = after dot third in
-    assembled (at_most 255 (number (before dot text))) (at_most 255 (number (before dot second)))
-    (at_most 255 (number (before dot third))) (at_most 255 (number (before colon fourth)))
-    (at_most 65535 (number (after colon fourth)))
+    let second = bytes_behind dot text in
+    let third = bytes_behind dot second in
+    let fourth = bytes_behind dot third in
+    address_of_parts (at_most 255 (number (bytes_before dot text))) (at_most 255 (number (bytes_before dot second)))
+    (at_most 255 (number (bytes_before dot third))) (at_most 255 (number (bytes_before colon fourth)))
+    (at_most 65535 (number (bytes_behind colon fourth)))

@@ -1,6 +1,6 @@
 -- What was asked for, given and got back of one kind: links of a door, or the disks, fabrics and doors of a host.
 use Rattle.std.specs.Prelude.{ℕ, List, [], ◌∷◌, ◌++◌, option_map, Option, None}
-use Rattle.swap_io.specs.Memory.{raised}
+use Rattle.swap_io.specs.Memory.{raise}
 use Rattle.swap_sock.specs.declared.host.LinkEnd.{LinkEnd}
 
 -- under which names it was asked for, each as it was given, and each as it came back, in order
@@ -26,21 +26,21 @@ noted_given name given b = record b { names = b.names ++ name ∷ []; given = b.
 
 abbrev pub gave_one : {N P Q : Type 0} → N → P → Dealings N P Q → Dealings N P Q
 gave_one name given d =
-    record d { asked = raised d.asked; gave = raised d.gave; told = option_map (noted_given name given) d.told }
+    record d { asked = raise d.asked; gave = raise d.gave; told = option_map (noted_given name given) d.told }
 
 -- one was asked for by this name, and none was given
 abbrev pub noted_name : {N P Q : Type 0} → N → Books N P Q → Books N P Q
 noted_name name b = record b { names = b.names ++ name ∷ [] }
 
 abbrev pub gave_none : {N P Q : Type 0} → N → Dealings N P Q → Dealings N P Q
-gave_none name d = record d { asked = raised d.asked; told = option_map (noted_name name) d.told }
+gave_none name d = record d { asked = raise d.asked; told = option_map (noted_name name) d.told }
 
 -- one came back
 abbrev pub noted_back : {N P Q : Type 0} → Q → Books N P Q → Books N P Q
 noted_back returned b = record b { returned = b.returned ++ returned ∷ [] }
 
 abbrev pub got_back : {N P Q : Type 0} → Q → Dealings N P Q → Dealings N P Q
-got_back returned d = record d { back = raised d.back; told = option_map (noted_back returned) d.told }
+got_back returned d = record d { back = raise d.back; told = option_map (noted_back returned) d.told }
 
 -- a link as it came back: its reader, and how it ended
 pub record Left (S K : Type 0) : Type 0 where

@@ -1,6 +1,6 @@
 ghost use Rattle.std.specs.Prelude.{◌≡◌, ℕ, ◌≤◌, ◌<◌, length, codes, IfSome};
 ghost use Rattle.swap_io.specs.Words.{number};
-ghost use Rattle.swap_sock.specs.Addresses.{before, after, place_of, at_most, address_in};
+ghost use Rattle.swap_sock.specs.Addresses.{bytes_before, bytes_behind, place_of, at_most, address_in};
 
 use swap_io::number;
 
@@ -36,8 +36,8 @@ impl Address {
 
 /// What stands before and after the first byte of a kind; without one all stands before it.
 fn cut(text: &[u8], separator: u8) -> (&[u8], &[u8])
-    ensures before { result.0.now ≡ before separator text.now }
-    ensures after { result.1.now ≡ after separator text.now }
+    ensures before { result.0.now ≡ bytes_before separator text.now }
+    ensures after { result.1.now ≡ bytes_behind separator text.now }
 {
     match place_of(text, separator) {
         Some(place) => (&text[..place], &text[place + 1..]),

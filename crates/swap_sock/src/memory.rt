@@ -1,6 +1,6 @@
 ghost use Rattle.std.specs.Prelude.{◌≡◌, ◌≤◌, true, IfOk, if◌then◌else◌};
 ghost use Rattle.swap_io.specs.Causes.{Rose};
-ghost use Rattle.swap_io.specs.Memory.{raised, is_listed};
+ghost use Rattle.swap_io.specs.Memory.{raise, is_listed};
 ghost use Rattle.swap_link.specs.Harbor.{IsFresh};
 
 use crate::{Address, Door, Host, HostFault, LinkEnd};
@@ -32,21 +32,21 @@ impl Counts {
 
     /// One more was asked for.
     pub fn ask(&mut self)
-        ensures { self.new ≡ record self.old { asked = raised self.old.asked } }
+        ensures { self.new ≡ record self.old { asked = raise self.old.asked } }
     {
         self.asked = self.asked.saturating_add(1);
     }
 
     /// One more was given.
     pub fn give(&mut self)
-        ensures { self.new ≡ record self.old { gave = raised self.old.gave } }
+        ensures { self.new ≡ record self.old { gave = raise self.old.gave } }
     {
         self.gave = self.gave.saturating_add(1);
     }
 
     /// One more came back.
     pub fn take_back(&mut self)
-        ensures { self.new ≡ record self.old { back = raised self.old.back } }
+        ensures { self.new ≡ record self.old { back = raise self.old.back } }
     {
         self.back = self.back.saturating_add(1);
     }
@@ -134,10 +134,10 @@ impl MemHost {
     fn fails(&mut self) -> bool
         ensures fails { result ≡ is_listed self.old.failing.items self.old.calls }
         ensures faults { self.new.faults
-            ≡ (if result then raised self.old.faults else self.old.faults) }
+            ≡ (if result then raise self.old.faults else self.old.faults) }
         ensures later { self.old.faults ≤ self.new.faults }
         ensures rose { result ≡ true → Rose self.old.faults self.new.faults }
-        ensures calls { self.new.calls ≡ raised self.old.calls }
+        ensures calls { self.new.calls ≡ raise self.old.calls }
         ensures failing { self.new.failing ≡ self.old.failing }
         ensures disks { self.new.disks ≡ self.old.disks }
         ensures nets { self.new.nets ≡ self.old.nets }

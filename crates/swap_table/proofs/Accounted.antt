@@ -9,7 +9,7 @@ use Rattle.swap_base.specs.declared.DiskWhich.TheVariants as which
 use Rattle.swap_base.specs.declared.Via.{Via}
 use Rattle.swap_base.specs.declared.Via.TheVariants as via
 use Rattle.swap_record.specs.declared.Op.TheVariants as op
-use Rattle.swap_record.specs.History.{History, Row, last, row_of, pushed, next_name}
+use Rattle.swap_record.specs.History.{History, Row, last, row_of, with_row, next_name}
 use Rattle.swap_queue.specs.Queue.{Copy, Places, first_of}
 use Rattle.swap_disk.specs.Disk.{Flight, is_flight_of}
 use Rattle.swap_disk.specs.Disk as disk
@@ -93,7 +93,7 @@ pub call_set :
     → ((e.0 ≡ c.0 → ⊥) → IsAccounted A w H fs links e (call_of cs e).bytes (state_of cs e)) → IsAccounted A w H fs links c call.bytes call.state
     → IsAccounted A w H fs links e (call_of (calls.with_call cs c call) e).bytes (state_of (calls.with_call cs c call) e)
 call_set A w H fs links cs c e call old new =
-    set_either (λ (x : Call). IsAccounted A w H fs links e x.bytes x.state) cs c.0 e.0 call calls.idle tt old
+    set_either (λ (x : Call). IsAccounted A w H fs links e x.bytes x.state) cs c.0 e.0 call calls.idle_call tt old
     (λ same. subst (λ n. IsAccounted A w H fs links (record { 0 = n }) call.bytes call.state) (sym same) new)
 
 -- a read that came back from the disk, well or badly
@@ -142,7 +142,7 @@ lender_came A w H fs links links' l c p page bytes call (Reading q e (via.Lender
 pub through_lost :
     (A : List ℕ → List ℕ → Type 0) (w : ℕ) (H : History) (fs : List Flight) (links : List LinkState) (l : Lender) (c : Caller) (bytes : List ℕ)
     (state : CallState)
-    → IsAccounted A w H fs links c bytes state → IsAccounted A w H fs (rings.lost links l) c bytes (calls.lost_if_through l state)
+    → IsAccounted A w H fs links c bytes state → IsAccounted A w H fs (rings.lost_after links l) c bytes (calls.lost_if_through l state)
 through_lost A w H fs links l c bytes Idle h = h
 through_lost A w H fs links l c bytes (Room p since) h = h
 through_lost A w H fs links l c bytes (Reading p e via.Disk arrived.Waiting is since) h = h
@@ -156,14 +156,14 @@ through_lost A w H fs links l c bytes (Reading p e (via.Lender m) arrived.Waitin
   where
     go :
         (b : Bool) → (m.0 == l.0) ≡ b
-        → IsAccounted A w H fs (rings.lost links l) c bytes (Reading p e (via.Lender m) (cond b arrived.Lost arrived.Waiting) is since)
+        → IsAccounted A w H fs (rings.lost_after links l) c bytes (Reading p e (via.Lender m) (cond b arrived.Lost arrived.Waiting) is since)
     go true same = (h.0, tt, tt)
     go false same =
         let P : LinkState → Type 0 = λ y. (y.up ≡ true) × (find (is_read_of c) y.ring ≡ Some (Read c p)) in
         (h.0, subst P (sym (link-other links l m down (eqb-false m.0 l.0 same))) h.1, tt)
 
 -- links on which a caller's read stays under way: one more request, or the oldest answered where it isn't the caller's
-pub sent_reads : (c : Caller) (fs : List Flight) (links : List LinkState) (l : Lender) (x : Request) → ReadStays c fs fs links (rings.sent links l x)
+pub sent_reads : (c : Caller) (fs : List Flight) (links : List LinkState) (l : Lender) (x : Request) → ReadStays c fs fs links (rings.sent_after links l x)
 sent_reads c fs links l x p via.Disk h = h
 sent_reads c fs links l x p (via.Lender m) h =
     let P : LinkState → Type 0 = λ y. (y.up ≡ true) × (find (is_read_of c) y.ring ≡ Some (Read c p)) in
@@ -173,7 +173,7 @@ sent_reads c fs links l x p (via.Lender m) h =
 
 pub answered_reads :
     (c : Caller) (fs : List Flight) (links : List LinkState) (l : Lender) (x : Request) (rest : List Request) → ring_of links l ≡ x ∷ rest
-    → is_read_of c x ≡ false → ReadStays c fs fs links (rings.answered links l)
+    → is_read_of c x ≡ false → ReadStays c fs fs links (rings.answered_after links l)
 answered_reads c fs links l x rest ring other p via.Disk h = h
 answered_reads c fs links l x rest ring other p (via.Lender m) h =
     let P : LinkState → Type 0 = λ y. (y.up ≡ true) × (find (is_read_of c) y.ring ≡ Some (Read c p)) in
@@ -186,11 +186,11 @@ answered_reads c fs links l x rest ring other p (via.Lender m) h =
 
 -- a link is made where none was up
 pub raised_reads :
-    (c : Caller) (fs : List Flight) (links : List LinkState) (l : Lender) → is_up links l ≡ false → ReadStays c fs fs links (rings.raised links l)
+    (c : Caller) (fs : List Flight) (links : List LinkState) (l : Lender) → is_up links l ≡ false → ReadStays c fs fs links (rings.raised_after links l)
 raised_reads c fs links l off p via.Disk h = h
 raised_reads c fs links l off p (via.Lender m) h =
     let P : LinkState → Type 0 = λ y. (y.up ≡ true) × (find (is_read_of c) y.ring ≡ Some (Read c p)) in
-    set_keeps P links l.0 m.0 rings.fresh down h (λ same. absurd (not_both off (subst (λ n. is_up links (record { 0 = n }) ≡ true) same h.0)))
+    set_keeps P links l.0 m.0 rings.link_at_start down h (λ same. absurd (not_both off (subst (λ n. is_up links (record { 0 = n }) ≡ true) same h.0)))
   where
     not_both : {b : Bool} → b ≡ false → b ≡ true → ⊥
     not_both a b = cc
@@ -228,7 +228,7 @@ newest_alone H p (Some x) h = h
 -- an accepted page-out is the next copy of its page
 pub put_copy :
     (H : History) (c : Caller) (p : Page) (bytes : List ℕ) (places : Places) → AreOfEntries H p places
-    → AreOfEntries (pushed H c p op.PageOut bytes) p (record { flying = places.flying; next = Some (record { entry = next_name H; bytes = bytes }) })
+    → AreOfEntries (with_row H c p op.PageOut bytes) p (record { flying = places.flying; next = Some (record { entry = next_name H; bytes = bytes }) })
 put_copy H c p bytes places h =
     let row : Row = row_of H c p op.PageOut bytes in
     let is = named_last H row in (

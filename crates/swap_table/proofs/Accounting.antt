@@ -15,9 +15,9 @@ use Rattle.swap_base.specs.Sizes.{Sizes, pages_of}
 use Rattle.swap_record.specs.declared.Op.TheVariants as op
 use Rattle.swap_record.specs.History.{History, Row, last, row_of, next_name}
 use Rattle.swap_queue.specs.Queue as queue
-use Rattle.swap_queue.specs.Queue.{Queue, Copy, Places, places_of, first_of, next, flying}
+use Rattle.swap_queue.specs.Queue.{Queue, Copy, Places, places_of, first_of, next_copy, flying}
 use Rattle.swap_disk.specs.declared.DiskDone.{DiskDone}
-use Rattle.swap_disk.specs.Disk.{Flight, Finished, Taken, which_of, page_of, is_flight_of, without}
+use Rattle.swap_disk.specs.Disk.{Flight, Finished, Taken, which_of, page_of, is_flight_of, without_flight}
 use Rattle.swap_disk.specs.Disk as disks
 use Rattle.swap_disk.specs.Port.{Port, StartWrite, StartRead, TakeDone, LetFinish, Takes, LetsFinish}
 use Rattle.swap_wire.specs.declared.fabric.Sent.TheVariants as sent
@@ -37,7 +37,7 @@ use Rattle.swap_remote.specs.Remote.{Remote}
 use Rattle.swap_disk.specs.declared.port.DiskPort.{Ghosts as DiskMeaning}
 use Rattle.swap_activity.specs.Rates.{Activity}
 use Rattle.swap_wire.specs.declared.fabric.Fabric.{Ghosts as FabricMeaning}
-use Rattle.swap_table.specs.Device.{Device, Heard, new, enter, give, fault, lost, wait_for_room, wait_for_disk, write_sent, read_sent, wrote, took, took_back, raised, is_newest}
+use Rattle.swap_table.specs.Device.{Device, Heard, device_at_start, enter_entry, give, fault, lost_after, wait_for_room, wait_for_disk, write_sent, read_sent, wrote_after, took_after, took_back, raised_after, is_newest}
 use Rattle.swap_table.specs.Fits.{WaitsFor, IsExpected}
 use Rattle.swap_table.specs.Serves.{IsAwaited, WaitsFrom, OwesReads}
 use Rattle.swap_table.specs.Accounts.{is_read_of, IsUnderWayBy, IsAccounted, IsOfEntry, IsOfLast, AreOfEntries, Accounts}
@@ -86,9 +86,9 @@ finish_flights before now (Some blocks) None None ok answer h = ap (λ (x : Port
 finish_flights before now (Some blocks) None (Some f) ok answer h = ap (λ (x : Port). x.flights) h.1.is
 
 -- a device that nothing happened to
-pub new_accounts : (A : List ℕ → List ℕ → Type 0) (s : Sizes) (n : ℕ) (fs : List Flight) → Accounts A (new s n) fs
+pub new_accounts : (A : List ℕ → List ℕ → Type 0) (s : Sizes) (n : ℕ) (fs : List Flight) → Accounts A (device_at_start s n) fs
 new_accounts A s n fs = record {
-  calls = λ c. replicated (λ (x : Call). IsAccounted A 0 [] fs (remote.none s).links c x.bytes x.state) s.callers c.0 calls.idle tt;
+  calls = λ c. replicated (λ (x : Call). IsAccounted A 0 [] fs (remote.remote_at_start s).links c x.bytes x.state) s.callers c.0 calls.idle_call tt;
   copies = λ p. replicated (λ (x : Places). AreOfEntries [] p x) (pages_of s) p.0 (record { flying = None; next = None }) (tt, tt, tt);
 }
   where
@@ -126,7 +126,7 @@ module _ (A : List ℕ → List ℕ → Type 0) where
     copies = a.copies;
   }
 
-  entered : (d : Device) (c : Caller) (p : Page) (bytes : List ℕ) (fs : List Flight) → Accounts A d fs → Accounts A (enter d c p bytes) fs
+  entered : (d : Device) (c : Caller) (p : Page) (bytes : List ℕ) (fs : List Flight) → Accounts A d fs → Accounts A (enter_entry d c p bytes) fs
   entered d c p bytes fs a =
       let row : Row = row_of d.history c p op.PageOut bytes in
       let H' : History = row ∷ d.history in
@@ -134,7 +134,7 @@ module _ (A : List ℕ → List ℕ → Type 0) where
       record {
         calls =
             λ e.
-            call_set A d.failed_writes H' fs links (calls.paged_out d.calls p) c e calls.idle
+            call_set A d.failed_writes H' fs links (calls.paged_out d.calls p) c e calls.idle_call
             (λ other.
             let f : Call → Call = λ (x : Call). record { state = calls.newer_if_reads p x.state; bytes = x.bytes } in
             let P : Call → Type 0 = λ x. IsAccounted A d.failed_writes H' fs links e x.bytes x.state in
@@ -154,13 +154,13 @@ module _ (A : List ℕ → List ℕ → Type 0) where
   -- an entry that is no page-out
   answered :
       (d : Device) (c : Caller) (row : Row) (fs : List Flight) → ((q : Page) → last (row ∷ d.history) q ≡ last d.history q) → Accounts A d fs
-      → Accounts A (record d { history = row ∷ d.history; calls = calls.ended d.calls c }) fs
+      → Accounts A (record d { history = row ∷ d.history; calls = calls.end_after d.calls c }) fs
   answered d c row fs same a =
       let links : List LinkState = d.remote.links in
       record {
         calls =
             λ e.
-            call_set A d.failed_writes (row ∷ d.history) fs links d.calls c e calls.idle
+            call_set A d.failed_writes (row ∷ d.history) fs links d.calls c e calls.idle_call
             (λ other.
             acc.stays A d.failed_writes d.failed_writes d.history (row ∷ d.history) fs fs links links e (call_of d.calls e).bytes (state_of d.calls e)
             (omega arith) (entries_on d.history row) (λ q v h. h) (a.calls e))
@@ -170,11 +170,11 @@ module _ (A : List ℕ → List ℕ → Type 0) where
 
   -- the queue starts a copy, and has it back
   one_started :
-      (d : Device) (fs : List Flight) (p : Page) (line : List Page) (copy : Copy) (f : Flight) → d.queue.line ≡ p ∷ line → next d.queue p ≡ Some copy
+      (d : Device) (fs : List Flight) (p : Page) (line : List Page) (copy : Copy) (f : Flight) → d.queue.line ≡ p ∷ line → next_copy d.queue p ≡ Some copy
       → Accounts A d fs → Accounts A (record d { queue = queue.start d.queue }) (fs ++ f ∷ [])
   one_started d fs p line copy f el ec a =
       let P : Queue → Type 0 = λ x. (q : Page) → AreOfEntries d.history q (places_of x q) in
-      let now : Places = record { flying = next d.queue p; next = None } in
+      let now : Places = record { flying = next_copy d.queue p; next = None } in
       let here = a.copies p in
       record {
         calls =
@@ -188,18 +188,18 @@ module _ (A : List ℕ → List ℕ → Type 0) where
             (λ other. a.copies q)
             (λ same.
             subst (λ n. AreOfEntries d.history (record { 0 = n }) now) (sym same)
-            (here.1, tt, acc.next_last d.history p (next d.queue p) (flying d.queue p) copy ec here.2)));
+            (here.1, tt, acc.next_last d.history p (next_copy d.queue p) (flying d.queue p) copy ec here.2)));
       }
     where
       longer : (c : Caller) → ReadStays c fs (fs ++ f ∷ []) d.remote.links d.remote.links
       longer c q via.Disk h = find_longer (is_flight_of (which.Read c)) fs (f ∷ []) (disks.Read c q) h
       longer c q (via.Lender l) h = h
 
-  left_write : (fs : List Flight) (links : List LinkState) (p : Page) (c : Caller) → ReadStays c fs (without (which.Write p) fs) links links
+  left_write : (fs : List Flight) (links : List LinkState) (p : Page) (c : Caller) → ReadStays c fs (without_flight (which.Write p) fs) links links
   left_write fs links p c q via.Disk h = find-without_write c p fs ∙ h
   left_write fs links p c q (via.Lender l) h = h
 
-  left_read : (fs : List Flight) (links : List LinkState) (c e : Caller) → (e.0 ≡ c.0 → ⊥) → ReadStays e fs (without (which.Read c) fs) links links
+  left_read : (fs : List Flight) (links : List LinkState) (c e : Caller) → (e.0 ≡ c.0 → ⊥) → ReadStays e fs (without_flight (which.Read c) fs) links links
   left_read fs links c e other q via.Disk h = find-without_read c e fs other ∙ h
   left_read fs links c e other q (via.Lender l) h = h
 
@@ -212,55 +212,55 @@ module _ (A : List ℕ → List ℕ → Type 0) where
 
   wrote_back :
       (d : Device) (fs : List Flight) (p : Page) (copy : Option Copy) (ok : Bool) → Accounts A d fs
-      → Accounts A (wrote d p copy ok).0 (without (which.Write p) fs)
-  wrote_back d fs p None ok a = others_stay d fs (without (which.Write p) fs) d.remote d.links_made (left_write fs d.remote.links p) a
+      → Accounts A (wrote_after d p copy ok).0 (without_flight (which.Write p) fs)
+  wrote_back d fs p None ok a = others_stay d fs (without_flight (which.Write p) fs) d.remote d.links_made (left_write fs d.remote.links p) a
   wrote_back d fs p (Some copy) true a =
       let here = a.copies p in
       record {
-        calls = (others_stay d fs (without (which.Write p) fs) d.remote d.links_made (left_write fs d.remote.links p) a).calls;
+        calls = (others_stay d fs (without_flight (which.Write p) fs) d.remote d.links_made (left_write fs d.remote.links p) a).calls;
         copies =
-            placed d p (record { flying = None; next = next d.queue p }) (is_some (next d.queue p)) a.copies
-            (tt, here.1, acc.next_alone d.history p (next d.queue p) (flying d.queue p) here.2);
+            placed d p (record { flying = None; next = next_copy d.queue p }) (is_some (next_copy d.queue p)) a.copies
+            (tt, here.1, acc.next_alone d.history p (next_copy d.queue p) (flying d.queue p) here.2);
       }
   wrote_back d fs p (Some copy) false a =
       let here = a.copies p in
       record {
         calls =
             λ c.
-            acc.stays A d.failed_writes (d.failed_writes + 1) d.history d.history fs (without (which.Write p) fs) d.remote.links d.remote.links c
+            acc.stays A d.failed_writes (d.failed_writes + 1) d.history d.history fs (without_flight (which.Write p) fs) d.remote.links d.remote.links c
             (call_of d.calls c).bytes (state_of d.calls c) (omega arith) (entries_same d.history) (left_write fs d.remote.links p c) (a.calls c);
         copies =
             placed d p (record { flying = None; next = queue.newest d.queue p }) true a.copies (
               tt,
-              acc.newest_of d.history p (next d.queue p) (flying d.queue p) here.0 here.1,
-              acc.newest_alone d.history p (first_of (next d.queue p) (flying d.queue p)) here.2,
+              acc.newest_of d.history p (next_copy d.queue p) (flying d.queue p) here.0 here.1,
+              acc.newest_alone d.history p (first_of (next_copy d.queue p) (flying d.queue p)) here.2,
             );
       }
 
   read_back :
       (d : Device) (fs : List Flight) (c : Caller) (p : Page) (ok : Bool) (bytes : List ℕ) → WaitsFor p (state_of d.calls c) → Accounts A d fs
-      → Accounts A (took d (which.Read c) p ok bytes).0 (without (which.Read c) fs)
+      → Accounts A (took_after d (which.Read c) p ok bytes).0 (without_flight (which.Read c) fs)
   read_back d fs c p true bytes waits a =
-      one_set d fs (without (which.Read c) fs) d.remote c (calls.arrives arrived.Came bytes (call_of d.calls c) (state_of d.calls c))
+      one_set d fs (without_flight (which.Read c) fs) d.remote c (calls.arrives arrived.Came bytes (call_of d.calls c) (state_of d.calls c))
       (left_read fs d.remote.links c)
-      (acc.disk_came A d.failed_writes d.history fs (without (which.Read c) fs) d.remote.links c p bytes (call_of d.calls c) (state_of d.calls c) waits
+      (acc.disk_came A d.failed_writes d.history fs (without_flight (which.Read c) fs) d.remote.links c p bytes (call_of d.calls c) (state_of d.calls c) waits
       (a.calls c))
       a
   read_back d fs c p false bytes waits a =
       let now =
-      one_set d fs (without (which.Read c) fs) d.remote c (calls.arrives arrived.Failed [] (call_of d.calls c) (state_of d.calls c))
+      one_set d fs (without_flight (which.Read c) fs) d.remote c (calls.arrives arrived.Failed [] (call_of d.calls c) (state_of d.calls c))
       (left_read fs d.remote.links c)
-      (acc.disk_failed A d.failed_writes d.history fs (without (which.Read c) fs) d.remote.links c p (call_of d.calls c) (state_of d.calls c) waits
+      (acc.disk_failed A d.failed_writes d.history fs (without_flight (which.Read c) fs) d.remote.links c p (call_of d.calls c) (state_of d.calls c) waits
       (a.calls c))
       a in
       record { calls = now.calls; copies = now.copies }
 
   -- a link is lost, and made
-  let_go : (d : Device) (l : Lender) (fs : List Flight) → Accounts A d fs → Accounts A (lost d l) fs
+  let_go : (d : Device) (l : Lender) (fs : List Flight) → Accounts A d fs → Accounts A (lost_after d l) fs
   let_go d l fs a = record {
     calls =
         λ c.
-        let P : Call → Type 0 = λ x. IsAccounted A d.failed_writes d.history fs (rings.lost d.remote.links l) c x.bytes x.state in
+        let P : Call → Type 0 = λ x. IsAccounted A d.failed_writes d.history fs (rings.lost_after d.remote.links l) c x.bytes x.state in
         subst P (sym (get_or-map_idle (calls.with_state (calls.lost_if_through l)) d.calls c.0 refl))
         (acc.through_lost A d.failed_writes d.history fs d.remote.links l c (call_of d.calls c).bytes (state_of d.calls c) (a.calls c));
     copies = a.copies;
@@ -320,14 +320,15 @@ module _ {D F : Type 0} (disk : DiskMeaning D) (follows : FollowsItsMoves disk) 
       let is_which : t.done.which ≡ which_of back.flight = ap (λ (x : DiskDone). x.which) back.is in
       let is_page : t.done.page ≡ page_of back.flight = ap (λ (x : DiskDone). x.page) back.is in
       let expected = found (IsExpected T _ _ d.queue d.calls) t.done.which fs back.flight back.was h.fits.disk.agrees.expected in
-      let P : DiskWhich → Type 0 = λ w. Accounts fabric.answers (took d w t.done.page t.done.ok t.bytes).0 (without w fs) in
-      let Q : Page → Type 0 = λ r. Accounts fabric.answers (took d (which_of back.flight) r t.done.ok t.bytes).0 (without (which_of back.flight) fs) in
-      flying_now (took_back d (Some t)).0 k' (without t.done.which fs) back.flights
+      let P : DiskWhich → Type 0 = λ w. Accounts fabric.answers (took_after d w t.done.page t.done.ok t.bytes).0 (without_flight w fs) in
+      let Q : Page → Type 0 = λ r. Accounts fabric.answers (took_after d (which_of back.flight) r t.done.ok t.bytes).0
+      (without_flight (which_of back.flight) fs) in
+      flying_now (took_back d (Some t)).0 k' (without_flight t.done.which fs) back.flights
       (subst P (sym is_which) (subst Q (sym is_page) (of_flight back.flight expected)))
     where
       of_flight :
           (x : Flight) → IsExpected T (pages_of d.sizes) d.sizes.callers d.queue d.calls x
-          → Accounts fabric.answers (took d (which_of x) (page_of x) t.done.ok t.bytes).0 (without (which_of x) (disk.means k).flights)
+          → Accounts fabric.answers (took_after d (which_of x) (page_of x) t.done.ok t.bytes).0 (without_flight (which_of x) (disk.means k).flights)
       of_flight (disks.Write p bytes) e = wrote_back fabric.answers d (disk.means k).flights p (flying d.queue p) t.done.ok a
       of_flight (disks.Read c p) e = read_back fabric.answers d (disk.means k).flights c p t.done.ok t.bytes e.2 a
 
@@ -341,7 +342,7 @@ module _ {D F : Type 0} (disk : DiskMeaning D) (follows : FollowsItsMoves disk) 
 
   sent_has : (d : Device) (k : D) (f : F) (l : Lender) (q : Parcel) (e base : Device) → Agree d k f → Sends There d l q e base → AccountsOf d k → AccountsOf e k
   sent_has d k f l q e base h (write {c = c} {p = p} {bytes = bytes} outs is) a =
-      let x : Device = enter d c p bytes in
+      let x : Device = enter_entry d c p bytes in
       others_stay fabric.answers x (disk.means k).flights (disk.means k).flights _ x.links_made
       (λ b. acc.sent_reads b (disk.means k).flights d.remote.links l _) (entered fabric.answers d c p bytes (disk.means k).flights a)
   sent_has d k f l q e base h (borrow {t = t} within may) a =
@@ -383,7 +384,7 @@ module _ {D F : Type 0} (disk : DiskMeaning D) (follows : FollowsItsMoves disk) 
       (λ b. acc.answered_reads b (disk.means k).flights d.remote.links l (request.Query t) rest ring refl) a
   heard_has d k f g l q x h up (asked_rate says at) moved a = a
   heard_has d k f g l q x h up (told_to_go {t = t} says at) moved a =
-      stays_on fabric.answers d (remote.evicted d.sizes d.remote t) (disk.means k).flights refl a
+      stays_on fabric.answers d (remote.evicted_after d.sizes d.remote t) (disk.means k).flights refl a
   heard_has d k f g l q x h up (lent {t = t} {rest = rest} ring says same none) moved a =
       others_stay fabric.answers d (disk.means k).flights (disk.means k).flights _ d.links_made
       (λ b. acc.answered_reads b (disk.means k).flights d.remote.links l (request.Borrow t) rest ring refl) a
@@ -392,8 +393,8 @@ module _ {D F : Type 0} (disk : DiskMeaning D) (follows : FollowsItsMoves disk) 
       (λ b. acc.answered_reads b (disk.means k).flights d.remote.links l (request.Borrow t) rest ring refl) a
   heard_has d k f g l q x h up (written {p = p} {e = n} {rest = rest} ring says named) moved a =
       let fs : List Flight = (disk.means k).flights in
-      let settled : List LinkState = rings.answered d.remote.links l in
-      let now : Remote = remote.written d.sizes d.remote l p (is_newest (last d.history p) n) in
+      let settled : List LinkState = rings.answered_after d.remote.links l in
+      let now : Remote = remote.written_after d.sizes d.remote l p (is_newest (last d.history p) n) in
       let same : now.links ≡ settled = written_links _ _ p in
       others_stay fabric.answers d fs fs now d.links_made
       (λ b. subst (λ x. ReadStays b fs fs d.remote.links x) (sym same) (acc.answered_reads b fs d.remote.links l (request.Write p n) rest ring refl)) a
@@ -407,7 +408,8 @@ module _ {D F : Type 0} (disk : DiskMeaning D) (follows : FollowsItsMoves disk) 
       subst (λ ys. AllByRecursion (IsAwaited d.sizes d.history d.calls d.remote.slabs l) ys) ring (h.fits.serves.link l).awaited in
       one_set fabric.answers d fs fs (remote.settled_for d.sizes d.remote l p) c (calls.arrives arrived.Came q.page (call_of d.calls c) (state_of d.calls c))
       (λ b other. acc.answered_reads b fs d.remote.links l (request.Read c p) rest ring (not_eqb b.0 c.0 other))
-      (acc.lender_came fabric.answers d.failed_writes d.history fs d.remote.links (rings.answered d.remote.links l) l c p owed.page q.page (call_of d.calls c)
+      (acc.lender_came fabric.answers d.failed_writes d.history fs d.remote.links (rings.answered_after d.remote.links l) l c p owed.page q.page
+      (call_of d.calls c)
       (state_of d.calls c) awaited.0.3 owed.content (laws.page_answers f l q g owed.page owed.more moved r.1 owed.owed) (a.calls c))
       a
 
@@ -425,7 +427,7 @@ module _ {D F : Type 0} (disk : DiskMeaning D) (follows : FollowsItsMoves disk) 
   each_accounts x asked y k k' f f' (rates_change {d = d} rates) stay h a = rates_on fabric.answers d rates (disk.means k).flights a
   each_accounts x asked y k k' f f' (lets_go {d = d} l within up) stay h a = let_go fabric.answers d l (disk.means k).flights a
   each_accounts x asked y k k' f f' (gives_up {d = d} l t off asks) stay h a =
-      stays_on fabric.answers d (remote.gone d.remote l t) (disk.means k).flights refl a
+      stays_on fabric.answers d (remote.gone_after d.remote l t) (disk.means k).flights refl a
   each_accounts x asked y k k' f f' (starts {d = d} {p = p} {line = line} {copy = copy} {r = r} el ec) (by_disk moved) h a =
       flying_now (record d { queue = queue.start d.queue }) k' _ (ap (λ (x : Port). x.flights) (follows k (StartWrite p copy.bytes) r k' moved))
       (one_started fabric.answers d (disk.means k).flights p line copy _ el ec a)
@@ -438,7 +440,7 @@ module _ {D F : Type 0} (disk : DiskMeaning D) (follows : FollowsItsMoves disk) 
   each_accounts x asked y k k' f f' (finds_down {d = d} {e = e} {base = base} {l = l} {q = q} one) (by_fabric moved) h a =
       let_go fabric.answers base l (disk.means k).flights (base_has d k l q e base one a)
   each_accounts x asked y k k' f f' (raises {d = d} {l = l} within off) (by_fabric moved) h a =
-      others_stay fabric.answers d (disk.means k).flights (disk.means k).flights (remote.raised d.remote l) (d.links_made + 1)
+      others_stay fabric.answers d (disk.means k).flights (disk.means k).flights (remote.raised_after d.remote l) (d.links_made + 1)
       (λ b. acc.raised_reads b (disk.means k).flights d.remote.links l off) a
   each_accounts x asked y k k' f f' (speaks word) (by_fabric moved) h a = a
   each_accounts x asked y k k' f f' (speaks_to_nobody {d = d} {l = l} word) (by_fabric moved) h a = let_go fabric.answers d l (disk.means k).flights a

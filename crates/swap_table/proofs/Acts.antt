@@ -11,7 +11,7 @@ use Rattle.swap_base.specs.declared.Via.TheVariants as via
 use Rattle.swap_base.specs.declared.CallKind.{CallKind}
 use Rattle.swap_base.specs.Sizes.{pages_of, zeros}
 use Rattle.swap_record.specs.declared.Op.TheVariants as op
-use Rattle.swap_record.specs.History.{History, Row, array, last, pushed, row_of, next_name}
+use Rattle.swap_record.specs.History.{History, Row, array, last, with_row, row_of, next_name}
 use Rattle.swap_queue.specs.Queue.{Queue, newest}
 use Rattle.swap_disk.specs.Disk.{Flight, Write, Read}
 use Rattle.swap_disk.specs.Port.{Port}
@@ -22,7 +22,7 @@ use Rattle.swap_calls.specs.declared.CallState.{CallState}
 use Rattle.swap_calls.specs.declared.CallState.TheVariants.{Idle, Room, Reading}
 use Rattle.swap_bits.specs.Bits.{has, without_number}
 use Rattle.swap_remote.specs.Remote.{Remote, has_page}
-use Rattle.swap_table.specs.Device.{Device, enter, give, fault, lost, read_sent}
+use Rattle.swap_table.specs.Device.{Device, enter_entry, give, fault, lost_after, read_sent}
 use Rattle.swap_activity.specs.Rates.{Activity}
 use Rattle.swap_table.specs.Fits.{KeepsNewest, WaitsFor, IsExpected, IsFair, FitsDisk}
 use Rattle.swap_table.specs.Serves.{Keeping, Owing, WaitsFrom, IsContent, Serves}
@@ -95,13 +95,13 @@ pub brought_disk :
     (T : Bool) (A : List ℕ → List ℕ → Type 0) (d : Device) (p : Port) (l : Lender) (c : Caller) (pg : Page) (page bytes : List ℕ) (r : Remote)
     → FitsDisk T A d p
     → WaitsFrom l pg (state_of d.calls c) → A page bytes → IsContent d.history page pg (state_of d.calls c)
-    → FitsDisk T A (record d { remote = r; calls = calls.came d.calls c bytes }) p
+    → FitsDisk T A (record d { remote = r; calls = calls.came_after d.calls c bytes }) p
 brought_disk T A d p l c pg page bytes r k waits answers content =
     let here : KeepsNewest d.history d.failed_reads (state_of d.calls c) =
-    All-get_or (λ (call : Call). KeepsNewest d.history d.failed_reads call.state) d.calls c.0 calls.idle k.in_order.calls tt in
+    All-get_or (λ (call : Call). KeepsNewest d.history d.failed_reads call.state) d.calls c.0 calls.idle_call k.in_order.calls tt in
     let fair : IsFair T A (pages_of d.sizes) (zeros d.sizes) d.history d.queue (call_of d.calls c).bytes (state_of d.calls c) =
     All-get_or
-    (λ (call : Call). IsFair T A (pages_of d.sizes) (zeros d.sizes) d.history d.queue call.bytes call.state) d.calls c.0 calls.idle k.agrees.fair tt in
+    (λ (call : Call). IsFair T A (pages_of d.sizes) (zeros d.sizes) d.history d.queue call.bytes call.state) d.calls c.0 calls.idle_call k.agrees.fair tt in
     record {
       sizes = k.sizes;
       in_order =
@@ -153,7 +153,7 @@ waits_for_lost l p (Room r since) w = w
 waits_for_lost l p (Reading r n via.Disk how newer since) w = w
 waits_for_lost l p (Reading r n (via.Lender m) how newer since) w = absurd w
 
-expected_lost : (T : Bool) (N C : ℕ) (q : Queue) (cs : Calls) (l : Lender) (f : Flight) → IsExpected T N C q cs f → IsExpected T N C q (calls.lost cs l) f
+expected_lost : (T : Bool) (N C : ℕ) (q : Queue) (cs : Calls) (l : Lender) (f : Flight) → IsExpected T N C q cs f → IsExpected T N C q (calls.lost_after cs l) f
 expected_lost T N C q cs l (Write p bytes) h = h
 expected_lost T N C q cs l (Read c p) h = (
   h.0,
@@ -163,7 +163,7 @@ expected_lost T N C q cs l (Read c p) h = (
       (waits_for_lost l p (state_of cs c) h.2),
 )
 
-pub lost_disk : (T : Bool) (A : List ℕ → List ℕ → Type 0) (d : Device) (p : Port) (l : Lender) → FitsDisk T A d p → FitsDisk T A (lost d l) p
+pub lost_disk : (T : Bool) (A : List ℕ → List ℕ → Type 0) (d : Device) (p : Port) (l : Lender) → FitsDisk T A d p → FitsDisk T A (lost_after d l) p
 lost_disk T A d p l k =
     let a = k.agrees in
     record {
@@ -200,8 +200,8 @@ lost_disk T A d p l k =
     }
 
 -- an entry is pushed, and its caller is idle
-call-ended : (cs : Calls) (c d : Caller) → (d.0 ≡ c.0 → ⊥) → state_of (calls.ended cs c) d ≡ state_of cs d
-call-ended cs c d other = ap (λ (x : Call). x.state) (get_or-set_other cs c.0 d.0 calls.idle calls.idle other)
+call-ended : (cs : Calls) (c d : Caller) → (d.0 ≡ c.0 → ⊥) → state_of (calls.end_after cs c) d ≡ state_of cs d
+call-ended cs c d other = ap (λ (x : Call). x.state) (get_or-set_other cs c.0 d.0 calls.idle_call calls.idle_call other)
 
 waits_newer : (l : Lender) (q p : Page) (state : CallState) → WaitsFrom l q state → WaitsFrom l q (calls.newer_if_reads p state)
 waits_newer l q p Idle w = absurd w
@@ -212,10 +212,11 @@ waits_newer l q p (Reading r n (via.Lender m) arrived.Came newer since) w = absu
 waits_newer l q p (Reading r n (via.Lender m) arrived.Failed newer since) w = absurd w
 waits_newer l q p (Reading r n (via.Lender m) arrived.Lost newer since) w = absurd w
 
-array-other : (z : List ℕ) (H : History) (c : Caller) (p q : Page) (bytes : List ℕ) → (q.0 ≡ p.0 → ⊥) → array z (pushed H c p op.PageOut bytes) q ≡ array z H q
+array-other : (z : List ℕ) (H : History) (c : Caller) (p q : Page) (bytes : List ℕ) → (q.0 ≡ p.0 → ⊥)
+    → array z (with_row H c p op.PageOut bytes) q ≡ array z H q
 array-other z H c p q bytes other = ap (λ b. cond b bytes (array z H q)) (not_eqb p.0 q.0 (λ e. other (sym e)))
 
-pub last-other : (H : History) (c : Caller) (p q : Page) (bytes : List ℕ) → (q.0 ≡ p.0 → ⊥) → last (pushed H c p op.PageOut bytes) q ≡ last H q
+pub last-other : (H : History) (c : Caller) (p q : Page) (bytes : List ℕ) → (q.0 ≡ p.0 → ⊥) → last (with_row H c p op.PageOut bytes) q ≡ last H q
 last-other H c p q bytes other = ap (λ b. cond b (Some (next_name H)) (last H q)) (not_eqb p.0 q.0 (λ e. other (sym e)))
 
 content_on : (H : History) (row : Row) (q : Page) (page : List ℕ) (state : CallState) → IsContent H page q state → IsContent (row ∷ H) page q state
@@ -230,12 +231,12 @@ content_newer H p q page (Reading r n v how newer since) h = h
 
 enter_shift :
     (H : History) (cs : Calls) (c : Caller) (p : Page) (bytes : List ℕ) → ((m : Lender) (q : Page) → WaitsFrom m q (state_of cs c) → ⊥)
-    → IsShift H (pushed H c p op.PageOut bytes) cs (calls.ended (calls.paged_out cs p) c)
+    → IsShift H (with_row H c p op.PageOut bytes) cs (calls.end_after (calls.paged_out cs p) c)
 enter_shift H cs c p bytes idles = record {
   entries = λ q e out. out_on H (row_of H c p op.PageOut bytes) q e out;
   waits =
       λ l d q w.
-      by_caller (λ d. WaitsFrom l q (state_of cs d) → WaitsFrom l q (state_of (calls.ended (calls.paged_out cs p) c) d)) c d (λ w. absurd (idles l q w))
+      by_caller (λ d. WaitsFrom l q (state_of cs d) → WaitsFrom l q (state_of (calls.end_after (calls.paged_out cs p) c) d)) c d (λ w. absurd (idles l q w))
       (λ other w. let P : CallState → Type 0 = λ x. WaitsFrom l q x in
       subst P (sym (call-ended (calls.paged_out cs p) c d other ∙ state-paged_out cs p d)) (waits_newer l q p (state_of cs d) w))
       w;
@@ -243,13 +244,13 @@ enter_shift H cs c p bytes idles = record {
       λ l d q page w h.
       by_caller
       (λ d. WaitsFrom l q (state_of cs d) → IsContent H page q (state_of cs d)
-      → IsContent (pushed H c p op.PageOut bytes) page q (state_of (calls.ended (calls.paged_out cs p) c) d))
+      → IsContent (with_row H c p op.PageOut bytes) page q (state_of (calls.end_after (calls.paged_out cs p) c) d))
       c d
       (λ w h. absurd (idles l q w))
       (λ other w h.
-      let P : CallState → Type 0 = λ x. IsContent (pushed H c p op.PageOut bytes) page q x in
+      let P : CallState → Type 0 = λ x. IsContent (with_row H c p op.PageOut bytes) page q x in
       subst P (sym (call-ended (calls.paged_out cs p) c d other ∙ state-paged_out cs p d))
-      (content_newer (pushed H c p op.PageOut bytes) p q page (state_of cs d) (content_on H (row_of H c p op.PageOut bytes) q page (state_of cs d) h)))
+      (content_newer (with_row H c p op.PageOut bytes) p q page (state_of cs d) (content_on H (row_of H c p op.PageOut bytes) q page (state_of cs d) h)))
       w h;
 }
 
@@ -261,12 +262,12 @@ cleared_here (b ∷ bits) (suc i) = cleared_here bits i
 pub enter_serves :
     (keeps : Keeping) (owes : Owing) (n : ℕ) (d : Device) (c : Caller) (p : Page) (bytes : List ℕ)
     → ((m : Lender) (q : Page) → WaitsFrom m q (state_of d.calls c) → ⊥) → Serves keeps owes d.sizes n d.history d.calls d.remote
-    → let e : Device = enter d c p bytes in Serves keeps owes e.sizes n e.history e.calls e.remote
+    → let e : Device = enter_entry d c p bytes in Serves keeps owes e.sizes n e.history e.calls e.remote
 enter_serves keeps owes n d c p bytes idles k =
-    let H' : History = pushed d.history c p op.PageOut bytes in
+    let H' : History = with_row d.history c p op.PageOut bytes in
     let z : List ℕ = zeros d.sizes in
-    shifted_serves keeps owes d.sizes n d.history H' d.calls (calls.ended (calls.paged_out d.calls p) c) d.remote (without_number d.remote.bits p.0)
-    (enter_shift d.history d.calls c p bytes idles) (length-set (calls.paged_out d.calls p) c.0 calls.idle ∙ length-map d.calls _)
+    shifted_serves keeps owes d.sizes n d.history H' d.calls (calls.end_after (calls.paged_out d.calls p) c) d.remote (without_number d.remote.bits p.0)
+    (enter_shift d.history d.calls c p bytes idles) (length-set (calls.paged_out d.calls p) c.0 calls.idle_call ∙ length-map d.calls _)
     (length-set d.remote.bits p.0 false)
     (λ q within.
     by_page (λ q. PageStays z d.history H' q (has_page d.remote q) (has (without_number d.remote.bits p.0) q.0)) p q
@@ -281,16 +282,16 @@ enter_serves keeps owes n d c p bytes idles k =
 -- an entry that is no page-out
 in_shift :
     (H : History) (row : Row) (cs : Calls) (c : Caller) → ((m : Lender) (q : Page) → WaitsFrom m q (state_of cs c) → ⊥)
-    → IsShift H (row ∷ H) cs (calls.ended cs c)
+    → IsShift H (row ∷ H) cs (calls.end_after cs c)
 in_shift H row cs c idles = record {
   entries = λ q e out. out_on H row q e out;
   waits =
       λ l d q w.
-      by_caller (λ d. WaitsFrom l q (state_of cs d) → WaitsFrom l q (state_of (calls.ended cs c) d)) c d (λ w. absurd (idles l q w))
+      by_caller (λ d. WaitsFrom l q (state_of cs d) → WaitsFrom l q (state_of (calls.end_after cs c) d)) c d (λ w. absurd (idles l q w))
       (λ other w. let P : CallState → Type 0 = λ x. WaitsFrom l q x in subst P (sym (call-ended cs c d other)) w) w;
   owed =
       λ l d q page w h.
-      by_caller (λ d. WaitsFrom l q (state_of cs d) → IsContent H page q (state_of cs d) → IsContent (row ∷ H) page q (state_of (calls.ended cs c) d)) c d
+      by_caller (λ d. WaitsFrom l q (state_of cs d) → IsContent H page q (state_of cs d) → IsContent (row ∷ H) page q (state_of (calls.end_after cs c) d)) c d
       (λ w h. absurd (idles l q w))
       (λ other w h.
       let P : CallState → Type 0 = λ x. IsContent (row ∷ H) page q x in
@@ -300,10 +301,10 @@ in_shift H row cs c idles = record {
 in_serves :
     (keeps : Keeping) (owes : Owing) (n : ℕ) (d : Device) (c : Caller) (row : Row) → ((m : Lender) (q : Page) → WaitsFrom m q (state_of d.calls c) → ⊥)
     → ((q : Page) → array (zeros d.sizes) (row ∷ d.history) q ≡ array (zeros d.sizes) d.history q) → ((q : Page) → last (row ∷ d.history) q ≡ last d.history q)
-    → Serves keeps owes d.sizes n d.history d.calls d.remote → Serves keeps owes d.sizes n (row ∷ d.history) (calls.ended d.calls c) d.remote
+    → Serves keeps owes d.sizes n d.history d.calls d.remote → Serves keeps owes d.sizes n (row ∷ d.history) (calls.end_after d.calls c) d.remote
 in_serves keeps owes n d c row idles array_same last_same k =
-    shifted_serves keeps owes d.sizes n d.history (row ∷ d.history) d.calls (calls.ended d.calls c) d.remote d.remote.bits
-    (in_shift d.history row d.calls c idles) (length-set d.calls c.0 calls.idle) refl
+    shifted_serves keeps owes d.sizes n d.history (row ∷ d.history) d.calls (calls.end_after d.calls c) d.remote d.remote.bits
+    (in_shift d.history row d.calls c idles) (length-set d.calls c.0 calls.idle_call) refl
     (λ q within. record { clear = λ is. is; set = λ is. (is, last_same q, array_same q) }) k
 
 pub give_serves :

@@ -12,14 +12,14 @@ use Rattle.swap_base.specs.declared.Via.{Via}
 use Rattle.swap_base.specs.declared.Via.TheVariants as via
 use Rattle.swap_base.specs.declared.DiskWhich.{DiskWhich}
 use Rattle.swap_base.specs.declared.DiskWhich.TheVariants as which
-use Rattle.swap_record.specs.History.{History, Row, array, pushed, next_name}
+use Rattle.swap_record.specs.History.{History, Row, array, with_row, next_name}
 use Rattle.swap_record.specs.declared.Op.TheVariants as op
 use Rattle.swap_queue.specs.Queue as queue
-use Rattle.swap_queue.specs.Queue.{Queue, Places, Copy, places_of, newest, next, flying, first_of}
-use Rattle.swap_disk.specs.Disk.{Flight, Write, Read, Finished, which_of, same_which, is_flight_of, without}
+use Rattle.swap_queue.specs.Queue.{Queue, Places, Copy, places_of, newest, next_copy, flying, first_of}
+use Rattle.swap_disk.specs.Disk.{Flight, Write, Read, Finished, which_of, same_which, is_flight_of, without_flight}
 use Rattle.swap_disk.specs.Port.{writes_in, is_write, kept_by, settled_with}
 use Rattle.swap_calls.specs.Calls as calls
-use Rattle.swap_calls.specs.Calls.{Call, Calls, state_of, call_of, idle}
+use Rattle.swap_calls.specs.Calls.{Call, Calls, state_of, call_of, idle_call}
 use Rattle.swap_calls.specs.declared.Arrived.{Arrived}
 use Rattle.swap_calls.specs.declared.Arrived.TheVariants as arrived
 use Rattle.swap_calls.specs.declared.CallState.{CallState}
@@ -29,12 +29,12 @@ use Rattle.swap_table.specs.Fits.{MayGive, GivesWhatItMay, HoldsPage, IsBlock, b
 use Rattle.swap_table.proofs.Lists.{All-set, All-get_or, All-map, All-implies, All-append, both, or_false, by_page, by_caller, not_eqb, count_by-set_same, count_by-set_more, count_by-set_less, count_by-append_one, count_by-cons}
 
 -- a page-out changes the array at its page alone
-array-out_same : (zeros : List ℕ) (H : History) (c : Caller) (p : Page) (bytes : List ℕ) → array zeros (pushed H c p op.PageOut bytes) p ≡ bytes
+array-out_same : (zeros : List ℕ) (H : History) (c : Caller) (p : Page) (bytes : List ℕ) → array zeros (with_row H c p op.PageOut bytes) p ≡ bytes
 array-out_same zeros H c p bytes = ap (λ b. cond b bytes (array zeros H p)) (eq-eqb p.0 p.0 refl)
 
 array-out_other :
     (zeros : List ℕ) (H : History) (c : Caller) (p r : Page) (bytes : List ℕ) → (r.0 ≡ p.0 → ⊥)
-    → array zeros (pushed H c p op.PageOut bytes) r ≡ array zeros H r
+    → array zeros (with_row H c p op.PageOut bytes) r ≡ array zeros H r
 array-out_other zeros H c p r bytes ne = ap (λ b. cond b bytes (array zeros H r)) (not_eqb p.0 r.0 (λ e. ne (sym e)))
 
 -- the places of a page after they were set
@@ -51,7 +51,7 @@ holds_same a a' b b' c c' ea eb ec h =
     let R : List ℕ → Type 0 = λ x. HoldsPage a' b' x in subst R (sym ec) (subst Q (sym eb) (subst P (sym ea) h))
 
 state-set_other : (cs : Calls) (c e : Caller) (call : Call) → (e.0 ≡ c.0 → ⊥) → state_of (set cs c.0 call) e ≡ state_of cs e
-state-set_other cs c e call ne = ap (λ (x : Call). x.state) (get_or-set_other cs c.0 e.0 call idle ne)
+state-set_other cs c e call ne = ap (λ (x : Call). x.state) (get_or-set_other cs c.0 e.0 call idle_call ne)
 
 expected_call :
     (T : Bool) (N C : ℕ) (q : Queue) (cs : Calls) (c : Caller) (call : Call) (f : Flight) → ((p : Page) → WaitsFor p (state_of cs c) → ⊥)
@@ -64,7 +64,7 @@ expected_call T N C q cs c call (Read e p) idles h = (
       (λ ne w. let P : CallState → Type 0 = λ s. WaitsFor p s in subst P (sym (state-set_other cs c e call ne)) w) h.2,
 )
 
-pub get_or-map_idle : (f : Call → Call) (cs : Calls) (i : ℕ) → f idle ≡ idle → get_or (map f cs) i idle ≡ f (get_or cs i idle)
+pub get_or-map_idle : (f : Call → Call) (cs : Calls) (i : ℕ) → f idle_call ≡ idle_call → get_or (map f cs) i idle_call ≡ f (get_or cs i idle_call)
 get_or-map_idle f [] i e = sym e
 get_or-map_idle f (x ∷ cs) zero e = refl
 get_or-map_idle f (x ∷ cs) (suc i) e = get_or-map_idle f cs i e
@@ -173,7 +173,7 @@ IdleFor cs c = (r : Page) → WaitsFor r (state_of cs c) → ⊥
 fair_out :
     (T : Bool) (A : List ℕ → List ℕ → Type 0) (N : ℕ) (z : List ℕ) (H : History) (c : Caller) (p : Page) (bytes : List ℕ) (q q' : Queue) (x : Places)
     (own : List ℕ) (state : CallState)
-    → q'.places ≡ set q.places p.0 x → IsFair T A N z H q own state → IsFair T A N z (pushed H c p op.PageOut bytes) q' own (calls.newer_if_reads p state)
+    → q'.places ≡ set q.places p.0 x → IsFair T A N z H q own state → IsFair T A N z (with_row H c p op.PageOut bytes) q' own (calls.newer_if_reads p state)
 fair_out T A N z H c p bytes q q' x own Idle e h = tt
 fair_out T A N z H c p bytes q q' x own (Room r since) e h = h
 fair_out T A N z H c p bytes q q' x own (Reading r newest v how newer since) e h = (
@@ -187,12 +187,12 @@ fair_out T A N z H c p bytes q q' x own (Reading r newest v how newer since) e h
 pub enter_agrees : (T : Bool) (A : List ℕ → List ℕ → Type 0) (N C : ℕ) (z : List ℕ) (H : History) (q : Queue) (bl : Option (List (List ℕ))) (fs : List Flight)
     (fin : Option Finished) (cs : Calls) (c : Caller) (p : Page) (bytes : List ℕ)
     → Agrees T A N C z H q bl fs fin cs → p.0 < N → IdleFor cs c
-    → Agrees T A N C z (pushed H c p op.PageOut bytes) (queue.put q p (record { entry = next_name H; bytes = bytes })) bl fs fin
-    (calls.ended (calls.paged_out cs p) c)
+    → Agrees T A N C z (with_row H c p op.PageOut bytes) (queue.put_after q p (record { entry = next_name H; bytes = bytes })) bl fs fin
+    (calls.end_after (calls.paged_out cs p) c)
 enter_agrees T A N C z H q bl fs fin cs c p bytes k within idles =
     let copy : Copy = record { entry = next_name H; bytes = bytes } in
     let x : Places = record { flying = flying q p; next = Some copy } in
-    let q' : Queue = queue.put q p copy in
+    let q' : Queue = queue.put_after q p copy in
     let fits : p.0 < length q.places = omega (arith, k.places_len) in
     let here : places_of q' p ≡ x = places-same q q' p x fits refl in
     let there : (r : Page) → (r.0 ≡ p.0 → ⊥) → places_of q' r ≡ places_of q r = λ r ne. places-other q q' p r x ne refl in
@@ -200,20 +200,20 @@ enter_agrees T A N C z H q bl fs fin cs c p bytes k within idles =
       tells = k.tells;
       places_len = length-set q.places p.0 x ∙ k.places_len;
       blocks_len = k.blocks_len;
-      calls_len = length-set (calls.paged_out cs p) c.0 idle ∙ length-map cs _ ∙ k.calls_len;
+      calls_len = length-set (calls.paged_out cs p) c.0 idle_call ∙ length-map cs _ ∙ k.calls_len;
       held =
           λ r in_range.
-          by_page (λ r. r.0 < N → HoldsPage (places_of q' r) (block_in bl r) (array z (pushed H c p op.PageOut bytes) r)) p r
+          by_page (λ r. r.0 < N → HoldsPage (places_of q' r) (block_in bl r) (array z (with_row H c p op.PageOut bytes) r)) p r
           (λ _.
-          holds_same x (places_of q' p) (block_in bl p) (block_in bl p) bytes (array z (pushed H c p op.PageOut bytes) p) here refl
+          holds_same x (places_of q' p) (block_in bl p) (block_in bl p) bytes (array z (with_row H c p op.PageOut bytes) p) here refl
           (array-out_same z H c p bytes) refl)
           (λ ne h.
-          holds_same (places_of q r) (places_of q' r) (block_in bl r) (block_in bl r) (array z H r) (array z (pushed H c p op.PageOut bytes) r)
+          holds_same (places_of q r) (places_of q' r) (block_in bl r) (block_in bl r) (array z H r) (array z (with_row H c p op.PageOut bytes) r)
           (there r ne) refl (array-out_other z H c p r bytes ne) (k.held r h))
           in_range;
       expected =
           All-implies (IsExpected T N C q cs) _ fs (λ f h.
-          expected_call T N C q' (calls.paged_out cs p) c idle f (λ r w.
+          expected_call T N C q' (calls.paged_out cs p) c idle_call f (λ r w.
           idles r (newer_waits r p (state_of cs c) (let P : CallState → Type 0 = λ s. WaitsFor r s in subst P (state-paged_out cs p c) w)))
           (expected_newer T N C q' cs p f (expected_queue T N C q q' cs f (λ r b _.
           by_page (λ r. flying q' r ≡ flying q r) p r (ap (λ (y : Places). y.flying) here) (λ ne. flying_same q q' r (there r ne))) h))) k.expected;
@@ -226,15 +226,16 @@ enter_agrees T A N C z H q bl fs fin cs c p bytes k within idles =
           (λ ne h. in_line_same N q q' r (there r ne) h) h)
           k.in_line)
           (λ none.
-          (within, ap (λ (y : Places). is_some y.next) here, ap (λ (y : Places). y.flying) here ∙ (none_first (next q p) (flying q p) none).1));
+          (within, ap (λ (y : Places). is_some y.next) here, ap (λ (y : Places). y.flying) here ∙ (none_first (next_copy q p) (flying q p) none).1));
       apart =
           apart_waits (is_none (newest q p)) q.line p k.apart (λ none.
           All-implies (IsInLine N q) _ q.line (λ r h same.
-          some_not_none (next q r) h.1 (subst (λ n. next q (record { 0 = n }) ≡ None) same (none_first (next q p) (flying q p) none).0)) k.in_line);
+          some_not_none (next_copy q r) h.1 (subst (λ n. next_copy q (record { 0 = n })
+          ≡ None) same (none_first (next_copy q p) (flying q p) none).0)) k.in_line);
       fair =
-          All-set (λ (call : Call). IsFair T A N z (pushed H c p op.PageOut bytes) q' call.bytes call.state) (calls.paged_out cs p) c.0 idle
+          All-set (λ (call : Call). IsFair T A N z (with_row H c p op.PageOut bytes) q' call.bytes call.state) (calls.paged_out cs p) c.0 idle_call
           (All-map (λ (call : Call). IsFair T A N z H q call.bytes call.state)
-          (λ (call : Call). IsFair T A N z (pushed H c p op.PageOut bytes) q' call.bytes call.state) _ cs
+          (λ (call : Call). IsFair T A N z (with_row H c p op.PageOut bytes) q' call.bytes call.state) _ cs
           (λ call h. fair_out T A N z H c p bytes q q' x call.bytes call.state refl h) k.fair)
           tt;
       faithful = (tt, k.faithful);
@@ -320,7 +321,7 @@ read_agrees T A N C z H q bl fs fin cs c p e since before idles caller_in page_i
     let call : Call = record { state = Reading p e via.Disk arrived.Waiting false since; bytes = [] } in
     let fits : c.0 < length cs = omega (arith, before.calls_len) in
     let state : state_of (set cs c.0 call) c ≡ Reading p e via.Disk arrived.Waiting false since =
-    ap (λ (x : Call). x.state) (get_or-set_same cs c.0 call idle fits) in
+    ap (λ (x : Call). x.state) (get_or-set_same cs c.0 call idle_call fits) in
     let P : CallState → Type 0 = λ s. WaitsFor p s in
     let k : Agrees T A N C z H q bl fs fin (set cs c.0 call) = call_agrees T A N C z H q bl fs fin cs c call before idles (page_in, λ _. none) in
     record {
@@ -362,10 +363,10 @@ fair_same T A N z H q q' own (Reading r newest v how newer since) same h = (h.0,
 
 pub start_agrees : (T : Bool) (A : List ℕ → List ℕ → Type 0) (N C : ℕ) (z : List ℕ) (H : History) (q : Queue) (bl : Option (List (List ℕ))) (fs : List Flight)
     (fin : Option Finished) (cs : Calls) (p : Page) (line : List Page) (copy : Copy)
-    → Agrees T A N C z H q bl fs fin cs → q.line ≡ p ∷ line → next q p ≡ Some copy
+    → Agrees T A N C z H q bl fs fin cs → q.line ≡ p ∷ line → next_copy q p ≡ Some copy
     → Agrees T A N C z H (queue.start_of q (p ∷ line)) bl (fs ++ Write p (kept_by bl copy.bytes) ∷ []) fin cs
 start_agrees T A N C z H q bl fs fin cs p line copy k is_line is_next =
-    let x : Places = record { flying = next q p; next = None } in
+    let x : Places = record { flying = next_copy q p; next = None } in
     let q' : Queue = queue.start_of q (p ∷ line) in
     let members : AllByRecursion (IsInLine N q) (p ∷ line) = subst (λ l. AllByRecursion (IsInLine N q) l) is_line k.in_line in
     let apart : AreApart (p ∷ line) = subst AreApart is_line k.apart in
@@ -375,7 +376,8 @@ start_agrees T A N C z H q bl fs fin cs p line copy k is_line is_next =
     let there : (r : Page) → (r.0 ≡ p.0 → ⊥) → places_of q' r ≡ places_of q r = λ r ne. places-other q q' p r x ne refl in
     let flies_copy : flying q' p ≡ Some copy = ap (λ (y : Places). y.flying) here ∙ is_next in
     let newest_there : (r : Page) → newest q' r ≡ newest q r = λ r.
-    by_page (λ r. newest q' r ≡ newest q r) p r (ap (λ (y : Places). first_of y.next y.flying) here ∙ sym (first_some (next q p) (flying q p) copy is_next))
+    by_page (λ r. newest q' r ≡ newest q r) p r (ap (λ (y : Places). first_of y.next y.flying) here
+    ∙ sym (first_some (next_copy q p) (flying q p) copy is_next))
     (λ ne. newest_same q q' r (there r ne)) in
     let P : Option Copy → Type 0 = λ o. IsCopyOf T (kept_by bl copy.bytes) o in
     let page_in : p.0 < N = front.0 in
@@ -389,7 +391,7 @@ start_agrees T A N C z H q bl fs fin cs p line copy k is_line is_next =
           by_page (λ r. r.0 < N → HoldsPage (places_of q' r) (block_in bl r) (array z H r)) p r
           (λ i.
           holds_same x (places_of q' p) (block_in bl p) (block_in bl p) (array z H p) (array z H p) here refl refl
-          (started_copy (next q p) (flying q p) copy _ _ is_next (k.held p i)))
+          (started_copy (next_copy q p) (flying q p) copy _ _ is_next (k.held p i)))
           (λ ne i.
           holds_same (places_of q r) (places_of q' r) (block_in bl r) (block_in bl r) (array z H r) (array z H r) (there r ne) refl refl (k.held r i)) in_range;
       expected =
@@ -419,19 +421,19 @@ start_agrees T A N C z H q bl fs fin cs p line copy k is_line is_next =
     }
 
 -- an operation that came back leaves the list
-All-without : (P : Flight → Type 0) (w : DiskWhich) (fs : List Flight) → AllByRecursion P fs → AllByRecursion P (without w fs)
+All-without : (P : Flight → Type 0) (w : DiskWhich) (fs : List Flight) → AllByRecursion P fs → AllByRecursion P (without_flight w fs)
 All-without P w [] all = tt
 All-without P w (f ∷ fs) all = go (is_flight_of w f) (All-without P w fs all.1)
   where
-    go : (b : Bool) → AllByRecursion P (without w fs) → AllByRecursion P (cond b fs (f ∷ without w fs))
+    go : (b : Bool) → AllByRecursion P (without_flight w fs) → AllByRecursion P (cond b fs (f ∷ without_flight w fs))
     go true rest = all.1
     go false rest = (all.0, rest)
 
-distinct-without : (w : DiskWhich) (fs : List Flight) → AreDistinct fs → AreDistinct (without w fs)
+distinct-without : (w : DiskWhich) (fs : List Flight) → AreDistinct fs → AreDistinct (without_flight w fs)
 distinct-without w [] d = tt
 distinct-without w (f ∷ fs) d = go (is_flight_of w f) (distinct-without w fs d.1)
   where
-    go : (b : Bool) → AreDistinct (without w fs) → AreDistinct (cond b fs (f ∷ without w fs))
+    go : (b : Bool) → AreDistinct (without_flight w fs) → AreDistinct (cond b fs (f ∷ without_flight w fs))
     go true rest = d.1
     go false rest = (All-without (IsOther f) w fs d.0, rest)
 
@@ -442,13 +444,13 @@ same_is (which.Read c) (which.Write p) e = cc
 same_is (which.Read c) (which.Read d) e = ap (λ n. which.Read (record { 0 = n })) (eqb-true c.0 d.0 e)
 
 -- what is left is other than what left
-left_other : (w : DiskWhich) (fs : List Flight) → AreDistinct fs → AllByRecursion (λ g. same_which w (which_of g) ≡ false) (without w fs)
+left_other : (w : DiskWhich) (fs : List Flight) → AreDistinct fs → AllByRecursion (λ g. same_which w (which_of g) ≡ false) (without_flight w fs)
 left_other w [] d = tt
 left_other w (f ∷ fs) d = go (same_which w (which_of f)) refl (left_other w fs d.1)
   where
     go :
-        (b : Bool) → same_which w (which_of f) ≡ b → AllByRecursion (λ g. same_which w (which_of g) ≡ false) (without w fs)
-        → AllByRecursion (λ g. same_which w (which_of g) ≡ false) (cond b fs (f ∷ without w fs))
+        (b : Bool) → same_which w (which_of f) ≡ b → AllByRecursion (λ g. same_which w (which_of g) ≡ false) (without_flight w fs)
+        → AllByRecursion (λ g. same_which w (which_of g) ≡ false) (cond b fs (f ∷ without_flight w fs))
     go true e rest = subst (λ v. AllByRecursion (λ g. same_which v (which_of g) ≡ false) fs) (sym (same_is w (which_of f) e)) d.0
     go false e rest = (e, rest)
 
@@ -473,37 +475,38 @@ found_is w (g ∷ fs) f e = go (is_flight_of w g) refl e (found_is w fs f)
 
 -- how many writes are left in flight
 writes-without_write :
-    (p : Page) (fs : List Flight) (f : Flight) → find (is_flight_of (which.Write p)) fs ≡ Some f → writes_in (without (which.Write p) fs) + 1 ≡ writes_in fs
+    (p : Page) (fs : List Flight) (f : Flight) → find (is_flight_of (which.Write p)) fs ≡ Some f
+    → writes_in (without_flight (which.Write p) fs) + 1 ≡ writes_in fs
 writes-without_write p [] f e = cc
 writes-without_write p (Read c r ∷ fs) f e =
     let rest = writes-without_write p fs f e in
-    omega (arith, rest, count_by-cons is_write (Read c r) fs, count_by-cons is_write (Read c r) (without (which.Write p) fs))
+    omega (arith, rest, count_by-cons is_write (Read c r) fs, count_by-cons is_write (Read c r) (without_flight (which.Write p) fs))
 writes-without_write p (Write r bytes ∷ fs) f e = go (p.0 == r.0) e (writes-without_write p fs f)
   where
     go :
         (b : Bool) → cond b (Some (Write r bytes)) (find (is_flight_of (which.Write p)) fs) ≡ Some f
-        → (find (is_flight_of (which.Write p)) fs ≡ Some f → writes_in (without (which.Write p) fs) + 1 ≡ writes_in fs)
-        → writes_in (cond b fs (Write r bytes ∷ without (which.Write p) fs)) + 1 ≡ writes_in (Write r bytes ∷ fs)
+        → (find (is_flight_of (which.Write p)) fs ≡ Some f → writes_in (without_flight (which.Write p) fs) + 1 ≡ writes_in fs)
+        → writes_in (cond b fs (Write r bytes ∷ without_flight (which.Write p) fs)) + 1 ≡ writes_in (Write r bytes ∷ fs)
     go true e rest = omega (arith, count_by-cons is_write (Write r bytes) fs)
     go false e rest =
         let more = rest e in
-        let a : writes_in (Write r bytes ∷ without (which.Write p) fs) ≡ 1 + writes_in (without (which.Write p) fs) =
-        count_by-cons is_write (Write r bytes) (without (which.Write p) fs) in
+        let a : writes_in (Write r bytes ∷ without_flight (which.Write p) fs) ≡ 1 + writes_in (without_flight (which.Write p) fs) =
+        count_by-cons is_write (Write r bytes) (without_flight (which.Write p) fs) in
         let b : writes_in (Write r bytes ∷ fs) ≡ 1 + writes_in fs = count_by-cons is_write (Write r bytes) fs in
         ap (λ n. n + 1) a ∙ omega (arith, more, b)
 
-writes-without_read : (c : Caller) (fs : List Flight) → writes_in (without (which.Read c) fs) ≡ writes_in fs
+writes-without_read : (c : Caller) (fs : List Flight) → writes_in (without_flight (which.Read c) fs) ≡ writes_in fs
 writes-without_read c [] = refl
 writes-without_read c (Write r bytes ∷ fs) =
-    count_by-cons is_write (Write r bytes) (without (which.Read c) fs) ∙ ap (λ n. 1 + n) (writes-without_read c fs)
+    count_by-cons is_write (Write r bytes) (without_flight (which.Read c) fs) ∙ ap (λ n. 1 + n) (writes-without_read c fs)
     ∙ sym (count_by-cons is_write (Write r bytes) fs)
 writes-without_read c (Read e r ∷ fs) = go (c.0 == e.0) (writes-without_read c fs)
   where
     go :
-        (b : Bool) → writes_in (without (which.Read c) fs) ≡ writes_in fs
-        → writes_in (cond b fs (Read e r ∷ without (which.Read c) fs)) ≡ writes_in (Read e r ∷ fs)
+        (b : Bool) → writes_in (without_flight (which.Read c) fs) ≡ writes_in fs
+        → writes_in (cond b fs (Read e r ∷ without_flight (which.Read c) fs)) ≡ writes_in (Read e r ∷ fs)
     go true rest = sym (count_by-cons is_write (Read e r) fs ∙ zero-add _)
-    go false rest = count_by-cons is_write (Read e r) (without (which.Read c) fs) ∙ ap (λ n. 0 + n) rest ∙ sym (count_by-cons is_write (Read e r) fs)
+    go false rest = count_by-cons is_write (Read e r) (without_flight (which.Read c) fs) ∙ ap (λ n. 0 + n) rest ∙ sym (count_by-cons is_write (Read e r) fs)
 
 -- a write came back: the page's block is what it left, and its places are without the flying copy
 pub copy_flies : (T : Bool) (bytes : List ℕ) (o : Option Copy) → IsCopyOf T bytes o → is_some o ≡ true
@@ -532,7 +535,7 @@ pub wrote_agrees : (T : Bool) (A : List ℕ → List ℕ → Type 0) (N C : ℕ)
     (fin : Option Finished) (cs : Calls) (p : Page) (bytes : List ℕ) (kept : Option Copy) (again : Bool)
     → Agrees T A N C z H q bl fs fin cs → find (is_flight_of (which.Write p)) fs ≡ Some (Write p bytes) → (again ≡ true → is_some kept ≡ true)
     → HoldsPage (record { flying = None; next = kept }) (block_in bl p) (array z H p)
-    → Agrees T A N C z H (queue.with_places q p (record { flying = None; next = kept }) again) bl (without (which.Write p) fs) None cs
+    → Agrees T A N C z H (queue.with_places q p (record { flying = None; next = kept }) again) bl (without_flight (which.Write p) fs) None cs
 wrote_agrees T A N C z H q bl fs fin cs p bytes kept again k there_is waits_ holds =
     let w : IsExpected T N C q cs (Write p bytes) = found (IsExpected T N C q cs) (which.Write p) fs (Write p bytes) there_is k.expected in
     let x : Places = record { flying = None; next = kept } in
@@ -552,7 +555,7 @@ wrote_agrees T A N C z H q bl fs fin cs p bytes kept again k there_is waits_ hol
           (λ i. holds_same x (places_of q' p) (block_in bl p) (block_in bl p) (array z H p) (array z H p) here refl refl holds) (λ ne i.
           holds_same (places_of q r) (places_of q' r) (block_in bl r) (block_in bl r) (array z H r) (array z H r) (there r ne) refl refl (k.held r i)) in_range;
       expected =
-          All-implies (λ f. IsExpected T N C q cs f × (same_which (which.Write p) (which_of f) ≡ false)) _ (without (which.Write p) fs) (λ f h.
+          All-implies (λ f. IsExpected T N C q cs f × (same_which (which.Write p) (which_of f) ≡ false)) _ (without_flight (which.Write p) fs) (λ f h.
           expected_queue T N C q q' cs f (λ r c e.
           flying_same q q' r (there r (λ same. eqb-false p.0 r.0 (subst (λ g. same_which (which.Write p) (which_of g) ≡ false) e h.1) (sym same)))) h.0)
           (both _ _ _ (All-without (IsExpected T N C q cs) (which.Write p) fs k.expected) (left_other (which.Write p) fs k.distinct));
@@ -575,7 +578,8 @@ wrote_agrees T A N C z H q bl fs fin cs p bytes kept again k there_is waits_ hol
           some_not_none (flying q p) flies_copy (subst (λ n. flying q (record { 0 = n }) ≡ None) (sym same) h.2)) k.in_line);
       fair =
           All-implies (λ (call : Call). IsFair T A N z H q call.bytes call.state) _ cs (λ call h.
-          fair_wrote T A N z H q q' p call.bytes call.state (some_first (next q p) (flying q p) flies_copy) (λ r ne. newest_same q q' r (there r ne)) h) k.fair;
+          fair_wrote T A N z H q q' p call.bytes call.state (some_first (next_copy q p) (flying q p) flies_copy) (λ r ne. newest_same q q' r (there r ne)) h)
+          k.fair;
       faithful = k.faithful;
     }
 
@@ -629,11 +633,11 @@ fair_read T A N z H q bl p call own bytes how (Reading r newest_ (via.Lender l) 
 pub read_back_agrees : (T : Bool) (A : List ℕ → List ℕ → Type 0) (N C : ℕ) (z : List ℕ) (H : History) (q : Queue) (bl : Option (List (List ℕ)))
     (fs : List Flight) (fin : Option Finished) (cs : Calls) (c : Caller) (p : Page) (bytes : List ℕ) (how : Arrived)
     → Agrees T A N C z H q bl fs fin cs → IsExpected T N C q cs (Read c p) → IsBrought bl p bytes how
-    → Agrees T A N C z H q bl (without (which.Read c) fs) None (set cs c.0 (calls.arrives how bytes (call_of cs c) (state_of cs c)))
+    → Agrees T A N C z H q bl (without_flight (which.Read c) fs) None (set cs c.0 (calls.arrives how bytes (call_of cs c) (state_of cs c)))
 read_back_agrees T A N C z H q bl fs fin cs c p bytes how k w b =
     let call : Call = calls.arrives how bytes (call_of cs c) (state_of cs c) in
     let mine : IsFair T A N z H q (call_of cs c).bytes (state_of cs c) =
-    All-get_or (λ (call : Call). IsFair T A N z H q call.bytes call.state) cs c.0 idle k.fair tt in
+    All-get_or (λ (call : Call). IsFair T A N z H q call.bytes call.state) cs c.0 idle_call k.fair tt in
     record {
       tells = k.tells;
       places_len = k.places_len;
@@ -641,7 +645,7 @@ read_back_agrees T A N C z H q bl fs fin cs c p bytes how k w b =
       calls_len = length-set cs c.0 call ∙ k.calls_len;
       held = k.held;
       expected =
-          All-implies (λ f. IsExpected T N C q cs f × (same_which (which.Read c) (which_of f) ≡ false)) _ (without (which.Read c) fs)
+          All-implies (λ f. IsExpected T N C q cs f × (same_which (which.Read c) (which_of f) ≡ false)) _ (without_flight (which.Read c) fs)
           (λ f h. expected_other_call T N C q cs c call f h.1 h.0)
           (both _ _ _ (All-without (IsExpected T N C q cs) (which.Read c) fs k.expected) (left_other (which.Read c) fs k.distinct));
       distinct = distinct-without (which.Read c) fs k.distinct;
@@ -676,7 +680,7 @@ settled_holds T N C z H q cs blocks (Write p bytes) ok left r w h =
     (λ r. HoldsPage (places_of q r) (Some (get_or blocks r.0 [])) (array z H r)
     → HoldsPage (places_of q r) (Some (get_or (settled_with blocks (Write p bytes) ok left) r.0 [])) (array z H r))
     p r
-    (λ h. first_flies (next q p) (flying q p) _ _ _ (copy_flies T bytes (flying q p) w.1) h)
+    (λ h. first_flies (next_copy q p) (flying q p) _ _ _ (copy_flies T bytes (flying q p) w.1) h)
     (λ ne h. let P : List ℕ → Type 0 = λ b. HoldsPage (places_of q r) (Some b) (array z H r) in subst P (sym (other ok ne)) h)
     h
   where

@@ -21,7 +21,7 @@ use Rattle.swap_rings.specs.declared.Request.{Request}
 use Rattle.swap_rings.specs.declared.Request.TheVariants.{Query, Borrow, Write, Read}
 use Rattle.swap_remote.specs.Remote as remote
 use Rattle.swap_remote.specs.Remote.{Remote, slab_for, state_for, has_page}
-use Rattle.swap_table.specs.Serves.{Keeping, Owing, latest, IsLeasedFrom, IsAwaited, MayPrecede, OwesReads, LinkFits, SlabFits, PageFits, AreSingle, Serves}
+use Rattle.swap_table.specs.Serves.{Keeping, Owing, latest_write, IsLeasedFrom, IsAwaited, MayPrecede, OwesReads, LinkFits, SlabFits, PageFits, AreSingle, Serves}
 use Rattle.swap_table.proofs.Lists.{All-implies}
 use Rattle.swap_table.proofs.Leases.{single_fewer}
 use Rattle.swap_table.proofs.Links.{by_lender, by_slab, state-same, state-other, latest-append}
@@ -109,7 +109,8 @@ home_single states t state within home single = single_fewer states t state with
 -- a page, where a slab at home has a new state
 page_home :
     (keeps keeps' : Keeping) (s : Sizes) (H : History) (r : Remote) (links : List LinkState) (q : Page) (t : Slab) (state : SlabState) → t.0 < length r.slabs
-    → IsHome (slabs.state_of r.slabs t) → IsHome state → KeepsAll keeps keeps' → ((m : Lender) → latest q (ring_of links m) ≡ latest q (ring_of r.links m))
+    → IsHome (slabs.state_of r.slabs t) → IsHome state → KeepsAll keeps keeps'
+    → ((m : Lender) → latest_write q (ring_of links m) ≡ latest_write q (ring_of r.links m))
     → PageFits keeps s H r.links q (has_page r q) (state_for s r.slabs q)
     → PageFits keeps' s H links q (has_page r q) (state_for s (slabs.with_state r.slabs t state) q)
 page_home keeps keeps' s H r links q t state within was home kept same h =
@@ -141,11 +142,11 @@ slab_home s states links links' t u state within home each h =
 
 latest-query :
     (links : List LinkState) (l m : Lender) (t : Slab) (q : Page) → l.0 < length links
-    → latest q (ring_of (rings.sent links l (Query t)) m) ≡ latest q (ring_of links m)
+    → latest_write q (ring_of (rings.sent_after links l (Query t)) m) ≡ latest_write q (ring_of links m)
 latest-query links l m t q within =
-    by_lender (λ m. latest q (ring_of (rings.sent links l (Query t)) m) ≡ latest q (ring_of links m)) l m
-    (ap (λ (k : LinkState). latest q k.ring) (sent-same links l (Query t) within) ∙ latest-append q (ring_of links l) (Query t))
-    (λ other. ap (λ (k : LinkState). latest q k.ring) (sent-other links l m (Query t) other))
+    by_lender (λ m. latest_write q (ring_of (rings.sent_after links l (Query t)) m) ≡ latest_write q (ring_of links m)) l m
+    (ap (λ (k : LinkState). latest_write q k.ring) (sent-same links l (Query t) within) ∙ latest-append q (ring_of links l) (Query t))
+    (λ other. ap (λ (k : LinkState). latest_write q k.ring) (sent-other links l m (Query t) other))
 
 -- a query comes after the requests under way on a link that the slab didn't ask on
 before_query :
@@ -162,7 +163,7 @@ query_serves : (keeps keeps' : Keeping) (owes owes' : Owing) (s : Sizes) (n : �
     → Serves keeps owes s n H cs r → t.0 < s.slabs → IsHome (slabs.state_of r.slabs t) → IsHome state → is_up r.links l ≡ true
     → (slabs.asks l (slabs.state_of r.slabs t) ≡ true → ⊥) → slabs.asks l state ≡ true
     → ((m : Lender) → slabs.asks m (slabs.state_of r.slabs t) ≡ true → slabs.asks m state ≡ true) → KeepsAll keeps keeps' → OwesAll owes owes'
-    → Serves keeps' owes' s n H cs (record r { slabs = slabs.with_state r.slabs t state; links = rings.sent r.links l (Query t) })
+    → Serves keeps' owes' s n H cs (record r { slabs = slabs.with_state r.slabs t state; links = rings.sent_after r.links l (Query t) })
 query_serves keeps keeps' owes owes' s n H cs r t l state k within was home up quiet asks more kept owed =
     let x : Request = Query t in
     let states' : List SlabState = slabs.with_state r.slabs t state in
@@ -180,10 +181,11 @@ query_serves keeps keeps' owes owes' s n H cs r t l state k within was home up q
       single = home_single r.slabs t state slab_in home k.single;
       slab =
           λ u u_in.
-          slab_home s r.slabs r.links (rings.sent r.links l x) t u state slab_in home (λ u y h. slab_sent s r.links l x u y link_in refl h) (k.slab u u_in);
+          slab_home s r.slabs r.links (rings.sent_after r.links l x) t u state slab_in home (λ u y h. slab_sent s r.links l x u y link_in refl h)
+          (k.slab u u_in);
       link =
           λ m.
-          by_lender (λ m. LinkFits owes' s n H cs states' m (link_of (rings.sent r.links l x) m)) l m
+          by_lender (λ m. LinkFits owes' s n H cs states' m (link_of (rings.sent_after r.links l x) m)) l m
           (let P : LinkState → Type 0 = λ y. LinkFits owes' s n H cs states' l y in
           subst P (sym (sent-same r.links l x link_in))
           (link_sent owes owes' s n H cs r.slabs states' l (link_of r.links l) x up (each l)
@@ -196,7 +198,8 @@ query_serves keeps keeps' owes owes' s n H cs r t l state k within was home up q
           subst P (sym (sent-other r.links l m x other)) (link_stays owes owes' s n H cs r.slabs states' m (link_of r.links m) (each m) (owed m) (k.link m)));
       page =
           λ q q_in.
-          page_home keeps keeps' s H r (rings.sent r.links l x) q t state slab_in was home kept (λ m. latest-query r.links l m t q link_in) (k.page q q_in);
+          page_home keeps keeps' s H r (rings.sent_after r.links l x) q t state slab_in was home kept (λ m. latest-query r.links l m t q link_in)
+          (k.page q q_in);
     }
 
 -- a pair asks its first, and its second where there is one
@@ -263,7 +266,7 @@ and_parts false b h = cc
 
 others_asked :
     (l m : Lender) (pair : Pair) (reply : Reply) → (m.0 ≡ l.0 → ⊥) → slabs.waits_for pair l ≡ true → slabs.waits_for pair m ≡ true
-    → slabs.asks m (slabs.answered_state (slabs.replied pair l reply)) ≡ true
+    → slabs.asks m (slabs.answered_state (slabs.with_reply pair l reply)) ≡ true
 others_asked l m pair reply other here there = go (pair.first.0 == l.0) refl
   where
     first_not : (pair.first.0 == l.0) ≡ true → (pair.first.0 == m.0) ≡ false
@@ -316,9 +319,9 @@ after_home Local l reply h = cc
 after_home (Borrowing o) l reply h = cc
 after_home (Mapped o lease flying) l reply h = cc
 after_home (Draining o lease flying) l reply h = cc
-after_home (Asking pair) l reply h = (tt, go (slabs.waits (slabs.replied pair l reply)), λ m other there. others_asked l m pair reply other h there)
+after_home (Asking pair) l reply h = (tt, go (slabs.waits (slabs.with_reply pair l reply)), λ m other there. others_asked l m pair reply other h there)
   where
-    go : (b : Bool) → IsHome (cond b (Asking (slabs.replied pair l reply)) Local)
+    go : (b : Bool) → IsHome (cond b (Asking (slabs.with_reply pair l reply)) Local)
     go true = tt
     go false = tt
 
@@ -335,7 +338,7 @@ after_query t (Read c p) s H cs states l home k a = tt
 pub told_serves : (keeps keeps' : Keeping) (owes owes' : Owing) (s : Sizes) (n : ℕ) (H : History) (cs : Calls) (r : Remote) (l : Lender) (t : Slab) (free : ℕ)
     (rest : List Request)
     → Serves keeps owes s n H cs r → is_up r.links l ≡ true → ring_of r.links l ≡ Query t ∷ rest → KeepsAll keeps keeps' → OwesAll owes owes'
-    → Serves keeps' owes' s n H cs (remote.told r l t free)
+    → Serves keeps' owes' s n H cs (remote.told_after r l t free)
 told_serves keeps keeps' owes owes' s n H cs r l t free rest k up ring kept owed =
     let x : Request = Query t in
     let awaited : AllByRecursion (IsAwaited s H cs r.slabs l) (x ∷ rest) =
@@ -355,7 +358,7 @@ told_serves keeps keeps' owes owes' s n H cs r l t free rest k up ring kept owed
       slab_in = within;
       off = λ u other. refl;
       single = home_single r.slabs t state slab_in home k.single;
-      fits = home_fits s (rings.answered r.links l) t state home;
+      fits = home_fits s (rings.answered_after r.links l) t state home;
       calls_len = refl;
       here =
           λ after h.
@@ -368,13 +371,13 @@ told_serves keeps keeps' owes owes' s n H cs r l t free rest k up ring kept owed
     })
     refl
     (λ q q_in.
-    page_home keeps keeps' s H r (rings.answered r.links l) q t state slab_in was home kept (λ m. latest_answered r.links l m x rest q link_in ring refl)
+    page_home keeps keeps' s H r (rings.answered_after r.links l) q t state slab_in was home kept (λ m. latest_answered r.links l m x rest q link_in ring refl)
     (k.page q q_in))
 
 -- a lender that was asked is gone, and its link is down
 pub gone_serves :
     (keeps : Keeping) (owes : Owing) (s : Sizes) (n : ℕ) (H : History) (cs : Calls) (r : Remote) (l : Lender) (t : Slab) → Serves keeps owes s n H cs r
-    → t.0 < s.slabs → is_up r.links l ≡ false → slabs.asks l (slabs.state_of r.slabs t) ≡ true → Serves keeps owes s n H cs (remote.gone r l t)
+    → t.0 < s.slabs → is_up r.links l ≡ false → slabs.asks l (slabs.state_of r.slabs t) ≡ true → Serves keeps owes s n H cs (remote.gone_after r l t)
 gone_serves keeps owes s n H cs r l t k within off asks =
     let slab_in : t.0 < length r.slabs = subst (λ m. t.0 < m) (sym k.slabs_len) within in
     let state : SlabState = slabs.after_answer (slabs.state_of r.slabs t) l reply.Gone in

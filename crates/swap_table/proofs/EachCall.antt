@@ -12,7 +12,7 @@ use Rattle.swap_table.specs.Ports.{Prog}
 use Rattle.swap_table.specs.Device.{Device, of_device}
 use Rattle.swap_table.specs.Happens.{happens}
 use Rattle.swap_table.specs.Goes.{Goes, EachKeeps}
-use Rattle.swap_table.specs.Moves.{Within, of_sizes, Speaker, quiet, Move}
+use Rattle.swap_table.specs.Moves.{Within, of_sizes, Speaker, quiet_speaker, Move}
 use Rattle.swap_table.specs.Promises.{FollowsItsMoves, Promises}
 use Rattle.swap_table.specs.Laws.{AgreeWith, AgreesAfter, EachCallKeeps, NewAgrees}
 use Rattle.swap_table.proofs.Programs.{Leads-implies}
@@ -48,13 +48,15 @@ there d = of_sizes d.sizes d.lenders anyone any
 module _ {D F : Type 0} (disk : DiskMeaning D) (follows : FollowsItsMoves disk) (fabric : FabricMeaning F) (laws : Promises fabric) where
   -- what goes by moves and leaves the device quiet keeps it
   pub goes_keep :
-      {R : Type 0} (T : Bool) (d : Device) (p : Prog (Device × R)) (k : D) (f : F) → Goes (Move (there d)) (λ (a : Device × R) s. s ≡ quiet a.0) (quiet d) p
+      {R : Type 0} (T : Bool) (d : Device) (p : Prog (Device × R)) (k : D) (f : F)
+      → Goes (Move (there d)) (λ (a : Device × R) s. s ≡ quiet_speaker a.0) (quiet_speaker d) p
       → AgreeWith disk fabric T d k f → AgreesAfter disk fabric T p d k f
   goes_keep {R} T d p k f g h =
-      let first : Agrees (quiet d) k f × Accounted (quiet d) k f =
+      let first : Agrees (quiet_speaker d) k f × Accounted (quiet_speaker d) k f =
       (record { fits = record { disk = h.0.disk; serves = h.0.serves }; is = refl; of_f = h.1 }, h.0.accounts) in
       Leads-implies disk.moves fabric.moves p k f _ _ then_kept
-      (Goes-leads (Move (there d)) disk.moves fabric.moves (λ s k f. Agrees s k f × Accounted s k f) each (λ (a : Device × R) s. s ≡ quiet a.0) k f g first)
+      (Goes-leads (Move (there d)) disk.moves fabric.moves (λ s k f. Agrees s k f
+      × Accounted s k f) each (λ (a : Device × R) s. s ≡ quiet_speaker a.0) k f g first)
     where
       Agrees : Speaker → D → F → Type 0
       Agrees = keep.Agrees disk follows fabric laws T (of_device d) anyone any
@@ -68,11 +70,11 @@ module _ {D F : Type 0} (disk : DiskMeaning D) (follows : FollowsItsMoves disk) 
           (accounting.each_accounts disk follows fabric laws T (of_device d) anyone any)
 
       then_kept :
-          (a : Device × R) (k : D) (f : F) → ((s : Speaker) × (s ≡ quiet a.0) × (Agrees s k f × Accounted s k f))
+          (a : Device × R) (k : D) (f : F) → ((s : Speaker) × (s ≡ quiet_speaker a.0) × (Agrees s k f × Accounted s k f))
           → AgreeWith disk fabric T a.0 k f × (of_device a.0 ≡ of_device d)
       then_kept a k f (s, is, (agree, accounted)) =
-          let now : Agrees (quiet a.0) k f = subst (λ x. Agrees x k f) is agree in
-          let then : Accounted (quiet a.0) k f = subst (λ x. Accounted x k f) is accounted in
+          let now : Agrees (quiet_speaker a.0) k f = subst (λ x. Agrees x k f) is agree in
+          let then : Accounted (quiet_speaker a.0) k f = subst (λ x. Accounted x k f) is accounted in
           ((record { disk = now.fits.disk; serves = now.fits.serves; accounts = then }, now.of_f ∙ sym now.is), now.is)
 
   pub fares_keep :

@@ -3,7 +3,7 @@ use Rattle.std.proofs.Common.{◌≡◌, ℕ, ◌<◌, ◌≤◌, Bool, true, fa
 use Rattle.std.proofs.lemmas.Bool.{eqb-true, eq-eqb}
 use Rattle.swap_base.specs.declared.Page.{Page}
 use Rattle.swap_base.specs.declared.EntryNo.{EntryNo}
-use Rattle.swap_record.specs.History.{History, Row, array, last, named, is_out_of, next_name}
+use Rattle.swap_record.specs.History.{History, Row, array, last, row_named, is_out_of, next_name}
 use Rattle.swap_table.specs.Serves.{IsOut, IsOutIn, bytes_of, bytes_in}
 use Rattle.swap_table.proofs.Lists.{not_eqb}
 
@@ -12,20 +12,20 @@ pub out_within : (H : History) (p : Page) (e : EntryNo) → IsOut H p e → e.0 
 out_within [] p e out = absurd out
 out_within (row ∷ H) p e out = go (length H == e.0) refl out (out_within H p e)
   where
-    go : (b : Bool) → (length H == e.0) ≡ b → IsOutIn p (cond b (Some row) (named H e.0)) → (IsOut H p e → e.0 < length H) → e.0 < length (row ∷ H)
+    go : (b : Bool) → (length H == e.0) ≡ b → IsOutIn p (cond b (Some row) (row_named H e.0)) → (IsOut H p e → e.0 < length H) → e.0 < length (row ∷ H)
     go true is out rest = let same = eqb-true (length H) e.0 is in omega (arith, same)
     go false is out rest = let less = rest out in omega (arith, less)
 
 -- it stays as the history goes on
-pub named_on : (H : History) (row : Row) (e : EntryNo) → e.0 < length H → named (row ∷ H) e.0 ≡ named H e.0
-named_on H row e within = ap (λ b. cond b (Some row) (named H e.0)) (not_eqb (length H) e.0 (λ same. absurd (omega (arith, same, within))))
+pub named_on : (H : History) (row : Row) (e : EntryNo) → e.0 < length H → row_named (row ∷ H) e.0 ≡ row_named H e.0
+named_on H row e within = ap (λ b. cond b (Some row) (row_named H e.0)) (not_eqb (length H) e.0 (λ same. absurd (omega (arith, same, within))))
 
 pub out_on : (H : History) (row : Row) (p : Page) (e : EntryNo) → IsOut H p e → IsOut (row ∷ H) p e × (bytes_of (row ∷ H) e ≡ bytes_of H e)
 out_on H row p e out = let same = named_on H row e (out_within H p e out) in (subst (λ o. IsOutIn p o) (sym same) out, ap bytes_in same)
 
 -- the entry that was pushed last
-pub named_last : (H : History) (row : Row) → named (row ∷ H) (next_name H).0 ≡ Some row
-named_last H row = ap (λ b. cond b (Some row) (named H (length H))) (eq-eqb (length H) (length H) refl)
+pub named_last : (H : History) (row : Row) → row_named (row ∷ H) (next_name H).0 ≡ Some row
+named_last H row = ap (λ b. cond b (Some row) (row_named H (length H))) (eq-eqb (length H) (length H) refl)
 
 pub last_within : (H : History) (p : Page) (e : EntryNo) → last H p ≡ Some e → e.0 < length H
 last_within [] p e is = cc
@@ -61,7 +61,7 @@ pub none_later : (H : History) (p : Page) (e g : EntryNo) → last H p ≡ Some 
 none_later [] p e g is out = absurd out
 none_later (row ∷ H) p e g is out = go (is_out_of p row) refl is (none_later H p e g)
   where
-    here : (b : Bool) → (length H == g.0) ≡ b → IsOutIn p (cond b (Some row) (named H g.0)) → (is_out_of p row ≡ true → ⊥) → IsOut H p g
+    here : (b : Bool) → (length H == g.0) ≡ b → IsOutIn p (cond b (Some row) (row_named H g.0)) → (is_out_of p row ≡ true → ⊥) → IsOut H p g
     here true same out off = absurd (off out)
     here false same out off = out
 

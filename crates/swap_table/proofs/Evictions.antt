@@ -30,13 +30,13 @@ use Rattle.swap_table.proofs.Returns.{IsAtRest, mapped_rests, drained_fits, drai
 -- a mapped slab is taken back: its bits are cleared, and it drains
 pub evicted_serves : (keeps keeps' : Keeping) (owes owes' : Owing) (s : Sizes) (n : ℕ) (H : History) (cs : Calls) (r : Remote) (l : Lender) (t : Slab)
     (lease : Lease) (flying : ℕ)
-    → Serves keeps owes s n H cs r → t.0 < s.slabs → slabs.state_of r.slabs t ≡ Mapped l lease flying → length (remote.evicted s r t).bits ≡ length r.bits
-    → ((q : Page) → q.0 < pages_of s → has_page (remote.evicted s r t) q ≡ cond (slab_of s q.0 == t.0) false (has_page r q)) → KeepsAll keeps keeps'
-    → OwesAll owes owes' → Serves keeps' owes' s n H cs (remote.evicted s r t)
+    → Serves keeps owes s n H cs r → t.0 < s.slabs → slabs.state_of r.slabs t ≡ Mapped l lease flying → length (remote.evicted_after s r t).bits ≡ length r.bits
+    → ((q : Page) → q.0 < pages_of s → has_page (remote.evicted_after s r t) q ≡ cond (slab_of s q.0 == t.0) false (has_page r q)) → KeepsAll keeps keeps'
+    → OwesAll owes owes' → Serves keeps' owes' s n H cs (remote.evicted_after s r t)
 evicted_serves keeps keeps' owes owes' s n H cs r l t lease flying k within is bits_len bit kept owed =
     let slab_in : t.0 < length r.slabs = subst (λ m. t.0 < m) (sym k.slabs_len) within in
     let state : SlabState = slabs.after_evict (slabs.state_of r.slabs t) in
-    let is_state : state ≡ slabs.drained l lease flying = ap slabs.after_evict is in
+    let is_state : state ≡ slabs.drain_to l lease flying = ap slabs.after_evict is in
     let states' : List SlabState = slabs.with_state r.slabs t state in
     let before : SlabFits s r.links t (Mapped l lease flying) = let P : SlabState → Type 0 = λ y. SlabFits s r.links t y in subst P is (k.slab t within) in
     let rests : IsAtRest (slabs.state_of r.slabs t) = mapped_rests l lease flying (slabs.state_of r.slabs t) is in
@@ -77,17 +77,19 @@ evicted_serves keeps keeps' owes owes' s n H cs r l t lease flying k within is b
           λ q q_in.
           by_slab
           (λ u. (u.0 ≡ slab_of s q.0) → PageFits keeps s H r.links q (has_page r q) (slabs.state_of r.slabs u)
-          → PageFits keeps' s H r.links q (has_page (remote.evicted s r t) q) (slabs.state_of states' u))
+          → PageFits keeps' s H r.links q (has_page (remote.evicted_after s r t) q) (slabs.state_of states' u))
           t
           (slab_for s q)
           (λ same _.
-          let clear : has_page (remote.evicted s r t) q ≡ false = bit q q_in ∙ ap (λ b. cond b false (has_page r q)) (eq-eqb (slab_of s q.0) t.0 (sym same)) in
-          let Q : SlabState → Type 0 = λ y. PageFits keeps' s H r.links q (has_page (remote.evicted s r t) q) y in
+          let clear : has_page (remote.evicted_after s r t) q ≡ false =
+          bit q q_in ∙ ap (λ b. cond b false (has_page r q)) (eq-eqb (slab_of s q.0) t.0 (sym same)) in
+          let Q : SlabState → Type 0 = λ y. PageFits keeps' s H r.links q (has_page (remote.evicted_after s r t) q) y in
           subst Q (sym (state-same r.slabs t state slab_in ∙ is_state))
-          (drained_page keeps' s H r.links q (has_page (remote.evicted s r t) q) l lease flying clear))
+          (drained_page keeps' s H r.links q (has_page (remote.evicted_after s r t) q) l lease flying clear))
           (λ other _ h.
-          let stays : has_page (remote.evicted s r t) q ≡ has_page r q = bit q q_in ∙ ap (λ b. cond b false (has_page r q)) (ne (slab_of s q.0) t.0 other) in
-          let Q : SlabState → Type 0 = λ y. PageFits keeps' s H r.links q (has_page (remote.evicted s r t) q) y in
+          let stays : has_page (remote.evicted_after s r t) q ≡ has_page r q =
+          bit q q_in ∙ ap (λ b. cond b false (has_page r q)) (ne (slab_of s q.0) t.0 other) in
+          let Q : SlabState → Type 0 = λ y. PageFits keeps' s H r.links q (has_page (remote.evicted_after s r t) q) y in
           let R : Bool → Type 0 = λ b. PageFits keeps' s H r.links q b (state_for s r.slabs q) in
           subst Q (sym (state-other r.slabs t (slab_for s q) state other))
           (subst R (sym stays)
@@ -169,7 +171,7 @@ own_lease l k m j em ej = ap (λ b. b && (j.0 == k.0)) (eq-eqb m.0 l.0 em) ∙ e
 
 pub settled_free :
     (states : List SlabState) (t : Slab) (l : Lender) (lease : Lease) → AreSingle states → IsLeasedFrom l (slabs.state_of states t)
-    → slabs.settled_lease (slabs.state_of states t) ≡ Some lease → slabs.by_lease (slabs.settled states t) l lease ≡ None
+    → slabs.settled_lease (slabs.state_of states t) ≡ Some lease → slabs.by_lease (slabs.settled_after states t) l lease ≡ None
 settled_free states t l lease single at gives = go (slabs.state_of states t) refl at gives
   where
     go :
@@ -188,7 +190,7 @@ settled_free states t l lease single at gives = go (slabs.state_of states t) ref
 
 pub evicted_free :
     (states : List SlabState) (t : Slab) (l : Lender) (k lease : Lease) (flying : ℕ) → AreSingle states → slabs.state_of states t ≡ Mapped l k flying
-    → slabs.evicted_lease (slabs.state_of states t) ≡ Some lease → slabs.by_lease (slabs.evicted states t) l lease ≡ None
+    → slabs.evicted_lease (slabs.state_of states t) ≡ Some lease → slabs.by_lease (slabs.evicted_after states t) l lease ≡ None
 evicted_free states t l k lease flying single is gives =
     let given = lease_is k lease (flying == 0) (sym (ap slabs.evicted_lease is) ∙ gives) in
     let home : slabs.after_evict (slabs.state_of states t) ≡ Local = ap slabs.after_evict is ∙ ap (λ b. cond b Local (Draining l k flying)) given.0 in

@@ -29,7 +29,7 @@ use Rattle.swap_remote.specs.lemmas.Cleared.{evicted_bit, length-evicted}
 use Rattle.swap_wire.specs.declared.fabric.Sent.TheVariants as sent
 use Rattle.swap_wire.specs.Fabric.{Parcel, parcel_of, Brought, FabricCall, Send, Take, FabricAnswer, FabricOf, ends_keeping, changes_owing, lends, is_page, is_read, replaces}
 use Rattle.swap_calls.specs.Calls as calls
-use Rattle.swap_calls.specs.Calls.{Call, Calls, state_of, call_of, idle, is_idle}
+use Rattle.swap_calls.specs.Calls.{Call, Calls, state_of, call_of, idle_call, is_idle}
 use Rattle.swap_calls.specs.declared.Arrived.TheVariants as arrived
 use Rattle.swap_calls.specs.declared.CallState.{CallState}
 use Rattle.swap_calls.specs.declared.CallState.TheVariants.{Idle, Room, Reading}
@@ -43,7 +43,7 @@ use Rattle.swap_rings.specs.declared.Request.{Request}
 use Rattle.swap_rings.specs.declared.Request.TheVariants as request
 use Rattle.swap_remote.specs.Remote as remote
 use Rattle.swap_remote.specs.Remote.{Remote, has_page, target}
-use Rattle.swap_table.specs.Device.{Device, of_device, enter, give, fault, lost, wait_for_room, wait_for_disk, source, origin_of, wrote, took, took_back, raised, next_link, Heard, done_word, is_newest}
+use Rattle.swap_table.specs.Device.{Device, of_device, enter_entry, give, fault, lost_after, wait_for_room, wait_for_disk, source, origin_of, wrote_after, took_after, took_back, raised_after, next_link, Heard, done_word, is_newest}
 use Rattle.swap_table.specs.Fits.{KeepsNewest, IsBlock, block_in, WaitsFor, IsExpected, IsFair, FitsDisk}
 use Rattle.swap_table.specs.Serves.{Keeping, Owing, IsOutIn, bytes_in, WaitsFrom, IsAwaited, MayPrecede, OwesReads, Serves}
 use Rattle.swap_table.specs.Promises.{FollowsItsMoves, Promises}
@@ -182,7 +182,7 @@ module _ {D F : Type 0} (disk : DiskMeaning D) (follows : FollowsItsMoves disk) 
       → IsFair T fabric.answers (pages_of d.sizes) (zeros d.sizes) d.history d.queue (call_of d.calls c).bytes (state_of d.calls c)
   fair_of d k f c h =
       All-get_or
-      (λ (call : Call). IsFair T fabric.answers (pages_of d.sizes) (zeros d.sizes) d.history d.queue call.bytes call.state) d.calls c.0 idle
+      (λ (call : Call). IsFair T fabric.answers (pages_of d.sizes) (zeros d.sizes) d.history d.queue call.bytes call.state) d.calls c.0 idle_call
       h.fits.disk.agrees.fair tt
 
   fair_as :
@@ -215,7 +215,8 @@ module _ {D F : Type 0} (disk : DiskMeaning D) (follows : FollowsItsMoves disk) 
   ins_within d k f c p h (late_in {n = n} {v = v} {how = how} {newer = newer} {since = since} is may) = (fair_as d k f c (Reading p n v how newer since) h is).0
 
   -- what the device does by itself
-  enter_kept : (d : Device) (k : D) (f : F) (c : Caller) (p : Page) (bytes : List ℕ) → Agree d k f → Outs There d c p bytes → Agree (enter d c p bytes) k f
+  enter_kept : (d : Device) (k : D) (f : F) (c : Caller) (p : Page) (bytes : List ℕ) → Agree d k f → Outs There d c p bytes
+      → Agree (enter_entry d c p bytes) k f
   enter_kept d k f c p bytes h outs =
       let idles = outs_wait There d c p bytes outs in
       record {
@@ -318,7 +319,7 @@ module _ {D F : Type 0} (disk : DiskMeaning D) (follows : FollowsItsMoves disk) 
   -- with the disk
   start_kept :
       (d : Device) (k k' : D) (f : F) (p : Page) (line : List Page) (copy : Copy) (r : Unit {0}) → Agree d k f → d.queue.line ≡ p ∷ line
-      → queue.next d.queue p ≡ Some copy → disk.moves k (StartWrite p copy.bytes) r k' → Agree (record d { queue = queue.start d.queue }) k' f
+      → queue.next_copy d.queue p ≡ Some copy → disk.moves k (StartWrite p copy.bytes) r k' → Agree (record d { queue = queue.start d.queue }) k' f
   start_kept d k k' f p line copy r h el ec moved = record {
     fits =
         record {
@@ -352,7 +353,7 @@ module _ {D F : Type 0} (disk : DiskMeaning D) (follows : FollowsItsMoves disk) 
       }
 
   wrote_serves : (d : Device) (f : F) (p : Page) (copy : Option Copy) (ok : Bool)
-      → Serves (fabric.keeps f) (fabric.owes f) d.sizes d.lenders d.history d.calls d.remote → let e : Device = (wrote d p copy ok).0 in
+      → Serves (fabric.keeps f) (fabric.owes f) d.sizes d.lenders d.history d.calls d.remote → let e : Device = (wrote_after d p copy ok).0 in
       Serves (fabric.keeps f) (fabric.owes f) e.sizes e.lenders e.history e.calls e.remote
   wrote_serves d f p None ok h = h
   wrote_serves d f p (Some copy) true h = h
@@ -362,7 +363,7 @@ module _ {D F : Type 0} (disk : DiskMeaning D) (follows : FollowsItsMoves disk) 
       (d : Device) (f : F) (w : DiskWhich) (p : Page) (ok : Bool) (bytes : List ℕ)
       → ((c : Caller) → w ≡ which.Read c → (m : Lender) (q : Page) → WaitsFrom m q (state_of d.calls c) → ⊥)
       → Serves (fabric.keeps f) (fabric.owes f) d.sizes d.lenders d.history d.calls d.remote
-      → let e : Device = (took d w p ok bytes).0 in Serves (fabric.keeps f) (fabric.owes f) e.sizes e.lenders e.history e.calls e.remote
+      → let e : Device = (took_after d w p ok bytes).0 in Serves (fabric.keeps f) (fabric.owes f) e.sizes e.lenders e.history e.calls e.remote
   took_serves d f (which.Write q) p ok bytes idles h = wrote_serves d f p (queue.flying d.queue p) ok h
   took_serves d f (which.Read c) p true bytes idles h =
       call_serves (fabric.keeps f) (fabric.owes f) d.sizes d.lenders d.history d.calls d.remote c
@@ -414,7 +415,7 @@ module _ {D F : Type 0} (disk : DiskMeaning D) (follows : FollowsItsMoves disk) 
 
   lost_kept :
       (d : Device) (k : D) (f g : F) (l : Lender) → Agree d k f → l.0 < d.lenders → KeepsOthers l (fabric.keeps f) (fabric.keeps g)
-      → OwesOthers l (fabric.owes f) (fabric.owes g) → fabric.of g ≡ o → Agree (lost d l) k g
+      → OwesOthers l (fabric.owes f) (fabric.owes g) → fabric.of g ≡ o → Agree (lost_after d l) k g
   lost_kept d k f g l h less kept owed of_g = record {
     fits =
         record {
@@ -455,11 +456,11 @@ module _ {D F : Type 0} (disk : DiskMeaning D) (follows : FollowsItsMoves disk) 
   gone_kept :
       (d : Device) (k : D) (f : F) (l : Lender) (t : Slab) → Agree d k f → is_up d.remote.links l ≡ false
       → slabs.asks l (slabs.state_of d.remote.slabs t) ≡ true
-      → Agree (record d { remote = remote.gone d.remote l t }) k f
+      → Agree (record d { remote = remote.gone_after d.remote l t }) k f
   gone_kept d k f l t h off asks = record {
     fits =
         record {
-          disk = remote_disk T fabric.answers d (disk.means k) (remote.gone d.remote l t) d.links_made h.fits.disk;
+          disk = remote_disk T fabric.answers d (disk.means k) (remote.gone_after d.remote l t) d.links_made h.fits.disk;
           serves =
               gone_serves (fabric.keeps f) (fabric.owes f) d.sizes d.lenders d.history d.calls d.remote l t h.fits.serves
               (subst (λ n. t.0 < n) h.fits.serves.slabs_len (asks_within d.remote.slabs l t asks)) off asks;
@@ -473,7 +474,7 @@ module _ {D F : Type 0} (disk : DiskMeaning D) (follows : FollowsItsMoves disk) 
       → fabric.moves f (Send l q) sent.Sent g
       → Agree e k g
   sent_kept d k f g l q e base h (write {c = c} {p = p} {k = j} {bytes = bytes} outs is) moved =
-      let x : Device = enter d c p bytes in
+      let x : Device = enter_entry d c p bytes in
       let entered : Agree x k f = enter_kept d k f c p bytes h outs in
       let t = target_is d.sizes d.remote p (l, j) is in
       let last_is = named_last d.history (row_of d.history c p op.PageOut bytes) in
@@ -600,7 +601,7 @@ module _ {D F : Type 0} (disk : DiskMeaning D) (follows : FollowsItsMoves disk) 
       record {
         fits =
             record {
-              disk = remote_disk T fabric.answers d (disk.means k) (remote.told d.remote l t free) d.links_made h.fits.disk;
+              disk = remote_disk T fabric.answers d (disk.means k) (remote.told_after d.remote l t free) d.links_made h.fits.disk;
               serves =
                   told_serves (fabric.keeps f) (fabric.keeps g) (fabric.owes f)
                   (fabric.owes g) d.sizes d.lenders d.history d.calls d.remote l t free rest h.fits.serves up ring
@@ -614,7 +615,7 @@ module _ {D F : Type 0} (disk : DiskMeaning D) (follows : FollowsItsMoves disk) 
       record {
         fits =
             record {
-              disk = remote_disk T fabric.answers d (disk.means k) (remote.lent d.remote l t j) d.links_made h.fits.disk;
+              disk = remote_disk T fabric.answers d (disk.means k) (remote.lent_after d.remote l t j) d.links_made h.fits.disk;
               serves =
                   lent_serves (fabric.keeps f) (fabric.keeps g) (fabric.owes f)
                   (fabric.owes g) d.sizes d.lenders d.history d.calls d.remote l t j rest h.fits.serves up ring none
@@ -628,7 +629,7 @@ module _ {D F : Type 0} (disk : DiskMeaning D) (follows : FollowsItsMoves disk) 
       record {
         fits =
             record {
-              disk = remote_disk T fabric.answers d (disk.means k) (remote.refused d.remote l t) d.links_made h.fits.disk;
+              disk = remote_disk T fabric.answers d (disk.means k) (remote.refused_after d.remote l t) d.links_made h.fits.disk;
               serves =
                   refused_serves (fabric.keeps f) (fabric.keeps g) (fabric.owes f)
                   (fabric.owes g) d.sizes d.lenders d.history d.calls d.remote l t rest h.fits.serves up ring
@@ -639,11 +640,12 @@ module _ {D F : Type 0} (disk : DiskMeaning D) (follows : FollowsItsMoves disk) 
       }
   heard_kept d k f g l q x h up (written {p = p} {e = n} {at = at} {rest = rest} ring says named) moved =
       let r = promised.wrote_is q.msg at says in
-      let after : Agree (record d { remote = remote.written d.sizes d.remote l p (is_newest (last d.history p) n) }) k g = record {
+      let after : Agree (record d { remote = remote.written_after d.sizes d.remote l p (is_newest (last d.history p) n) }) k g = record {
         fits =
             record {
               disk =
-                  remote_disk T fabric.answers d (disk.means k) (remote.written d.sizes d.remote l p (is_newest (last d.history p) n)) d.links_made h.fits.disk;
+                  remote_disk T fabric.answers d (disk.means k) (remote.written_after d.sizes d.remote l p (is_newest (last d.history p) n)) d.links_made
+                  h.fits.disk;
               serves =
                   written_serves (fabric.keeps f) (fabric.keeps g) (fabric.owes f)
                   (fabric.owes g) d.sizes d.lenders d.history d.calls d.remote l p n rest h.fits.serves up ring
@@ -652,7 +654,7 @@ module _ {D F : Type 0} (disk : DiskMeaning D) (follows : FollowsItsMoves disk) 
         is = h.is;
         of_f = laws.keep_of f _ _ g moved ∙ h.of_f;
       } in
-      owing_done (record d { remote = remote.written d.sizes d.remote l p (is_newest (last d.history p) n) }) k g l
+      owing_done (record d { remote = remote.written_after d.sizes d.remote l p (is_newest (last d.history p) n) }) k g l
       (slabs.settled_lease (remote.state_for d.sizes d.remote.slabs p)) after (up_below d k f l h up)
       (λ lease gives.
       let awaited : AllByRecursion (IsAwaited d.sizes d.history d.calls d.remote.slabs l) (request.Write p n ∷ rest) =
@@ -668,7 +670,7 @@ module _ {D F : Type 0} (disk : DiskMeaning D) (follows : FollowsItsMoves disk) 
       (subst (λ ys. OwesReads (fabric.owes f) d.history d.calls l ys) ring ((h.fits.serves.link l).owed up)) in
       let awaited : AllByRecursion (IsAwaited d.sizes d.history d.calls d.remote.slabs l) (request.Read c p ∷ rest) =
       subst (λ ys. AllByRecursion (IsAwaited d.sizes d.history d.calls d.remote.slabs l) ys) ring (h.fits.serves.link l).awaited in
-      let after : Agree (record d { remote = remote.settled_for d.sizes d.remote l p; calls = calls.came d.calls c q.page }) k g = record {
+      let after : Agree (record d { remote = remote.settled_for d.sizes d.remote l p; calls = calls.came_after d.calls c q.page }) k g = record {
         fits =
             record {
               disk =
@@ -683,7 +685,7 @@ module _ {D F : Type 0} (disk : DiskMeaning D) (follows : FollowsItsMoves disk) 
         is = h.is;
         of_f = laws.keep_of f _ _ g moved ∙ h.of_f;
       } in
-      owing_done (record d { remote = remote.settled_for d.sizes d.remote l p; calls = calls.came d.calls c q.page }) k g l
+      owing_done (record d { remote = remote.settled_for d.sizes d.remote l p; calls = calls.came_after d.calls c q.page }) k g l
       (slabs.settled_lease (remote.state_for d.sizes d.remote.slabs p)) after (up_below d k f l h up)
       (λ lease gives. settled_free d.remote.slabs (remote.slab_for d.sizes p) l lease h.fits.serves.single awaited.0.2 gives)
   heard_kept d k f g l q x h up (asked_rate {t = t} {k = j} says at) moved =
@@ -693,10 +695,10 @@ module _ {D F : Type 0} (disk : DiskMeaning D) (follows : FollowsItsMoves disk) 
       let m = mapped_by_is d.remote.slabs l j t at in
       let within : t.0 < d.sizes.slabs = subst (λ n. t.0 < n) h.fits.serves.slabs_len m.within in
       let some : (p : Page) → p.0 < pages_of d.sizes → 0 < d.sizes.pages_per_slab = λ p p_in. pages_some d.sizes p.0 p_in in
-      let after : Agree (record d { remote = remote.evicted d.sizes d.remote t }) k g = record {
+      let after : Agree (record d { remote = remote.evicted_after d.sizes d.remote t }) k g = record {
         fits =
             record {
-              disk = remote_disk T fabric.answers d (disk.means k) (remote.evicted d.sizes d.remote t) d.links_made h.fits.disk;
+              disk = remote_disk T fabric.answers d (disk.means k) (remote.evicted_after d.sizes d.remote t) d.links_made h.fits.disk;
               serves =
                   evicted_serves (fabric.keeps f) (fabric.keeps g) (fabric.owes f)
                   (fabric.owes g) d.sizes d.lenders d.history d.calls d.remote l t j m.flying h.fits.serves within m.is
@@ -707,7 +709,7 @@ module _ {D F : Type 0} (disk : DiskMeaning D) (follows : FollowsItsMoves disk) 
         is = h.is;
         of_f = laws.keep_of f _ _ g moved ∙ h.of_f;
       } in
-      owing_done (record d { remote = remote.evicted d.sizes d.remote t }) k g l (slabs.evicted_lease (slabs.state_of d.remote.slabs t)) after
+      owing_done (record d { remote = remote.evicted_after d.sizes d.remote t }) k g l (slabs.evicted_lease (slabs.state_of d.remote.slabs t)) after
       (up_below d k f l h up)
       (λ lease gives. evicted_free d.remote.slabs t l j lease m.flying h.fits.serves.single m.is gives)
 
@@ -747,11 +749,11 @@ module _ {D F : Type 0} (disk : DiskMeaning D) (follows : FollowsItsMoves disk) 
   -- a link is made
   raised_kept :
       (d : Device) (k : D) (f g : F) (l : Lender) → Agree d k f → is_up d.remote.links l ≡ false → l.0 < d.lenders
-      → fabric.moves f (FabricCall.Connect l (next_link d)) tt g → Agree (raised d l) k g
+      → fabric.moves f (FabricCall.Connect l (next_link d)) tt g → Agree (raised_after d l) k g
   raised_kept d k f g l h off within moved = record {
     fits =
         record {
-          disk = remote_disk T fabric.answers d (disk.means k) (remote.raised d.remote l) (d.links_made + 1) h.fits.disk;
+          disk = remote_disk T fabric.answers d (disk.means k) (remote.raised_after d.remote l) (d.links_made + 1) h.fits.disk;
           serves =
               raised_serves (fabric.keeps f) (fabric.keeps g) (fabric.owes f)
               (fabric.owes g) d.sizes d.lenders d.history d.calls d.remote l h.fits.serves within off

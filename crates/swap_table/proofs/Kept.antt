@@ -12,18 +12,18 @@ use Rattle.swap_base.specs.declared.DiskWhich.TheVariants as which
 use Rattle.swap_base.specs.Sizes.{pages_of, zeros}
 use Rattle.swap_record.specs.History.{History, array, last, is_out_of, is_zero, next_name}
 use Rattle.swap_queue.specs.Queue as queue
-use Rattle.swap_queue.specs.Queue.{Queue, Places, Copy, places_of, newest, next, flying, first_of}
+use Rattle.swap_queue.specs.Queue.{Queue, Places, Copy, places_of, newest, next_copy, flying, first_of}
 use Rattle.swap_disk.specs.declared.DiskDone.{DiskDone}
 use Rattle.swap_wire.specs.Fabric.{FabricOf}
-use Rattle.swap_disk.specs.Disk.{Flight, Write, Read, Finished, Taken, which_of, page_of, is_flight_of, without}
-use Rattle.swap_disk.specs.Port.{Port, Takes, TakesTold, LetsFinish, started, kept_by}
+use Rattle.swap_disk.specs.Disk.{Flight, Write, Read, Finished, Taken, which_of, page_of, is_flight_of, without_flight}
+use Rattle.swap_disk.specs.Port.{Port, Takes, TakesTold, LetsFinish, port_started, kept_by}
 use Rattle.swap_calls.specs.Calls as calls
-use Rattle.swap_calls.specs.Calls.{Call, Calls, state_of, call_of, idle, is_idle}
+use Rattle.swap_calls.specs.Calls.{Call, Calls, state_of, call_of, idle_call, is_idle}
 use Rattle.swap_calls.specs.declared.Arrived.{Arrived}
 use Rattle.swap_calls.specs.declared.Arrived.TheVariants as arrived
 use Rattle.swap_calls.specs.declared.CallState.{CallState}
 use Rattle.swap_calls.specs.declared.CallState.TheVariants.{Idle, Room, Reading}
-use Rattle.swap_table.specs.Device.{Device, of_device, enter, give, fault, wait_for_room, wait_for_disk, wrote, took, took_back}
+use Rattle.swap_table.specs.Device.{Device, of_device, enter_entry, give, fault, wait_for_room, wait_for_disk, wrote_after, took_after, took_back}
 use Rattle.swap_table.specs.Fits.{MayGive, block_in, IsBlock, HoldsPage, IsCopyOf, WaitsFor, IsExpected, IsSettled, IsUnderWay, Agrees, AgreesAt, FitsDisk}
 use Rattle.swap_table.proofs.Order.{enter_keeps, give_keeps, fault_keeps, room_wait_keeps, disk_wait_keeps, took_back_keeps}
 use Rattle.swap_table.proofs.Agree.{IdleFor, enter_agrees, call_agrees, row_agrees, read_agrees, start_agrees, wrote_agrees, read_back_agrees, finish_agrees, found, some_first, copy_flies, IsBrought}
@@ -44,7 +44,7 @@ is_waiting _ = false
 -- the moves
 pub enter_fits :
     (T : Bool) (A : List ℕ → List ℕ → Type 0) (d : Device) (p : Port) (c : Caller) (page : Page) (bytes : List ℕ) → FitsDisk T A d p → IdleFor d.calls c
-    → page.0 < pages_of d.sizes → FitsDisk T A (enter d c page bytes) p
+    → page.0 < pages_of d.sizes → FitsDisk T A (enter_entry d c page bytes) p
 enter_fits T A d p c page bytes k idles within = record {
   sizes = k.sizes;
   in_order = enter_keeps d c page bytes k.in_order;
@@ -60,8 +60,8 @@ give_fits T A d p c page named from bytes k idles is_last is_from gives = record
   sizes = k.sizes;
   in_order = give_keeps d c page named from bytes k.in_order is_last is_from;
   agrees =
-      row_agrees T A _ _ (zeros d.sizes) d.history _ d.queue p.blocks p.flights p.finished (calls.ended d.calls c)
-      (call_agrees T A _ _ (zeros d.sizes) d.history d.queue p.blocks p.flights p.finished d.calls c idle k.agrees idles tt) (λ r. refl) gives;
+      row_agrees T A _ _ (zeros d.sizes) d.history _ d.queue p.blocks p.flights p.finished (calls.end_after d.calls c)
+      (call_agrees T A _ _ (zeros d.sizes) d.history d.queue p.blocks p.flights p.finished d.calls c idle_call k.agrees idles tt) (λ r. refl) gives;
 }
 
 pub fault_fits : (T : Bool) (A : List ℕ → List ℕ → Type 0) (d : Device) (p : Port) (c : Caller) (page : Page) (kind : CallKind) (since at : ℕ) (bytes : List ℕ)
@@ -70,8 +70,8 @@ fault_fits T A d p c page kind since at bytes k idles later = record {
   sizes = k.sizes;
   in_order = fault_keeps d c page kind since at bytes k.in_order later;
   agrees =
-      row_agrees T A _ _ (zeros d.sizes) d.history _ d.queue p.blocks p.flights p.finished (calls.ended d.calls c)
-      (call_agrees T A _ _ (zeros d.sizes) d.history d.queue p.blocks p.flights p.finished d.calls c idle k.agrees idles tt) (λ r. refl) tt;
+      row_agrees T A _ _ (zeros d.sizes) d.history _ d.queue p.blocks p.flights p.finished (calls.end_after d.calls c)
+      (call_agrees T A _ _ (zeros d.sizes) d.history d.queue p.blocks p.flights p.finished d.calls c idle_call k.agrees idles tt) (λ r. refl) tt;
 }
 
 pub room_wait_fits :
@@ -85,7 +85,7 @@ room_wait_fits T A d p c page bytes k idles within = record {
 
 pub disk_wait_fits : (T : Bool) (A : List ℕ → List ℕ → Type 0) (d : Device) (p : Port) (c : Caller) (page : Page) (n : EntryNo)
     → FitsDisk T A d p → IdleFor d.calls c → c.0 < d.sizes.callers → page.0 < pages_of d.sizes → last d.history page ≡ Some n → newest d.queue page ≡ None
-    → FitsDisk T A (wait_for_disk d c page n) (started p (Read c page))
+    → FitsDisk T A (wait_for_disk d c page n) (port_started p (Read c page))
 disk_wait_fits T A d p c page n k idles caller_in within is_last none = record {
   sizes = k.sizes;
   in_order = disk_wait_keeps d c page n k.in_order is_last;
@@ -95,8 +95,8 @@ disk_wait_fits T A d p c page n k idles caller_in within is_last none = record {
 
 pub start_fits :
     (T : Bool) (A : List ℕ → List ℕ → Type 0) (d : Device) (p : Port) (page : Page) (line : List Page) (copy : Copy) → FitsDisk T A d p
-    → d.queue.line ≡ page ∷ line → next d.queue page ≡ Some copy
-    → FitsDisk T A (record d { queue = queue.start d.queue }) (started p (Write page (kept_by p.blocks copy.bytes)))
+    → d.queue.line ≡ page ∷ line → next_copy d.queue page ≡ Some copy
+    → FitsDisk T A (record d { queue = queue.start d.queue }) (port_started p (Write page (kept_by p.blocks copy.bytes)))
 start_fits T A d p page line copy k is_line is_next =
     let P : Queue → Type 0 =
     λ q.
@@ -131,10 +131,10 @@ after_bad bl None (Some x) copy content e h = h
 
 wrote_back :
     (T : Bool) (A : List ℕ → List ℕ → Type 0) (d : Device) (p now : Port) (page : Page) (bytes : List ℕ) (ok : Bool) (copy : Option Copy) → AgreesAt T A d p
-    → now.blocks ≡ p.blocks → now.flights ≡ without (which.Write page) p.flights → now.finished ≡ None
+    → now.blocks ≡ p.blocks → now.flights ≡ without_flight (which.Write page) p.flights → now.finished ≡ None
     → find (is_flight_of (which.Write page)) p.flights ≡ Some (Write page bytes) → (ok ≡ true → IsBlock (block_in p.blocks page) bytes)
     → flying d.queue page ≡ copy
-    → AgreesAt T A (wrote d page copy ok).0 now
+    → AgreesAt T A (wrote_after d page copy ok).0 now
 wrote_back T A d p now page bytes ok None h eb ef en there settled e =
     let w : IsExpected T (pages_of d.sizes) d.sizes.callers d.queue d.calls (Write page bytes) =
     found (IsExpected T (pages_of d.sizes) d.sizes.callers d.queue d.calls) (which.Write page) p.flights (Write page bytes) there h.expected in
@@ -144,16 +144,16 @@ wrote_back T A d p now page bytes true (Some copy) h eb ef en there settled e =
     found (IsExpected T (pages_of d.sizes) d.sizes.callers d.queue d.calls) (which.Write page) p.flights (Write page bytes) there h.expected in
     let of_copy : IsCopyOf T bytes (Some copy) = let P : Option Copy → Type 0 = λ o. IsCopyOf T bytes o in subst P e w.1 in
     rw (eb, ef, en)
-    (wrote_agrees T A _ _ (zeros d.sizes) d.history d.queue p.blocks p.flights p.finished d.calls page bytes (next d.queue page)
-    (is_some (next d.queue page)) h there (λ x. x)
-    (after_ok T p.blocks page (next d.queue page) (flying d.queue page) copy bytes _ h.tells e of_copy (settled refl) (h.held page w.0)))
+    (wrote_agrees T A _ _ (zeros d.sizes) d.history d.queue p.blocks p.flights p.finished d.calls page bytes (next_copy d.queue page)
+    (is_some (next_copy d.queue page)) h there (λ x. x)
+    (after_ok T p.blocks page (next_copy d.queue page) (flying d.queue page) copy bytes _ h.tells e of_copy (settled refl) (h.held page w.0)))
 wrote_back T A d p now page bytes false (Some copy) h eb ef en there settled e =
     let w : IsExpected T (pages_of d.sizes) d.sizes.callers d.queue d.calls (Write page bytes) =
     found (IsExpected T (pages_of d.sizes) d.sizes.callers d.queue d.calls) (which.Write page) p.flights (Write page bytes) there h.expected in
     rw (eb, ef, en)
     (wrote_agrees T A _ _ (zeros d.sizes) d.history d.queue p.blocks p.flights p.finished d.calls page bytes (newest d.queue page) true h there
-    (λ _. some_first (next d.queue page) (flying d.queue page) (copy_flies T bytes (flying d.queue page) w.1))
-    (after_bad (block_in p.blocks page) (next d.queue page) (flying d.queue page) copy _ e (h.held page w.0)))
+    (λ _. some_first (next_copy d.queue page) (flying d.queue page) (copy_flies T bytes (flying d.queue page) w.1))
+    (after_bad (block_in p.blocks page) (next_copy d.queue page) (flying d.queue page) copy _ e (h.held page w.0)))
 
 not_finished : (f : Finished) (o : Option Finished) → o ≡ None → o ≡ Some f → ⊥
 not_finished f None e h = cc
@@ -180,9 +180,9 @@ is_brought (Some blocks) fin c page bytes told = sym told.1
 
 took_agrees :
     (T : Bool) (A : List ℕ → List ℕ → Type 0) (d : Device) (p now : Port) (flight : Flight) (ok : Bool) (bytes : List ℕ) → AgreesAt T A d p
-    → now.blocks ≡ p.blocks → now.flights ≡ without (which_of flight) p.flights → now.finished ≡ None
+    → now.blocks ≡ p.blocks → now.flights ≡ without_flight (which_of flight) p.flights → now.finished ≡ None
     → find (is_flight_of (which_of flight)) p.flights ≡ Some flight → TakesTold p.blocks p.finished flight ok bytes
-    → AgreesAt T A (took d (which_of flight) (page_of flight) ok bytes).0 now
+    → AgreesAt T A (took_after d (which_of flight) (page_of flight) ok bytes).0 now
 took_agrees T A d p now (Write page written) ok bytes h eb ef en there told =
     wrote_back T A d p now page written ok (flying d.queue page) h eb ef en there
     (is_settled p.blocks p.flights p.finished page written bytes ok h.under_way told) refl
@@ -196,12 +196,12 @@ took_agrees T A d p now (Read c page) false bytes h eb ef en there told =
     (read_back_agrees T A _ _ (zeros d.sizes) d.history d.queue p.blocks p.flights p.finished d.calls c page [] arrived.Failed h
     (found (IsExpected T (pages_of d.sizes) d.sizes.callers d.queue d.calls) (which.Read c) p.flights (Read c page) there h.expected) tt)
 
-wrote_of : (d : Device) (page : Page) (copy : Option Copy) (ok : Bool) → of_device (wrote d page copy ok).0 ≡ of_device d
+wrote_of : (d : Device) (page : Page) (copy : Option Copy) (ok : Bool) → of_device (wrote_after d page copy ok).0 ≡ of_device d
 wrote_of d page None ok = refl
 wrote_of d page (Some copy) true = refl
 wrote_of d page (Some copy) false = refl
 
-took_of : (d : Device) (w : DiskWhich) (page : Page) (ok : Bool) (bytes : List ℕ) → of_device (took d w page ok bytes).0 ≡ of_device d
+took_of : (d : Device) (w : DiskWhich) (page : Page) (ok : Bool) (bytes : List ℕ) → of_device (took_after d w page ok bytes).0 ≡ of_device d
 took_of d (which.Write r) page ok bytes = wrote_of d page (flying d.queue page) ok
 took_of d (which.Read c) page true bytes = refl
 took_of d (which.Read c) page false bytes = refl
@@ -223,11 +223,11 @@ took_back_fits T A d p now (Some t) k es takes =
     let is_which : t.done.which ≡ which_of f = ap (λ (x : DiskDone). x.which) takes.is in
     let is_page : t.done.page ≡ page_of f = ap (λ (x : DiskDone). x.page) takes.is in
     let there : find (is_flight_of (which_of f)) p.flights ≡ Some f = subst (λ w. find (is_flight_of w) p.flights ≡ Some f) is_which takes.was in
-    let left : now.flights ≡ without (which_of f) p.flights = takes.flights ∙ ap (λ w. without w p.flights) is_which in
-    let agrees : AgreesAt T A (took d (which_of f) (page_of f) t.done.ok t.bytes).0 now =
+    let left : now.flights ≡ without_flight (which_of f) p.flights = takes.flights ∙ ap (λ w. without_flight w p.flights) is_which in
+    let agrees : AgreesAt T A (took_after d (which_of f) (page_of f) t.done.ok t.bytes).0 now =
     took_agrees T A d p now f t.done.ok t.bytes k.agrees takes.blocks left takes.finished there takes.told in
-    let P : DiskWhich → Type 0 = λ w. AgreesAt T A (took d w t.done.page t.done.ok t.bytes).0 now in
-    let Q : Page → Type 0 = λ r. AgreesAt T A (took d (which_of f) r t.done.ok t.bytes).0 now in
+    let P : DiskWhich → Type 0 = λ w. AgreesAt T A (took_after d w t.done.page t.done.ok t.bytes).0 now in
+    let Q : Page → Type 0 = λ r. AgreesAt T A (took_after d (which_of f) r t.done.ok t.bytes).0 now in
     record {
       sizes = es ∙ k.sizes ∙ sym (ap (λ (x : FabricOf). x.sizes) (took_of d t.done.which t.done.page t.done.ok t.bytes));
       in_order = took_back_keeps d (Some t) k.in_order;

@@ -109,17 +109,17 @@ single_lent states t l lease within is new h m k = go (slabs.has_lease m k (Mapp
         let e = count_by-set_more (leased m k) states t.0 (Mapped l lease 0) Local within now was in omega (arith, e, none)
 
 -- slabs that are lost give their leases up
-pub single_lost : (states : List SlabState) (l : Lender) → AreSingle states → AreSingle (slabs.lost states l)
+pub single_lost : (states : List SlabState) (l : Lender) → AreSingle states → AreSingle (slabs.lost_after states l)
 single_lost states l h m k = let fewer = lost_count states in omega (arith, fewer, h m k)
   where
     after : (b : Bool) (x : SlabState) → one_if (leased m k (cond b Local x)) ≤ one_if (leased m k x)
     after true x = omega arith
     after false x = omega arith
 
-    lost_count : (xs : List SlabState) → count_by (leased m k) (slabs.lost xs l) ≤ count_by (leased m k) xs
+    lost_count : (xs : List SlabState) → count_by (leased m k) (slabs.lost_after xs l) ≤ count_by (leased m k) xs
     lost_count [] = lit≤ tt
     lost_count (x ∷ xs) =
-        let a = count_by-cons (leased m k) (slabs.after_lost l x) (slabs.lost xs l) in
+        let a = count_by-cons (leased m k) (slabs.after_lost l x) (slabs.lost_after xs l) in
         let b = count_by-cons (leased m k) x xs in
         let one = after (slabs.is_at l x) x in
         let rest = lost_count xs in omega (arith, a, b, one, rest)

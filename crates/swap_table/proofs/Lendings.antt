@@ -19,7 +19,7 @@ use Rattle.swap_rings.specs.declared.Request.{Request}
 use Rattle.swap_rings.specs.declared.Request.TheVariants.{Query, Borrow, Write, Read}
 use Rattle.swap_remote.specs.Remote as remote
 use Rattle.swap_remote.specs.Remote.{Remote, slab_for, state_for, has_page}
-use Rattle.swap_table.specs.Serves.{Keeping, Owing, is_for_slab, flying_for, entry_to, latest, IsLeasedFrom, IsAwaited, MayPrecede, LinkFits, SlabFits, IsWriteKept, PageFits, AreSingle, Serves}
+use Rattle.swap_table.specs.Serves.{Keeping, Owing, is_for_slab, flying_for, entry_to, latest_write, IsLeasedFrom, IsAwaited, MayPrecede, LinkFits, SlabFits, IsWriteKept, PageFits, AreSingle, Serves}
 use Rattle.swap_table.proofs.Lists.{not_eqb, one_if, All-implies}
 use Rattle.swap_table.proofs.Leases.{single_same, single_lent, unleased}
 use Rattle.swap_table.proofs.Links.{by_lender, by_slab, state-same, state-other, flying-cons, latest-append, first_of-none}
@@ -99,7 +99,7 @@ pub borrow_sent_serves : (keeps keeps' : Keeping) (owes owes' : Owing) (s : Size
     → Serves keeps' owes' s n H cs (remote.borrow_sent r t l)
 borrow_sent_serves keeps keeps' owes owes' s n H cs r t l k within local up kept owed =
     let x : Request = Borrow t in
-    let states' : List SlabState = slabs.borrowed r.slabs t l in
+    let states' : List SlabState = slabs.borrowed_after r.slabs t l in
     let slab_in : t.0 < length r.slabs = subst (λ m. t.0 < m) (sym k.slabs_len) within in
     let lender_in : l.0 < n = (k.link l).lender up in
     let lender_few : l.0 < MOST_LENDERS = omega (arith, lender_in, k.few) in
@@ -122,15 +122,15 @@ borrow_sent_serves keeps keeps' owes owes' s n H cs r t l k within local up kept
           (λ m j. let P : SlabState → Type 0 = λ y. slabs.has_lease m j (Borrowing l) ≡ slabs.has_lease m j y in subst P (sym local) refl) k.single;
       slab =
           λ u within.
-          by_slab (λ u. u.0 < s.slabs → SlabFits s (rings.sent r.links l x) u (slabs.state_of states' u)) t u
-          (λ _. let P : SlabState → Type 0 = λ y. SlabFits s (rings.sent r.links l x) t y in
+          by_slab (λ u. u.0 < s.slabs → SlabFits s (rings.sent_after r.links l x) u (slabs.state_of states' u)) t u
+          (λ _. let P : SlabState → Type 0 = λ y. SlabFits s (rings.sent_after r.links l x) t y in
           subst P (sym (state-same r.slabs t (Borrowing l) slab_in)) (sent-up r.links l l x link_in ∙ up))
-          (λ other within. let P : SlabState → Type 0 = λ y. SlabFits s (rings.sent r.links l x) u y in
+          (λ other within. let P : SlabState → Type 0 = λ y. SlabFits s (rings.sent_after r.links l x) u y in
           subst P (sym (state-other r.slabs t u (Borrowing l) other)) (slab_sent s r.links l x u (slabs.state_of r.slabs u) link_in refl (k.slab u within)))
           within;
       link =
           λ m.
-          by_lender (λ m. LinkFits owes' s n H cs states' m (link_of (rings.sent r.links l x) m)) l m
+          by_lender (λ m. LinkFits owes' s n H cs states' m (link_of (rings.sent_after r.links l x) m)) l m
           (let P : LinkState → Type 0 = λ y. LinkFits owes' s n H cs states' l y in
           subst P (sym (sent-same r.links l x link_in))
           (link_sent owes owes' s n H cs r.slabs states' l (link_of r.links l) x up (each l) (within, state-same r.slabs t (Borrowing l) slab_in)
@@ -144,28 +144,28 @@ borrow_sent_serves keeps keeps' owes owes' s n H cs r t l k within local up kept
           λ q q_in.
           by_slab
           (λ u. PageFits keeps s H r.links q (has_page r q) (slabs.state_of r.slabs u)
-          → PageFits keeps' s H (rings.sent r.links l x) q (has_page r q) (slabs.state_of states' u))
+          → PageFits keeps' s H (rings.sent_after r.links l x) q (has_page r q) (slabs.state_of states' u))
           t
           (slab_for s q)
           (λ h.
           let P : SlabState → Type 0 = λ y. PageFits keeps s H r.links q (has_page r q) y in
-          let Q : SlabState → Type 0 = λ y. PageFits keeps' s H (rings.sent r.links l x) q (has_page r q) y in
+          let Q : SlabState → Type 0 = λ y. PageFits keeps' s H (rings.sent_after r.links l x) q (has_page r q) y in
           subst Q (sym (state-same r.slabs t (Borrowing l) slab_in)) (subst P local h))
           (λ other h.
-          let Q : SlabState → Type 0 = λ y. PageFits keeps' s H (rings.sent r.links l x) q (has_page r q) y in
+          let Q : SlabState → Type 0 = λ y. PageFits keeps' s H (rings.sent_after r.links l x) q (has_page r q) y in
           subst Q (sym (state-other r.slabs t (slab_for s q) (Borrowing l) other))
-          (page_stays keeps keeps' s H r.links (rings.sent r.links l x) q (has_page r q) (state_for s r.slabs q)
+          (page_stays keeps keeps' s H r.links (rings.sent_after r.links l x) q (has_page r q) (state_for s r.slabs q)
           (λ m j has. (latest-borrow r.links l m t q link_in, kept m j (place_of s q.0))) h))
           (k.page q q_in);
     }
   where
     latest-borrow :
         (links : List LinkState) (l m : Lender) (t : Slab) (q : Page) → l.0 < length links
-        → latest q (ring_of (rings.sent links l (Borrow t)) m) ≡ latest q (ring_of links m)
+        → latest_write q (ring_of (rings.sent_after links l (Borrow t)) m) ≡ latest_write q (ring_of links m)
     latest-borrow links l m t q within =
-        by_lender (λ m. latest q (ring_of (rings.sent links l (Borrow t)) m) ≡ latest q (ring_of links m)) l m
-        (ap (λ (k : LinkState). latest q k.ring) (sent-same links l (Borrow t) within) ∙ latest-append q (ring_of links l) (Borrow t))
-        (λ other. ap (λ (k : LinkState). latest q k.ring) (sent-other links l m (Borrow t) other))
+        by_lender (λ m. latest_write q (ring_of (rings.sent_after links l (Borrow t)) m) ≡ latest_write q (ring_of links m)) l m
+        (ap (λ (k : LinkState). latest_write q k.ring) (sent-same links l (Borrow t) within) ∙ latest-append q (ring_of links l) (Borrow t))
+        (λ other. ap (λ (k : LinkState). latest_write q k.ring) (sent-other links l m (Borrow t) other))
 
 -- no request is for a slab that isn't mapped to the link's lender
 pub not_for :
@@ -198,7 +198,7 @@ writes_not s H cs states q m (Write p e) off k =
 
 latest_none :
     (s : Sizes) (H : History) (cs : Calls) (states : List SlabState) (q : Page) (m : Lender) (ring : List Request) → (IsLeasedFrom m (state_for s states q) → ⊥)
-    → AllByRecursion (IsAwaited s H cs states m) ring → latest q ring ≡ None
+    → AllByRecursion (IsAwaited s H cs states m) ring → latest_write q ring ≡ None
 latest_none s H cs states q m [] off all = refl
 latest_none s H cs states q m (y ∷ ring) off all =
     ap (λ o. first_of o (entry_to q y)) (latest_none s H cs states q m ring off all.1) ∙ writes_not s H cs states q m y off all.0
@@ -207,12 +207,12 @@ latest_none s H cs states q m (y ∷ ring) off all =
 pub latest_answered :
     (links : List LinkState) (l m : Lender) (x : Request) (rest : List Request) (q : Page) → l.0 < length links → ring_of links l ≡ x ∷ rest
     → entry_to q x ≡ None
-    → latest q (ring_of (rings.answered links l) m) ≡ latest q (ring_of links m)
+    → latest_write q (ring_of (rings.answered_after links l) m) ≡ latest_write q (ring_of links m)
 latest_answered links l m x rest q within is none =
-    by_lender (λ m. latest q (ring_of (rings.answered links l) m) ≡ latest q (ring_of links m)) l m
-    (ap (latest q) (answered-ring links l x rest within is)
-    ∙ sym (ap (latest q) is ∙ ap (λ o. first_of (latest q rest) o) none ∙ first_of-none (latest q rest)))
-    (λ other. ap (λ (k : LinkState). latest q k.ring) (answered-other links l m other))
+    by_lender (λ m. latest_write q (ring_of (rings.answered_after links l) m) ≡ latest_write q (ring_of links m)) l m
+    (ap (latest_write q) (answered-ring links l x rest within is)
+    ∙ sym (ap (latest_write q) is ∙ ap (λ o. first_of (latest_write q rest) o) none ∙ first_of-none (latest_write q rest)))
+    (λ other. ap (λ (k : LinkState). latest_write q k.ring) (answered-other links l m other))
 
 borrows_one : (l m : Lender) → Borrowing l ≡ Borrowing m → m.0 ≡ l.0
 borrows_one l m e = let F : SlabState → ℕ = lender_number in sym (ap F e)
@@ -229,7 +229,7 @@ KeepsButLease l lease keeps keeps' =
 pub lent_serves : (keeps keeps' : Keeping) (owes owes' : Owing) (s : Sizes) (n : ℕ) (H : History) (cs : Calls) (r : Remote) (l : Lender) (t : Slab)
     (lease : Lease) (rest : List Request)
     → Serves keeps owes s n H cs r → is_up r.links l ≡ true → ring_of r.links l ≡ Borrow t ∷ rest → slabs.by_lease r.slabs l lease ≡ None
-    → KeepsButLease l lease keeps keeps' → OwesAll owes owes' → Serves keeps' owes' s n H cs (remote.lent r l t lease)
+    → KeepsButLease l lease keeps keeps' → OwesAll owes owes' → Serves keeps' owes' s n H cs (remote.lent_after r l t lease)
 lent_serves keeps keeps' owes owes' s n H cs r l t lease rest k up ring new kept owed =
     let x : Request = Borrow t in
     let awaited : AllByRecursion (IsAwaited s H cs r.slabs l) (x ∷ rest) =
@@ -242,7 +242,7 @@ lent_serves keeps keeps' owes owes' s n H cs r l t lease rest k up ring new kept
     let lender_in : l.0 < n = (k.link l).lender up in
     let link_in : l.0 < length r.links = subst (λ m. l.0 < m) (sym k.links_len) (omega (arith, lender_in, k.few)) in
     let unmapped : (m : Lender) → IsLeasedFrom m (slabs.state_of r.slabs t) → ⊥ = λ m h. let P : SlabState → Type 0 = λ y. IsLeasedFrom m y in subst P is h in
-    let fits : SlabFits s (rings.answered r.links l) t (Mapped l lease 0) = (
+    let fits : SlabFits s (rings.answered_after r.links l) t (Mapped l lease 0) = (
       answered-up r.links l l link_in ∙ up,
       sym (ap (flying_for s t) (answered-ring r.links l x rest link_in ring) ∙ flying_none s H cs r.slabs t l rest (unmapped l) awaited.1),
     ) in
@@ -255,7 +255,7 @@ lent_serves keeps keeps' owes owes' s n H cs r l t lease rest k up ring new kept
       slab_in = within;
       off = λ u other. refl;
       single = single;
-      fits = let P : SlabState → Type 0 = λ y. SlabFits s (rings.answered r.links l) t y in subst P (sym is_state) fits;
+      fits = let P : SlabState → Type 0 = λ y. SlabFits s (rings.answered_after r.links l) t y in subst P (sym is_state) fits;
       calls_len = refl;
       here =
           λ after h.
@@ -274,22 +274,22 @@ lent_serves keeps keeps' owes owes' s n H cs r l t lease rest k up ring new kept
     (λ q q_in.
     by_slab
     (λ u. slab_of s q.0 ≡ u.0 → PageFits keeps s H r.links q (has_page r q) (slabs.state_of r.slabs u)
-    → PageFits keeps' s H (rings.answered r.links l) q (has_page r q) (slabs.state_of (slabs.with_state r.slabs t state) u))
+    → PageFits keeps' s H (rings.answered_after r.links l) q (has_page r q) (slabs.state_of (slabs.with_state r.slabs t state) u))
     t
     (slab_for s q)
     (λ e h.
     let P : SlabState → Type 0 = λ y. PageFits keeps s H r.links q (has_page r q) y in
-    let Q : SlabState → Type 0 = λ y. PageFits keeps' s H (rings.answered r.links l) q (has_page r q) y in
+    let Q : SlabState → Type 0 = λ y. PageFits keeps' s H (rings.answered_after r.links l) q (has_page r q) y in
     let clear : has_page r q ≡ false = subst P is h in
-    let none : latest q (ring_of (rings.answered r.links l) l) ≡ None =
-    ap (latest q) (answered-ring r.links l x rest link_in ring)
+    let none : latest_write q (ring_of (rings.answered_after r.links l) l) ≡ None =
+    ap (latest_write q) (answered-ring r.links l x rest link_in ring)
     ∙ latest_none s H cs r.slabs q l rest (λ h. unmapped l (subst (λ m. IsLeasedFrom l (slabs.state_of r.slabs (record { 0 = m }))) e h)) awaited.1 in
     subst Q (sym (state-same r.slabs t state slab_in ∙ is_state))
     ((λ set. absurd (not_both clear set)), subst (λ o. IsWriteKept keeps' H l lease (place_of s q.0) o) (sym none) tt))
     (λ other e h.
-    let Q : SlabState → Type 0 = λ y. PageFits keeps' s H (rings.answered r.links l) q (has_page r q) y in
+    let Q : SlabState → Type 0 = λ y. PageFits keeps' s H (rings.answered_after r.links l) q (has_page r q) y in
     subst Q (sym (state-other r.slabs t (slab_for s q) state other))
-    (page_stays keeps keeps' s H r.links (rings.answered r.links l) q (has_page r q) (state_for s r.slabs q) (λ m j has. (
+    (page_stays keeps keeps' s H r.links (rings.answered_after r.links l) q (has_page r q) (state_for s r.slabs q) (λ m j has. (
       latest_answered r.links l m x rest q link_in ring refl,
       λ bytes.
           kept m j (place_of s q.0) bytes
@@ -304,7 +304,7 @@ lent_serves keeps keeps' owes owes' s n H cs r l t lease rest k up ring new kept
 pub refused_serves : (keeps keeps' : Keeping) (owes owes' : Owing) (s : Sizes) (n : ℕ) (H : History) (cs : Calls) (r : Remote) (l : Lender) (t : Slab)
     (rest : List Request)
     → Serves keeps owes s n H cs r → is_up r.links l ≡ true → ring_of r.links l ≡ Borrow t ∷ rest → KeepsAll keeps keeps' → OwesAll owes owes'
-    → Serves keeps' owes' s n H cs (remote.refused r l t)
+    → Serves keeps' owes' s n H cs (remote.refused_after r l t)
 refused_serves keeps keeps' owes owes' s n H cs r l t rest k up ring kept owed =
     let x : Request = Borrow t in
     let awaited : AllByRecursion (IsAwaited s H cs r.slabs l) (x ∷ rest) =
@@ -343,16 +343,16 @@ refused_serves keeps keeps' owes owes' s n H cs r l t rest k up ring kept owed =
     (λ q q_in.
     by_slab
     (λ u. PageFits keeps s H r.links q (has_page r q) (slabs.state_of r.slabs u)
-    → PageFits keeps' s H (rings.answered r.links l) q (has_page r q) (slabs.state_of (slabs.with_state r.slabs t Local) u))
+    → PageFits keeps' s H (rings.answered_after r.links l) q (has_page r q) (slabs.state_of (slabs.with_state r.slabs t Local) u))
     t
     (slab_for s q)
     (λ h.
     let P : SlabState → Type 0 = λ y. PageFits keeps s H r.links q (has_page r q) y in
-    let Q : SlabState → Type 0 = λ y. PageFits keeps' s H (rings.answered r.links l) q (has_page r q) y in
+    let Q : SlabState → Type 0 = λ y. PageFits keeps' s H (rings.answered_after r.links l) q (has_page r q) y in
     subst Q (sym (state-same r.slabs t Local slab_in)) (subst P is h))
     (λ other h.
-    let Q : SlabState → Type 0 = λ y. PageFits keeps' s H (rings.answered r.links l) q (has_page r q) y in
+    let Q : SlabState → Type 0 = λ y. PageFits keeps' s H (rings.answered_after r.links l) q (has_page r q) y in
     subst Q (sym (state-other r.slabs t (slab_for s q) Local other))
-    (page_stays keeps keeps' s H r.links (rings.answered r.links l) q (has_page r q) (state_for s r.slabs q)
+    (page_stays keeps keeps' s H r.links (rings.answered_after r.links l) q (has_page r q) (state_for s r.slabs q)
     (λ m j has. (latest_answered r.links l m x rest q link_in ring refl, kept m j (place_of s q.0))) h))
     (k.page q q_in))

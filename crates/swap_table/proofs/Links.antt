@@ -14,7 +14,7 @@ use Rattle.swap_slabs.specs.declared.SlabState.TheVariants.{Local}
 use Rattle.swap_rings.specs.Rings.{LinkState, down, link_of, with_link}
 use Rattle.swap_rings.specs.declared.Request.{Request}
 use Rattle.swap_rings.specs.declared.Request.TheVariants.{Write}
-use Rattle.swap_table.specs.Serves.{is_for_slab, flying_for, entry_to, latest, MayPrecede, AreInOrder}
+use Rattle.swap_table.specs.Serves.{is_for_slab, flying_for, entry_to, latest_write, MayPrecede, AreInOrder}
 use Rattle.swap_table.proofs.Lists.{by_number, not_eqb, one_if, All-append, count_by-append_one, count_by-cons}
 
 pub by_lender : (P : Lender → Type 0) (l m : Lender) → P l → ((m.0 ≡ l.0 → ⊥) → P m) → P m
@@ -55,10 +55,10 @@ first_of-assoc : {X : Type 0} (a b c : Option X) → first_of (first_of a b) c �
 first_of-assoc None b c = refl
 first_of-assoc (Some x) b c = refl
 
-pub latest-append : (page : Page) (ring : List Request) (x : Request) → latest page (ring ++ x ∷ []) ≡ first_of (entry_to page x) (latest page ring)
+pub latest-append : (page : Page) (ring : List Request) (x : Request) → latest_write page (ring ++ x ∷ []) ≡ first_of (entry_to page x) (latest_write page ring)
 latest-append page [] x = sym (first_of-none (entry_to page x))
 latest-append page (y ∷ ring) x =
-    ap (λ o. first_of o (entry_to page y)) (latest-append page ring x) ∙ first_of-assoc (entry_to page x) (latest page ring) (entry_to page y)
+    ap (λ o. first_of o (entry_to page y)) (latest-append page ring x) ∙ first_of-assoc (entry_to page x) (latest_write page ring) (entry_to page y)
 
 -- a page's own writes, and those of another page
 pub entry_to-own : (page : Page) (e : EntryNo) → entry_to page (Write page e) ≡ Some e

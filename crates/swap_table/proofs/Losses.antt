@@ -20,13 +20,13 @@ use Rattle.swap_slabs.specs.declared.SlabState.{SlabState}
 use Rattle.swap_slabs.specs.declared.SlabState.TheVariants.{Local, Asking, Borrowing, Mapped, Draining}
 use Rattle.swap_slabs.specs.declared.TheConstants.{MOST_LENDERS}
 use Rattle.swap_rings.specs.Rings as rings
-use Rattle.swap_rings.specs.Rings.{LinkState, down, fresh, link_of, ring_of, is_up}
+use Rattle.swap_rings.specs.Rings.{LinkState, down, link_at_start, link_of, ring_of, is_up}
 use Rattle.swap_rings.specs.declared.Request.{Request}
 use Rattle.swap_rings.specs.declared.Request.TheVariants.{Query, Borrow, Write, Read}
 use Rattle.swap_remote.specs.Remote as remote
 use Rattle.swap_remote.specs.Remote.{Remote, slab_for, state_for, has_page, left_from}
 use Rattle.swap_remote.specs.lemmas.Cleared.{length-left, get_or-left}
-use Rattle.swap_table.specs.Serves.{Keeping, Owing, flying_for, latest, IsLeasedFrom, WaitsFrom, IsAwaited, IsContent, AreOwed, LinkFits, SlabFits, PageFits, Serves}
+use Rattle.swap_table.specs.Serves.{Keeping, Owing, flying_for, latest_write, IsLeasedFrom, WaitsFrom, IsAwaited, IsContent, AreOwed, LinkFits, SlabFits, PageFits, Serves}
 use Rattle.swap_table.proofs.Lists.{All-implies}
 use Rattle.swap_table.proofs.Leases.{single_lost, single_local}
 use Rattle.swap_table.proofs.Links.{by_lender, link-same, link-other}
@@ -55,12 +55,13 @@ all_serves keeps keeps' owes owes' s n H cs r kept owed k = record {
 }
 
 -- the states of the slabs, and the calls, after a loss
-state-lost : (states : List SlabState) (l : Lender) (i : ℕ) → get_or (slabs.lost states l) i Local ≡ slabs.after_lost l (get_or states i Local)
+state-lost : (states : List SlabState) (l : Lender) (i : ℕ) → get_or (slabs.lost_after states l) i Local ≡ slabs.after_lost l (get_or states i Local)
 state-lost [] l i = refl
 state-lost (x ∷ states) l zero = refl
 state-lost (x ∷ states) l (suc i) = state-lost states l i
 
-call-lost : (cs : Calls) (l : Lender) (i : ℕ) → (get_or (calls.lost cs l) i calls.idle).state ≡ calls.lost_if_through l (get_or cs i calls.idle).state
+call-lost : (cs : Calls) (l : Lender) (i : ℕ) → (get_or (calls.lost_after cs l) i calls.idle_call).state
+    ≡ calls.lost_if_through l (get_or cs i calls.idle_call).state
 call-lost [] l i = refl
 call-lost (x ∷ cs) l zero = refl
 call-lost (x ∷ cs) l (suc i) = call-lost cs l i
@@ -120,7 +121,7 @@ borrowing_lost l m state other is = ap (slabs.after_lost l) is ∙ go (m.0 == l.
 
 awaited_lost :
     (s : Sizes) (H : History) (cs : Calls) (states : List SlabState) (l m : Lender) (y : Request) → (m.0 ≡ l.0 → ⊥) → IsAwaited s H cs states m y
-    → IsAwaited s H (calls.lost cs l) (slabs.lost states l) m y
+    → IsAwaited s H (calls.lost_after cs l) (slabs.lost_after states l) m y
 awaited_lost s H cs states l m (Query u) other k = (k.0, ap (slabs.asks m) (state-lost states l u.0) ∙ asks_lost l m (slabs.state_of states u) k.1)
 awaited_lost s H cs states l m (Borrow u) other k = (k.0, state-lost states l u.0 ∙ borrowing_lost l m (slabs.state_of states u) other k.1)
 awaited_lost s H cs states l m (Write p e) other k =
@@ -133,7 +134,8 @@ awaited_lost s H cs states l m (Read c p) other k = (
 )
 
 owed_lost :
-    (H : History) (cs : Calls) (l : Lender) (ring : List Request) (pages : List (List ℕ)) → AreOwed H cs ring pages → AreOwed H (calls.lost cs l) ring pages
+    (H : History) (cs : Calls) (l : Lender) (ring : List Request) (pages : List (List ℕ)) → AreOwed H cs ring pages
+    → AreOwed H (calls.lost_after cs l) ring pages
 owed_lost H cs l [] [] o = o
 owed_lost H cs l [] (page ∷ pages) o = o
 owed_lost H cs l (Query u ∷ ring) pages o = owed_lost H cs l ring pages o
@@ -149,17 +151,17 @@ owed_lost H cs l (Read c p ∷ ring) (page ∷ pages) o = (
 -- a slab after a loss
 slab_lost :
     (s : Sizes) (links : List LinkState) (l : Lender) (u : Slab) (state : SlabState) → SlabFits s links u state
-    → SlabFits s (rings.lost links l) u (slabs.after_lost l state)
+    → SlabFits s (rings.lost_after links l) u (slabs.after_lost l state)
 slab_lost s links l u Local k = tt
 slab_lost s links l u (Asking pair) k = tt
 slab_lost s links l u (Borrowing m) k = go (m.0 == l.0) refl
   where
-    go : (b : Bool) → (m.0 == l.0) ≡ b → SlabFits s (rings.lost links l) u (cond b Local (Borrowing m))
+    go : (b : Bool) → (m.0 == l.0) ≡ b → SlabFits s (rings.lost_after links l) u (cond b Local (Borrowing m))
     go true e = tt
     go false e = ap (λ (y : LinkState). y.up) (link-other links l m down (eqb-false m.0 l.0 e)) ∙ k
 slab_lost s links l u (Mapped m lease flying) k = go (m.0 == l.0) refl
   where
-    go : (b : Bool) → (m.0 == l.0) ≡ b → SlabFits s (rings.lost links l) u (cond b Local (Mapped m lease flying))
+    go : (b : Bool) → (m.0 == l.0) ≡ b → SlabFits s (rings.lost_after links l) u (cond b Local (Mapped m lease flying))
     go true e = tt
     go false e =
         let P : LinkState → Type 0 = λ y. (y.up ≡ true) × (flying ≡ count_for y) in subst P (sym (link-other links l m down (eqb-false m.0 l.0 e))) k
@@ -168,7 +170,7 @@ slab_lost s links l u (Mapped m lease flying) k = go (m.0 == l.0) refl
         count_for y = flying_for s u y.ring
 slab_lost s links l u (Draining m lease flying) k = go (m.0 == l.0) refl
   where
-    go : (b : Bool) → (m.0 == l.0) ≡ b → SlabFits s (rings.lost links l) u (cond b Local (Draining m lease flying))
+    go : (b : Bool) → (m.0 == l.0) ≡ b → SlabFits s (rings.lost_after links l) u (cond b Local (Draining m lease flying))
     go true e = tt
     go false e =
         let P : LinkState → Type 0 = λ y. (y.up ≡ true) × (flying ≡ count_for y) in subst P (sym (link-other links l m down (eqb-false m.0 l.0 e))) k
@@ -180,33 +182,33 @@ slab_lost s links l u (Draining m lease flying) k = go (m.0 == l.0) refl
 page_lost :
     (keeps keeps' : Keeping) (s : Sizes) (H : History) (links : List LinkState) (l : Lender) (q : Page) (bit : Bool) (state : SlabState)
     → KeepsOthers l keeps keeps' → PageFits keeps s H links q bit state
-    → PageFits keeps' s H (rings.lost links l) q (bit && not (slabs.is_at l state)) (slabs.after_lost l state)
+    → PageFits keeps' s H (rings.lost_after links l) q (bit && not (slabs.is_at l state)) (slabs.after_lost l state)
 page_lost keeps keeps' s H links l q bit Local kept h = and_left bit true h
 page_lost keeps keeps' s H links l q bit (Asking pair) kept h = and_left bit true h
 page_lost keeps keeps' s H links l q bit (Draining m lease flying) kept h = go (m.0 == l.0)
   where
-    go : (b : Bool) → PageFits keeps' s H (rings.lost links l) q (bit && not b) (cond b Local (Draining m lease flying))
+    go : (b : Bool) → PageFits keeps' s H (rings.lost_after links l) q (bit && not b) (cond b Local (Draining m lease flying))
     go true = and_left bit false h
     go false = and_left bit true h
 page_lost keeps keeps' s H links l q bit (Borrowing m) kept h = go (m.0 == l.0)
   where
-    go : (b : Bool) → PageFits keeps' s H (rings.lost links l) q (bit && not b) (cond b Local (Borrowing m))
+    go : (b : Bool) → PageFits keeps' s H (rings.lost_after links l) q (bit && not b) (cond b Local (Borrowing m))
     go true = and_left bit false h
     go false = and_left bit true h
 page_lost keeps keeps' s H links l q bit (Mapped m lease flying) kept h = go (m.0 == l.0) refl
   where
-    go : (b : Bool) → (m.0 == l.0) ≡ b → PageFits keeps' s H (rings.lost links l) q (bit && not b) (cond b Local (Mapped m lease flying))
+    go : (b : Bool) → (m.0 == l.0) ≡ b → PageFits keeps' s H (rings.lost_after links l) q (bit && not b) (cond b Local (Mapped m lease flying))
     go true e = and-false bit
     go false e =
         let other : m.0 ≡ l.0 → ⊥ = eqb-false m.0 l.0 e in
-        let P : Bool → Type 0 = λ x. PageFits keeps' s H (rings.lost links l) q x (Mapped m lease flying) in
+        let P : Bool → Type 0 = λ x. PageFits keeps' s H (rings.lost_after links l) q x (Mapped m lease flying) in
         subst P (sym (and-true bit))
-        (mapped_stays keeps keeps' s H links (rings.lost links l) q bit m lease flying flying
-        (ap (λ (y : LinkState). latest q y.ring) (link-other links l m down other)) (kept m other lease (place_of s q.0)) h)
+        (mapped_stays keeps keeps' s H links (rings.lost_after links l) q bit m lease flying flying
+        (ap (λ (y : LinkState). latest_write q y.ring) (link-other links l m down other)) (kept m other lease (place_of s q.0)) h)
 
 pub lost_serves :
     (keeps keeps' : Keeping) (owes owes' : Owing) (s : Sizes) (n : ℕ) (H : History) (cs : Calls) (r : Remote) (l : Lender) → Serves keeps owes s n H cs r
-    → l.0 < MOST_LENDERS → KeepsOthers l keeps keeps' → OwesOthers l owes owes' → Serves keeps' owes' s n H (calls.lost cs l) (remote.lost s r l)
+    → l.0 < MOST_LENDERS → KeepsOthers l keeps keeps' → OwesOthers l owes owes' → Serves keeps' owes' s n H (calls.lost_after cs l) (remote.lost_after s r l)
 lost_serves keeps keeps' owes owes' s n H cs r l k within kept owed =
     let link_in : l.0 < length r.links = subst (λ m. l.0 < m) (sym k.links_len) within in
     record {
@@ -217,16 +219,16 @@ lost_serves keeps keeps' owes owes' s n H cs r l k within kept owed =
       calls_len = length-map cs _ ∙ k.calls_len;
       single = single_lost r.slabs l k.single;
       slab =
-          λ u u_in. let P : SlabState → Type 0 = λ y. SlabFits s (rings.lost r.links l) u y in
+          λ u u_in. let P : SlabState → Type 0 = λ y. SlabFits s (rings.lost_after r.links l) u y in
           subst P (sym (state-lost r.slabs l u.0)) (slab_lost s r.links l u (slabs.state_of r.slabs u) (k.slab u u_in));
       link =
           λ m.
-          by_lender (λ m. LinkFits owes' s n H (calls.lost cs l) (slabs.lost r.slabs l) m (link_of (rings.lost r.links l) m)) l m
-          (let P : LinkState → Type 0 = λ y. LinkFits owes' s n H (calls.lost cs l) (slabs.lost r.slabs l) l y in
+          by_lender (λ m. LinkFits owes' s n H (calls.lost_after cs l) (slabs.lost_after r.slabs l) m (link_of (rings.lost_after r.links l) m)) l m
+          (let P : LinkState → Type 0 = λ y. LinkFits owes' s n H (calls.lost_after cs l) (slabs.lost_after r.slabs l) l y in
           subst P (sym (link-same r.links l down link_in))
           (record { quiet = λ _. refl; lender = λ up. absurd (no_up up); awaited = tt; ordered = tt; owed = λ up. absurd (no_up up) }))
           (λ other.
-          let P : LinkState → Type 0 = λ y. LinkFits owes' s n H (calls.lost cs l) (slabs.lost r.slabs l) m y in
+          let P : LinkState → Type 0 = λ y. LinkFits owes' s n H (calls.lost_after cs l) (slabs.lost_after r.slabs l) m y in
           let f : LinkFits owes s n H cs r.slabs m (link_of r.links m) = k.link m in
           subst P (sym (link-other r.links l m down other))
           (record {
@@ -243,8 +245,8 @@ lost_serves keeps keeps' owes owes' s n H cs r l k within kept owed =
           let bit : get_or (left_from s r.slabs l r.bits 0) q.0 false ≡ (has_page r q && not (slabs.is_at l (state_for s r.slabs q))) =
           get_or-left s r.slabs l r.bits 0 q.0
           ∙ ap (λ m. has_page r q && not (slabs.is_at l (slabs.state_of r.slabs (record { 0 = slab_of s m })))) (zero-add q.0) in
-          let P : SlabState → Type 0 = λ y. PageFits keeps' s H (rings.lost r.links l) q (get_or (left_from s r.slabs l r.bits 0) q.0 false) y in
-          let Q : Bool → Type 0 = λ b. PageFits keeps' s H (rings.lost r.links l) q b (slabs.after_lost l (state_for s r.slabs q)) in
+          let P : SlabState → Type 0 = λ y. PageFits keeps' s H (rings.lost_after r.links l) q (get_or (left_from s r.slabs l r.bits 0) q.0 false) y in
+          let Q : Bool → Type 0 = λ b. PageFits keeps' s H (rings.lost_after r.links l) q b (slabs.after_lost l (state_for s r.slabs q)) in
           subst P (sym (state-lost r.slabs l (slab_of s q.0)))
           (subst Q (sym bit) (page_lost keeps keeps' s H r.links l q (has_page r q) (state_for s r.slabs q) kept (k.page q q_in)));
     }
@@ -274,22 +276,22 @@ up_of s links u m j (Draining o lease flying) k has =
 
 slab_raised :
     (s : Sizes) (links : List LinkState) (l : Lender) (u : Slab) (state : SlabState) → is_up links l ≡ false → SlabFits s links u state
-    → SlabFits s (rings.raised links l) u state
+    → SlabFits s (rings.raised_after links l) u state
 slab_raised s links l u Local off k = tt
 slab_raised s links l u (Asking pair) off k = tt
-slab_raised s links l u (Borrowing m) off k = ap (λ (y : LinkState). y.up) (link-other links l m fresh (λ e. up_and_down links l m e off k)) ∙ k
+slab_raised s links l u (Borrowing m) off k = ap (λ (y : LinkState). y.up) (link-other links l m link_at_start (λ e. up_and_down links l m e off k)) ∙ k
   where
     up_and_down : (links : List LinkState) (l m : Lender) → m.0 ≡ l.0 → is_up links l ≡ false → is_up links m ≡ true → ⊥
     up_and_down links l m e off up = let down' : is_up links m ≡ false = subst (λ n. is_up links (record { 0 = n }) ≡ false) (sym e) off in cc
 slab_raised s links l u (Mapped m lease flying) off k =
     let P : LinkState → Type 0 = λ y. (y.up ≡ true) × (flying ≡ flying_for s u y.ring) in
-    subst P (sym (link-other links l m fresh (λ e. up_and_down links l m e off k.0))) k
+    subst P (sym (link-other links l m link_at_start (λ e. up_and_down links l m e off k.0))) k
   where
     up_and_down : (links : List LinkState) (l m : Lender) → m.0 ≡ l.0 → is_up links l ≡ false → is_up links m ≡ true → ⊥
     up_and_down links l m e off up = let down' : is_up links m ≡ false = subst (λ n. is_up links (record { 0 = n }) ≡ false) (sym e) off in cc
 slab_raised s links l u (Draining m lease flying) off k =
     let P : LinkState → Type 0 = λ y. (y.up ≡ true) × (flying ≡ flying_for s u y.ring) in
-    subst P (sym (link-other links l m fresh (λ e. up_and_down links l m e off k.0))) k
+    subst P (sym (link-other links l m link_at_start (λ e. up_and_down links l m e off k.0))) k
   where
     up_and_down : (links : List LinkState) (l m : Lender) → m.0 ≡ l.0 → is_up links l ≡ false → is_up links m ≡ true → ⊥
     up_and_down links l m e off up = let down' : is_up links m ≡ false = subst (λ n. is_up links (record { 0 = n }) ≡ false) (sym e) off in cc
@@ -297,34 +299,34 @@ slab_raised s links l u (Draining m lease flying) off k =
 pub raised_serves :
     (keeps keeps' : Keeping) (owes owes' : Owing) (s : Sizes) (n : ℕ) (H : History) (cs : Calls) (r : Remote) (l : Lender) → Serves keeps owes s n H cs r
     → l.0 < n → is_up r.links l ≡ false → KeepsOthers l keeps keeps' → OwesOthers l owes owes' → owes' l []
-    → Serves keeps' owes' s n H cs (remote.raised r l)
+    → Serves keeps' owes' s n H cs (remote.raised_after r l)
 raised_serves keeps keeps' owes owes' s n H cs r l k within off kept owed none =
     let link_in : l.0 < length r.links = subst (λ m. l.0 < m) (sym k.links_len) (omega (arith, within, k.few)) in
     record {
       slabs_len = k.slabs_len;
       bits_len = k.bits_len;
-      links_len = length-set r.links l.0 fresh ∙ k.links_len;
+      links_len = length-set r.links l.0 link_at_start ∙ k.links_len;
       few = k.few;
       calls_len = k.calls_len;
       single = k.single;
       slab = λ u u_in. slab_raised s r.links l u (slabs.state_of r.slabs u) off (k.slab u u_in);
       link =
           λ m.
-          by_lender (λ m. LinkFits owes' s n H cs r.slabs m (link_of (rings.raised r.links l) m)) l m
+          by_lender (λ m. LinkFits owes' s n H cs r.slabs m (link_of (rings.raised_after r.links l) m)) l m
           (let P : LinkState → Type 0 = λ y. LinkFits owes' s n H cs r.slabs l y in
-          subst P (sym (link-same r.links l fresh link_in))
+          subst P (sym (link-same r.links l link_at_start link_in))
           (record { quiet = λ _. refl; lender = λ _. within; awaited = tt; ordered = tt; owed = λ _. record { pages = []; owed = none; reads = tt } }))
           (λ other. let P : LinkState → Type 0 = λ y. LinkFits owes' s n H cs r.slabs m y in
-          subst P (sym (link-other r.links l m fresh other))
+          subst P (sym (link-other r.links l m link_at_start other))
           (link_stays owes owes' s n H cs r.slabs r.slabs m (link_of r.links m) (λ y h. h) (owed m other) (k.link m)));
       page =
           λ q q_in.
-          page_stays keeps keeps' s H r.links (rings.raised r.links l) q (has_page r q) (state_for s r.slabs q) (λ m j has.
+          page_stays keeps keeps' s H r.links (rings.raised_after r.links l) q (has_page r q) (state_for s r.slabs q) (λ m j has.
           let other : m.0 ≡ l.0 → ⊥ =
           λ e.
           up_and_down r.links l m e off
           (up_of s r.links (slab_for s q) m j (state_for s r.slabs q) (k.slab (slab_for s q) (slab_within s q.0 q_in)) has) in
-          (ap (λ (y : LinkState). latest q y.ring) (link-other r.links l m fresh other), kept m other j (place_of s q.0))) (k.page q q_in);
+          (ap (λ (y : LinkState). latest_write q y.ring) (link-other r.links l m link_at_start other), kept m other j (place_of s q.0))) (k.page q q_in);
     }
   where
     up_and_down : (links : List LinkState) (l m : Lender) → m.0 ≡ l.0 → is_up links l ≡ false → is_up links m ≡ true → ⊥
@@ -336,13 +338,14 @@ get_or-same zero i x = refl
 get_or-same (suc n) zero x = refl
 get_or-same (suc n) (suc i) x = get_or-same n i x
 
-pub new_serves : (keeps : Keeping) (owes : Owing) (s : Sizes) (n : ℕ) → n ≤ MOST_LENDERS → Serves keeps owes s n [] (calls.all_idle s.callers) (remote.none s)
+pub new_serves : (keeps : Keeping) (owes : Owing) (s : Sizes) (n : ℕ) → n ≤ MOST_LENDERS
+    → Serves keeps owes s n [] (calls.all_idle s.callers) (remote.remote_at_start s)
 new_serves keeps owes s n few = record {
   slabs_len = length-replicate s.slabs Local;
   bits_len = length-replicate (pages_of s) false;
   links_len = length-replicate MOST_LENDERS down;
   few = few;
-  calls_len = length-replicate s.callers calls.idle;
+  calls_len = length-replicate s.callers calls.idle_call;
   single = single_local s.slabs;
   slab = λ u u_in. let P : SlabState → Type 0 = λ y. SlabFits s (rings.all_down MOST_LENDERS) u y in subst P (sym (get_or-same s.slabs u.0 Local)) tt;
   link =

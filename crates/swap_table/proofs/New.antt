@@ -5,8 +5,8 @@ use Rattle.swap_base.specs.declared.Page.{Page}
 use Rattle.swap_base.specs.Sizes.{Sizes, pages_of, zeros}
 use Rattle.swap_disk.specs.Port.{Port, writes_in}
 use Rattle.swap_queue.specs.Queue.{Places}
-use Rattle.swap_calls.specs.Calls.{Call, idle}
-use Rattle.swap_table.specs.Device.{new}
+use Rattle.swap_calls.specs.Calls.{Call, idle_call}
+use Rattle.swap_table.specs.Device.{device_at_start}
 use Rattle.swap_table.specs.Fits.{FitsDisk, IsFair, HoldsPage, IsBlank, flies, block_in}
 use Rattle.swap_table.proofs.Lists.{All-replicate, count_by-cons}
 use Rattle.swap_table.proofs.Order.{new_in_order}
@@ -29,7 +29,7 @@ none_flies zero = refl
 none_flies (suc n) =
     count_by-cons flies (record { flying = None; next = None }) (replicate n (record { flying = None; next = None })) ∙ ap (λ m. 0 + m) (none_flies n)
 
-pub new_fits : (A : List ℕ → List ℕ → Type 0) (s : Sizes) (n : ℕ) (p : Port) → IsBlank s p → FitsDisk (is_some p.blocks) A (new s n) p
+pub new_fits : (A : List ℕ → List ℕ → Type 0) (s : Sizes) (n : ℕ) (p : Port) → IsBlank s p → FitsDisk (is_some p.blocks) A (device_at_start s n) p
 new_fits A s n p blank =
     let nothing : Places = record { flying = None; next = None } in
     record {
@@ -40,7 +40,7 @@ new_fits A s n p blank =
             tells = refl;
             places_len = length-replicate (pages_of s) nothing;
             blocks_len = new_blocks s p.blocks blank.blocks;
-            calls_len = length-replicate s.callers idle;
+            calls_len = length-replicate s.callers idle_call;
             held =
                 λ q within. let P : Places → Type 0 = λ x. HoldsPage x (block_in p.blocks q) (zeros s) in
                 subst P (sym (get_or-replicate (pages_of s) q.0 nothing nothing within)) (new_holds s p.blocks q within blank.blocks);
@@ -51,7 +51,8 @@ new_fits A s n p blank =
             in_line = tt;
             apart = tt;
             fair =
-                All-replicate (λ (call : Call). IsFair (is_some p.blocks) A (pages_of s) (zeros s) [] (new s n).queue call.bytes call.state) s.callers idle tt;
+                All-replicate (λ (call : Call). IsFair (is_some p.blocks) A (pages_of s) (zeros s) [] (device_at_start s n).queue call.bytes call.state)
+                s.callers idle_call tt;
             faithful = tt;
           };
     }

@@ -10,18 +10,18 @@ use Rattle.swap_base.specs.declared.CallKind.{CallKind}
 use Rattle.swap_base.specs.declared.DiskWhich.{DiskWhich}
 use Rattle.swap_base.specs.declared.DiskWhich.TheVariants as which
 use Rattle.swap_base.specs.Sizes.{Sizes}
-use Rattle.swap_record.specs.History.{History, last, is_zero, next_name, pushed}
+use Rattle.swap_record.specs.History.{History, last, is_zero, next_name, with_row}
 use Rattle.swap_record.specs.declared.Op.TheVariants as op
 use Rattle.swap_queue.specs.Queue.{Copy}
 use Rattle.swap_disk.specs.Disk.{Taken}
 use Rattle.swap_calls.specs.Calls as calls
-use Rattle.swap_calls.specs.Calls.{Call, Calls, idle}
+use Rattle.swap_calls.specs.Calls.{Call, Calls, idle_call}
 use Rattle.swap_calls.specs.declared.Arrived.{Arrived}
 use Rattle.swap_calls.specs.declared.Arrived.TheVariants as arrived
 use Rattle.swap_calls.specs.declared.CallState.{CallState}
 use Rattle.swap_calls.specs.declared.CallState.TheVariants.{Idle, Room, Reading}
 use Rattle.swap_table.specs.Device as Device
-use Rattle.swap_table.specs.Device.{enter, give, fault, wait_for_room, wait_for_disk, wrote, took, took_back, origin_of, new}
+use Rattle.swap_table.specs.Device.{enter_entry, give, fault, wait_for_room, wait_for_disk, wrote_after, took_after, took_back, origin_of, device_at_start}
 use Rattle.swap_table.specs.Fits.{SawFailure, KeepsNewest, IsInOrder}
 use Rattle.swap_table.proofs.Lists.{All-set, All-get_or, All-map, All-implies, All-replicate, or_false}
 
@@ -31,19 +31,19 @@ Keeping H reads call = KeepsNewest H reads call.state
 -- a page-out of a page leaves each other page's last, and marks the page's readers
 kept_out :
     (H : History) (reads : ℕ) (c : Caller) (p : Page) (bytes : List ℕ) (state : CallState) → KeepsNewest H reads state
-    → KeepsNewest (pushed H c p op.PageOut bytes) reads (calls.newer_if_reads p state)
+    → KeepsNewest (with_row H c p op.PageOut bytes) reads (calls.newer_if_reads p state)
 kept_out H reads c p bytes Idle kept = tt
 kept_out H reads c p bytes (Room q since) kept = tt
 kept_out H reads c p bytes (Reading q newest v how newer since) kept =
     ((λ e. let parts = or_false newer (p.0 == q.0) e in ap (λ b. cond b (Some (next_name H)) (last H q)) parts.1 ∙ kept.0 parts.0), kept.1, kept.2)
 
-pub enter_keeps : (d : Device.Device) (c : Caller) (p : Page) (bytes : List ℕ) → IsInOrder d → IsInOrder (enter d c p bytes)
+pub enter_keeps : (d : Device.Device) (c : Caller) (p : Page) (bytes : List ℕ) → IsInOrder d → IsInOrder (enter_entry d c p bytes)
 enter_keeps d c p bytes k =
     record {
       ordered = (tt, refl, k.ordered);
       calls =
-          All-set (Keeping (pushed d.history c p op.PageOut bytes) d.failed_reads) (calls.paged_out d.calls p) c.0 idle
-          (All-map (Keeping d.history d.failed_reads) (Keeping (pushed d.history c p op.PageOut bytes) d.failed_reads) _ d.calls
+          All-set (Keeping (with_row d.history c p op.PageOut bytes) d.failed_reads) (calls.paged_out d.calls p) c.0 idle_call
+          (All-map (Keeping d.history d.failed_reads) (Keeping (with_row d.history c p op.PageOut bytes) d.failed_reads) _ d.calls
           (λ call kept. kept_out d.history d.failed_reads c p bytes call.state kept) k.calls)
           tt;
     }
@@ -51,14 +51,14 @@ enter_keeps d c p bytes k =
 -- an entry that is no page-out leaves each page's last
 kept_in :
     (H : History) (reads : ℕ) (c : Caller) (p : Page) (named : Option EntryNo) (from : Origin) (bytes : List ℕ) (state : CallState) → KeepsNewest H reads state
-    → KeepsNewest (pushed H c p (op.PageIn named from) bytes) reads state
+    → KeepsNewest (with_row H c p (op.PageIn named from) bytes) reads state
 kept_in H reads c p named from bytes Idle kept = tt
 kept_in H reads c p named from bytes (Room q since) kept = tt
 kept_in H reads c p named from bytes (Reading q newest v how newer since) kept = kept
 
 kept_fault :
     (H : History) (reads : ℕ) (c : Caller) (p : Page) (kind : CallKind) (since at : ℕ) (bytes : List ℕ) (state : CallState) → KeepsNewest H reads state
-    → KeepsNewest (pushed H c p (op.Failed kind since at) bytes) reads state
+    → KeepsNewest (with_row H c p (op.Failed kind since at) bytes) reads state
 kept_fault H reads c p kind since at bytes Idle kept = tt
 kept_fault H reads c p kind since at bytes (Room q s) kept = tt
 kept_fault H reads c p kind since at bytes (Reading q newest v how newer s) kept = kept
@@ -70,7 +70,7 @@ give_keeps d c p named from bytes k is_last is_from =
     record {
       ordered = ((is_last, is_from), refl, k.ordered);
       calls =
-          All-set (Keeping (pushed d.history c p (op.PageIn named from) bytes) d.failed_reads) d.calls c.0 idle
+          All-set (Keeping (with_row d.history c p (op.PageIn named from) bytes) d.failed_reads) d.calls c.0 idle_call
           (All-implies (Keeping d.history d.failed_reads) _ d.calls
           (λ call kept. kept_in d.history d.failed_reads c p named from bytes call.state kept) k.calls)
           tt;
@@ -83,7 +83,7 @@ fault_keeps d c p kind since at bytes k later =
     record {
       ordered = (later, refl, k.ordered);
       calls =
-          All-set (Keeping (pushed d.history c p (op.Failed kind since at) bytes) d.failed_reads) d.calls c.0 idle
+          All-set (Keeping (with_row d.history c p (op.Failed kind since at) bytes) d.failed_reads) d.calls c.0 idle_call
           (All-implies (Keeping d.history d.failed_reads) _ d.calls
           (λ call kept. kept_fault d.history d.failed_reads c p kind since at bytes call.state kept) k.calls)
           tt;
@@ -99,13 +99,13 @@ room_wait_keeps d c p bytes k = record { ordered = k.ordered; calls = All-set (K
 
 -- what a caller's call keeps
 pub call_keeps : (d : Device.Device) (c : Caller) → IsInOrder d → KeepsNewest d.history d.failed_reads (calls.state_of d.calls c)
-call_keeps d c k = All-get_or (Keeping d.history d.failed_reads) d.calls c.0 idle k.calls tt
+call_keeps d c k = All-get_or (Keeping d.history d.failed_reads) d.calls c.0 idle_call k.calls tt
 
 pub from_via : (v : Via) → is_zero (origin_of v) ≡ false
 from_via via.Disk = refl
 from_via (via.Lender l) = refl
 
-wrote_keeps : (d : Device.Device) (p : Page) (copy : Option Copy) (ok : Bool) → IsInOrder d → IsInOrder (wrote d p copy ok).0
+wrote_keeps : (d : Device.Device) (p : Page) (copy : Option Copy) (ok : Bool) → IsInOrder d → IsInOrder (wrote_after d p copy ok).0
 wrote_keeps d p None ok k = k
 wrote_keeps d p (Some copy) true k = record { ordered = k.ordered; calls = k.calls }
 wrote_keeps d p (Some copy) false k = record { ordered = k.ordered; calls = k.calls }
@@ -141,16 +141,18 @@ failed_keeps H reads call (Reading q newest v arrived.Came newer since) kept sam
 failed_keeps H reads call (Reading q newest v arrived.Failed newer since) kept same = same
 failed_keeps H reads call (Reading q newest v arrived.Lost newer since) kept same = same
 
-took_keeps : (d : Device.Device) (w : DiskWhich) (p : Page) (ok : Bool) (bytes : List ℕ) → IsInOrder d → IsInOrder (took d w p ok bytes).0
+took_keeps : (d : Device.Device) (w : DiskWhich) (p : Page) (ok : Bool) (bytes : List ℕ) → IsInOrder d → IsInOrder (took_after d w p ok bytes).0
 took_keeps d (which.Write q) p ok bytes k = wrote_keeps d p _ ok k
 took_keeps d (which.Read c) p true bytes k =
-    let here : KeepsNewest d.history d.failed_reads (calls.state_of d.calls c) = All-get_or (Keeping d.history d.failed_reads) d.calls c.0 idle k.calls tt in
+    let here : KeepsNewest d.history d.failed_reads (calls.state_of d.calls c) =
+    All-get_or (Keeping d.history d.failed_reads) d.calls c.0 idle_call k.calls tt in
     record {
       ordered = k.ordered;
       calls = All-set (Keeping d.history d.failed_reads) d.calls c.0 _ k.calls (came_keeps d.history d.failed_reads _ _ bytes here here);
     }
 took_keeps d (which.Read c) p false bytes k =
-    let here : KeepsNewest d.history d.failed_reads (calls.state_of d.calls c) = All-get_or (Keeping d.history d.failed_reads) d.calls c.0 idle k.calls tt in
+    let here : KeepsNewest d.history d.failed_reads (calls.state_of d.calls c) =
+    All-get_or (Keeping d.history d.failed_reads) d.calls c.0 idle_call k.calls tt in
     record {
       ordered = k.ordered;
       calls =
@@ -163,5 +165,5 @@ pub took_back_keeps : (d : Device.Device) (taken : Option Taken) → IsInOrder d
 took_back_keeps d None k = k
 took_back_keeps d (Some t) k = took_keeps d t.done.which t.done.page t.done.ok t.bytes k
 
-pub new_in_order : (s : Sizes) (n : ℕ) → IsInOrder (new s n)
-new_in_order s n = record { ordered = tt; calls = All-replicate (λ (call : Call). KeepsNewest [] 0 call.state) s.callers idle tt }
+pub new_in_order : (s : Sizes) (n : ℕ) → IsInOrder (device_at_start s n)
+new_in_order s n = record { ordered = tt; calls = All-replicate (λ (call : Call). KeepsNewest [] 0 call.state) s.callers idle_call tt }

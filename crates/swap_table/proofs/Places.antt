@@ -7,7 +7,7 @@ use Rattle.std.specs.List.{AllByRecursion}
 use Rattle.swap_base.specs.declared.Page.{Page}
 use Rattle.swap_base.specs.declared.Caller.{Caller}
 use Rattle.swap_base.specs.declared.DiskWhich.TheVariants as which
-use Rattle.swap_disk.specs.Disk.{Flight, Write, Read, is_flight_of, without}
+use Rattle.swap_disk.specs.Disk.{Flight, Write, Read, is_flight_of, without_flight}
 use Rattle.swap_table.proofs.Lists.{not_eqb}
 
 -- a row after a row was set: the new one in its place, and the old one elsewhere
@@ -41,25 +41,26 @@ find_last p (y ∷ xs) x none is = ap (λ b. cond b (Some y) (find p (xs ++ x �
 
 -- another caller's read is found in what is left
 pub find-without_write :
-    (c : Caller) (p : Page) (fs : List Flight) → find (is_flight_of (which.Read c)) (without (which.Write p) fs) ≡ find (is_flight_of (which.Read c)) fs
+    (c : Caller) (p : Page) (fs : List Flight) → find (is_flight_of (which.Read c)) (without_flight (which.Write p) fs) ≡ find (is_flight_of (which.Read c)) fs
 find-without_write c p [] = refl
 find-without_write c p (Read e q ∷ fs) = ap (λ o. cond (c.0 == e.0) (Some (Read e q)) o) (find-without_write c p fs)
 find-without_write c p (Write q bytes ∷ fs) = go (p.0 == q.0) (find-without_write c p fs)
   where
     go :
-        (b : Bool) → find (is_flight_of (which.Read c)) (without (which.Write p) fs) ≡ find (is_flight_of (which.Read c)) fs
-        → find (is_flight_of (which.Read c)) (cond b fs (Write q bytes ∷ without (which.Write p) fs)) ≡ find (is_flight_of (which.Read c)) fs
+        (b : Bool) → find (is_flight_of (which.Read c)) (without_flight (which.Write p) fs) ≡ find (is_flight_of (which.Read c)) fs
+        → find (is_flight_of (which.Read c)) (cond b fs (Write q bytes ∷ without_flight (which.Write p) fs)) ≡ find (is_flight_of (which.Read c)) fs
     go true rest = refl
     go false rest = rest
 
 pub find-without_read :
-    (c e : Caller) (fs : List Flight) → (e.0 ≡ c.0 → ⊥) → find (is_flight_of (which.Read e)) (without (which.Read c) fs) ≡ find (is_flight_of (which.Read e)) fs
+    (c e : Caller) (fs : List Flight) → (e.0 ≡ c.0 → ⊥) → find (is_flight_of (which.Read e)) (without_flight (which.Read c) fs)
+    ≡ find (is_flight_of (which.Read e)) fs
 find-without_read c e [] other = refl
 find-without_read c e (Write q bytes ∷ fs) other = find-without_read c e fs other
 find-without_read c e (Read x q ∷ fs) other = go (c.0 == x.0) refl (find-without_read c e fs other)
   where
-    go : (b : Bool) → (c.0 == x.0) ≡ b → find (is_flight_of (which.Read e)) (without (which.Read c) fs) ≡ find (is_flight_of (which.Read e)) fs
-        → find (is_flight_of (which.Read e)) (cond b fs (Read x q ∷ without (which.Read c) fs))
+    go : (b : Bool) → (c.0 == x.0) ≡ b → find (is_flight_of (which.Read e)) (without_flight (which.Read c) fs) ≡ find (is_flight_of (which.Read e)) fs
+        → find (is_flight_of (which.Read e)) (cond b fs (Read x q ∷ without_flight (which.Read c) fs))
         ≡ cond (e.0 == x.0) (Some (Read x q)) (find (is_flight_of (which.Read e)) fs)
     go true is rest =
         sym (ap (λ b. cond b (Some (Read x q)) (find (is_flight_of (which.Read e)) fs)) (not_eqb e.0 x.0 (λ same. other (same ∙ sym (eqb-true c.0 x.0 is)))))

@@ -19,35 +19,35 @@ use Rattle.swap_table.proofs.Lists.{one_if, All-implies}
 use Rattle.swap_table.proofs.Links.{by_lender, by_slab, link-same, link-other, state-same, state-other, flying-cons}
 
 -- the links after the oldest request of one was answered
-pub answered-same : (links : List LinkState) (l : Lender) → l.0 < length links → link_of (rings.answered links l) l ≡ answered_on (link_of links l)
+pub answered-same : (links : List LinkState) (l : Lender) → l.0 < length links → link_of (rings.answered_after links l) l ≡ answered_on (link_of links l)
 answered-same links l within = link-same links l (answered_on (link_of links l)) within
 
-pub answered-other : (links : List LinkState) (l m : Lender) → (m.0 ≡ l.0 → ⊥) → link_of (rings.answered links l) m ≡ link_of links m
+pub answered-other : (links : List LinkState) (l m : Lender) → (m.0 ≡ l.0 → ⊥) → link_of (rings.answered_after links l) m ≡ link_of links m
 answered-other links l m other = link-other links l m (answered_on (link_of links l)) other
 
-pub answered-up : (links : List LinkState) (l m : Lender) → l.0 < length links → is_up (rings.answered links l) m ≡ is_up links m
+pub answered-up : (links : List LinkState) (l m : Lender) → l.0 < length links → is_up (rings.answered_after links l) m ≡ is_up links m
 answered-up links l m within =
-    by_lender (λ m. is_up (rings.answered links l) m ≡ is_up links m) l m (ap (λ (k : LinkState). k.up) (answered-same links l within))
+    by_lender (λ m. is_up (rings.answered_after links l) m ≡ is_up links m) l m (ap (λ (k : LinkState). k.up) (answered-same links l within))
     (λ other. ap (λ (k : LinkState). k.up) (answered-other links l m other))
 
 pub answered-ring :
     (links : List LinkState) (l : Lender) (x : Request) (rest : List Request) → l.0 < length links → ring_of links l ≡ x ∷ rest
-    → ring_of (rings.answered links l) l ≡ rest
+    → ring_of (rings.answered_after links l) l ≡ rest
 answered-ring links l x rest within is = ap (λ (k : LinkState). k.ring) (answered-same links l within) ∙ ap without_oldest is
 
 -- how many requests are for a slab, where the one that was answered isn't
 flying-answered :
     (s : Sizes) (links : List LinkState) (l m : Lender) (x : Request) (rest : List Request) (t : Slab) → l.0 < length links → ring_of links l ≡ x ∷ rest
-    → is_for_slab s t x ≡ false → flying_for s t (ring_of (rings.answered links l) m) ≡ flying_for s t (ring_of links m)
+    → is_for_slab s t x ≡ false → flying_for s t (ring_of (rings.answered_after links l) m) ≡ flying_for s t (ring_of links m)
 flying-answered s links l m x rest t within is off =
-    by_lender (λ m. flying_for s t (ring_of (rings.answered links l) m) ≡ flying_for s t (ring_of links m)) l m
+    by_lender (λ m. flying_for s t (ring_of (rings.answered_after links l) m) ≡ flying_for s t (ring_of links m)) l m
     (ap (flying_for s t) (answered-ring links l x rest within is)
     ∙ sym (ap (flying_for s t) is ∙ flying-cons s t x rest ∙ ap (λ b. one_if b + flying_for s t rest) off ∙ zero-add (flying_for s t rest)))
     (λ other. ap (λ (k : LinkState). flying_for s t k.ring) (answered-other links l m other))
 
 slab_answered :
     (s : Sizes) (links : List LinkState) (l : Lender) (x : Request) (rest : List Request) (t : Slab) (state : SlabState) → l.0 < length links
-    → ring_of links l ≡ x ∷ rest → is_for_slab s t x ≡ false → SlabFits s links t state → SlabFits s (rings.answered links l) t state
+    → ring_of links l ≡ x ∷ rest → is_for_slab s t x ≡ false → SlabFits s links t state → SlabFits s (rings.answered_after links l) t state
 slab_answered s links l x rest t Local within is off k = tt
 slab_answered s links l x rest t (Asking pair) within is off k = tt
 slab_answered s links l x rest t (Borrowing m) within is off k = answered-up links l m within ∙ k
@@ -64,7 +64,7 @@ pub record IsAnswer (owes owes' : Owing) (s : Sizes) (H : History) (cs cs' : Cal
   pub slab_in : t.0 < s.slabs
   pub off : (u : Slab) → (u.0 ≡ t.0 → ⊥) → is_for_slab s u x ≡ false
   pub single : AreSingle (slabs.with_state r.slabs t state)
-  pub fits : SlabFits s (rings.answered r.links l) t state
+  pub fits : SlabFits s (rings.answered_after r.links l) t state
   pub calls_len : length cs' ≡ length cs
   pub here :
       AllByRecursion (MayPrecede x) rest → AllByRecursion (IsAwaited s H cs r.slabs l) rest
@@ -116,8 +116,8 @@ pub answered_serves : (keeps keeps' : Keeping) (owes owes' : Owing) (s : Sizes) 
     (l : Lender) (x : Request) (rest : List Request) (t : Slab) (state : SlabState)
     → Serves keeps owes s n H cs r → IsAnswer owes owes' s H cs cs' r l x rest t state → length bits ≡ length r.bits
     → ((q : Page) → q.0 < pages_of s
-    → PageFits keeps' s H (rings.answered r.links l) q (get_or bits q.0 false) (state_for s (slabs.with_state r.slabs t state) q))
-    → Serves keeps' owes' s n H cs' (record { bits = bits; slabs = slabs.with_state r.slabs t state; links = rings.answered r.links l })
+    → PageFits keeps' s H (rings.answered_after r.links l) q (get_or bits q.0 false) (state_for s (slabs.with_state r.slabs t state) q))
+    → Serves keeps' owes' s n H cs' (record { bits = bits; slabs = slabs.with_state r.slabs t state; links = rings.answered_after r.links l })
 answered_serves keeps keeps' owes owes' s n H cs cs' r bits l x rest t state k a bits_len pages =
     let slab_in : t.0 < length r.slabs = subst (λ m. t.0 < m) (sym k.slabs_len) a.slab_in in
     let lender_in : l.0 < n = (k.link l).lender a.up in
@@ -131,15 +131,15 @@ answered_serves keeps keeps' owes owes' s n H cs cs' r bits l x rest t state k a
       single = a.single;
       slab =
           λ u within.
-          by_slab (λ u. u.0 < s.slabs → SlabFits s (rings.answered r.links l) u (slabs.state_of (slabs.with_state r.slabs t state) u)) t u
-          (λ _. let P : SlabState → Type 0 = λ y. SlabFits s (rings.answered r.links l) t y in subst P (sym (state-same r.slabs t state slab_in)) a.fits)
-          (λ other within. let P : SlabState → Type 0 = λ y. SlabFits s (rings.answered r.links l) u y in
+          by_slab (λ u. u.0 < s.slabs → SlabFits s (rings.answered_after r.links l) u (slabs.state_of (slabs.with_state r.slabs t state) u)) t u
+          (λ _. let P : SlabState → Type 0 = λ y. SlabFits s (rings.answered_after r.links l) t y in subst P (sym (state-same r.slabs t state slab_in)) a.fits)
+          (λ other within. let P : SlabState → Type 0 = λ y. SlabFits s (rings.answered_after r.links l) u y in
           subst P (sym (state-other r.slabs t u state other))
           (slab_answered s r.links l x rest u (slabs.state_of r.slabs u) link_in a.ring (a.off u other) (k.slab u within)))
           within;
       link =
           λ m.
-          by_lender (λ m. LinkFits owes' s n H cs' (slabs.with_state r.slabs t state) m (link_of (rings.answered r.links l) m)) l m
+          by_lender (λ m. LinkFits owes' s n H cs' (slabs.with_state r.slabs t state) m (link_of (rings.answered_after r.links l) m)) l m
           (let P : LinkState → Type 0 = λ y. LinkFits owes' s n H cs' (slabs.with_state r.slabs t state) l y in
           subst P (sym (answered-same r.links l link_in))
           (link_answered owes owes' s n H cs cs' r l x rest t state (link_of r.links l) a.up a.ring a (k.link l)))

@@ -26,7 +26,7 @@ use Rattle.swap_rings.specs.Rings.{LinkState, link_of, ring_of}
 use Rattle.swap_rings.specs.declared.Request.{Request}
 use Rattle.swap_rings.specs.declared.Request.TheVariants.{Query, Borrow, Write, Read}
 use Rattle.swap_remote.specs.Remote.{Remote, slab_for, state_for, has_page, sent_for}
-use Rattle.swap_table.specs.Serves.{Keeping, Owing, entry_to, latest, IsOut, bytes_of, IsLeasedFrom, WaitsFrom, IsAwaited, MayPrecede, IsContent, AreOwed, IsWriteKept, IsReadable, PageFits, AreSingle, Serves}
+use Rattle.swap_table.specs.Serves.{Keeping, Owing, entry_to, latest_write, IsOut, bytes_of, IsLeasedFrom, WaitsFrom, IsAwaited, MayPrecede, IsContent, AreOwed, IsWriteKept, IsReadable, PageFits, AreSingle, Serves}
 use Rattle.swap_table.proofs.Lists.{by_page, by_caller, not_eqb}
 use Rattle.swap_table.proofs.Entries.{last_out, last_bytes}
 use Rattle.swap_table.proofs.Leases.{only_slab}
@@ -97,7 +97,8 @@ same_page s p q slab place =
 
 -- a page's facts, where its last write and what is kept of it stay
 readable_stays :
-    (keeps keeps' : Keeping) (z : List ℕ) (H : History) (q : Page) (m : Lender) (k : Lease) (i : ℕ) (ring ring' : List Request) → latest q ring' ≡ latest q ring
+    (keeps keeps' : Keeping) (z : List ℕ) (H : History) (q : Page) (m : Lender) (k : Lease) (i : ℕ) (ring ring' : List Request)
+    → latest_write q ring' ≡ latest_write q ring
     → ((bytes : List ℕ) → keeps m k i bytes → keeps' m k i bytes) → IsReadable keeps z H q m k i ring → IsReadable keeps' z H q m k i ring'
 readable_stays keeps keeps' z H q m k i ring ring' same kept h = record { some = h.some; none = same ∙ h.none; kept = kept (array z H q) h.kept }
 
@@ -109,18 +110,21 @@ write_stays keeps keeps' H m k i (Some e) kept h = kept (bytes_of H e) h
 
 pub mapped_stays :
     (keeps keeps' : Keeping) (s : Sizes) (H : History) (links links' : List LinkState) (q : Page) (bit : Bool) (m : Lender) (k : Lease) (f f' : ℕ)
-    → latest q (ring_of links' m) ≡ latest q (ring_of links m) → ((bytes : List ℕ) → keeps m k (place_of s q.0) bytes → keeps' m k (place_of s q.0) bytes)
+    → latest_write q (ring_of links' m) ≡ latest_write q (ring_of links m)
+    → ((bytes : List ℕ) → keeps m k (place_of s q.0) bytes → keeps' m k (place_of s q.0) bytes)
     → PageFits keeps s H links q bit (Mapped m k f) → PageFits keeps' s H links' q bit (Mapped m k f')
 mapped_stays keeps keeps' s H links links' q bit m k f f' same kept h = (
   λ is. readable_stays keeps keeps' (zeros s) H q m k (place_of s q.0) (ring_of links m) (ring_of links' m) same kept (h.0 is),
-  subst (λ o. IsWriteKept keeps' H m k (place_of s q.0) o) (sym same) (write_stays keeps keeps' H m k (place_of s q.0) (latest q (ring_of links m)) kept h.1),
+  subst (λ o. IsWriteKept keeps' H m k (place_of s q.0) o) (sym same) (write_stays keeps keeps' H m k (place_of s q.0) (latest_write q (ring_of links m)) kept
+      h.1),
 )
 
 -- whatever its state: what is said of a lender and a lease matters where the page's slab has them
 pub page_stays :
     (keeps keeps' : Keeping) (s : Sizes) (H : History) (links links' : List LinkState) (q : Page) (bit : Bool) (state : SlabState)
     → ((m : Lender) (k : Lease) → slabs.has_lease m k state ≡ true
-    → (latest q (ring_of links' m) ≡ latest q (ring_of links m)) × ((bytes : List ℕ) → keeps m k (place_of s q.0) bytes → keeps' m k (place_of s q.0) bytes))
+    → (latest_write q (ring_of links' m) ≡ latest_write q (ring_of links m))
+    × ((bytes : List ℕ) → keeps m k (place_of s q.0) bytes → keeps' m k (place_of s q.0) bytes))
     → PageFits keeps s H links q bit state → PageFits keeps' s H links' q bit state
 page_stays keeps keeps' s H links links' q bit Local each h = h
 page_stays keeps keeps' s H links links' q bit (Asking pair) each h = h
@@ -133,12 +137,12 @@ page_stays keeps keeps' s H links links' q bit (Mapped m k f) each h =
 -- the last write of a page, where a request that isn't one of its writes was sent
 latest_sent :
     (links : List LinkState) (l m : Lender) (x : Request) (q : Page) → l.0 < length links → entry_to q x ≡ None
-    → latest q (ring_of (rings.sent links l x) m) ≡ latest q (ring_of links m)
+    → latest_write q (ring_of (rings.sent_after links l x) m) ≡ latest_write q (ring_of links m)
 latest_sent links l m x q within none =
-    by_lender (λ m. latest q (ring_of (rings.sent links l x) m) ≡ latest q (ring_of links m)) l m
-    (ap (λ (k : LinkState). latest q k.ring) (sent-same links l x within) ∙ latest-append q (ring_of links l) x
-    ∙ ap (λ o. first_of o (latest q (ring_of links l))) none)
-    (λ other. ap (λ (k : LinkState). latest q k.ring) (sent-other links l m x other))
+    by_lender (λ m. latest_write q (ring_of (rings.sent_after links l x) m) ≡ latest_write q (ring_of links m)) l m
+    (ap (λ (k : LinkState). latest_write q k.ring) (sent-same links l x within) ∙ latest-append q (ring_of links l) x
+    ∙ ap (λ o. first_of o (latest_write q (ring_of links l))) none)
+    (λ other. ap (λ (k : LinkState). latest_write q k.ring) (sent-other links l m x other))
 
 pub has_own : (l : Lender) (k : Lease) (f : ℕ) → slabs.has_lease l k (Mapped l k f) ≡ true
 has_own l k f = and_from (l.0 == l.0) (k.0 == k.0) (eq-eqb l.0 l.0 refl) (eq-eqb k.0 k.0 refl)
@@ -154,22 +158,23 @@ page_sent :
     → ((m : Lender) (k : Lease) (bytes : List ℕ) → (m.0 ≡ l.0 → k.0 ≡ lease.0 → slab_of s q.0 ≡ slab_of s p.0) → keeps m k (place_of s q.0) bytes
     → keeps' m k (place_of s q.0) bytes)
     → PageFits keeps s H r.links q (has_page r q) (state_for s r.slabs q)
-    → PageFits keeps' s H (rings.sent r.links l x) q (has_page r q) (state_for s (slabs.begun r.slabs (slab_for s p)) q)
+    → PageFits keeps' s H (rings.sent_after r.links l x) q (has_page r q) (state_for s (slabs.begun_after r.slabs (slab_for s p)) q)
 page_sent keeps keeps' s H r l p q lease flying x states slab_in link_in is none kept h =
     by_slab
     (λ u. PageFits keeps s H r.links q (has_page r q) (slabs.state_of r.slabs u) → (u.0 ≡ slab_of s q.0)
-    → PageFits keeps' s H (rings.sent r.links l x) q (has_page r q) (slabs.state_of (slabs.begun r.slabs (slab_for s p)) u))
+    → PageFits keeps' s H (rings.sent_after r.links l x) q (has_page r q) (slabs.state_of (slabs.begun_after r.slabs (slab_for s p)) u))
     (slab_for s p) (slab_for s q)
     (λ h e.
     let P : SlabState → Type 0 = λ y. PageFits keeps s H r.links q (has_page r q) y in
-    let Q : SlabState → Type 0 = λ y. PageFits keeps' s H (rings.sent r.links l x) q (has_page r q) y in
+    let Q : SlabState → Type 0 = λ y. PageFits keeps' s H (rings.sent_after r.links l x) q (has_page r q) y in
     subst Q (sym (begun-same r.slabs (slab_for s p) l lease flying slab_in is))
-    (mapped_stays keeps keeps' s H r.links (rings.sent r.links l x) q (has_page r q) l lease flying (flying + 1) (latest_sent r.links l l x q link_in none)
+    (mapped_stays keeps keeps' s H r.links (rings.sent_after r.links l x) q (has_page r q) l lease flying (flying
+    + 1) (latest_sent r.links l l x q link_in none)
     (λ bytes. kept l lease bytes (λ _ _. sym e)) (subst P is h)))
     (λ other h e.
-    let Q : SlabState → Type 0 = λ y. PageFits keeps' s H (rings.sent r.links l x) q (has_page r q) y in
+    let Q : SlabState → Type 0 = λ y. PageFits keeps' s H (rings.sent_after r.links l x) q (has_page r q) y in
     subst Q (sym (begun-other r.slabs (slab_for s p) (slab_for s q) other))
-    (page_stays keeps keeps' s H r.links (rings.sent r.links l x) q (has_page r q) (state_for s r.slabs q) (λ m k has. (
+    (page_stays keeps keeps' s H r.links (rings.sent_after r.links l x) q (has_page r q) (state_for s r.slabs q) (λ m k has. (
       latest_sent r.links l m x q link_in none,
       λ bytes.
           kept m k bytes
@@ -195,10 +200,10 @@ write_sent_serves keeps keeps' owes owes' s n H cs r l p lease flying e k lies c
     let link_in : l.0 < length r.links = subst (λ m. l.0 < m) (sym k.links_len) (omega (arith, lender_in, k.few)) in
     let x : Request = Write p e in
     let mapped : IsLeasedFrom l (state_for s r.slabs p) = subst (λ y. IsLeasedFrom l y) (sym lies.mapped) refl in
-    let latest_is : latest p (ring_of (rings.sent r.links l x) l) ≡ Some e =
-    ap (λ (y : LinkState). latest p y.ring) (sent-same r.links l x link_in) ∙ latest-append p (ring_of r.links l) x
-    ∙ ap (λ o. first_of o (latest p (ring_of r.links l))) (entry_to-own p e) in
-    let here : PageFits keeps' s H (rings.sent r.links l x) p (has_page r p) (Mapped l lease (flying + 1)) =
+    let latest_is : latest_write p (ring_of (rings.sent_after r.links l x) l) ≡ Some e =
+    ap (λ (y : LinkState). latest_write p y.ring) (sent-same r.links l x link_in) ∙ latest-append p (ring_of r.links l) x
+    ∙ ap (λ o. first_of o (latest_write p (ring_of r.links l))) (entry_to-own p e) in
+    let here : PageFits keeps' s H (rings.sent_after r.links l x) p (has_page r p) (Mapped l lease (flying + 1)) =
     ((λ is. absurd (not_both clear is)), subst (λ o. IsWriteKept keeps' H l lease (place_of s p.0) o) (sym latest_is) now) in
     sent_serves keeps keeps' owes owes' s n H cs r l p lease flying x k lies
     (record {
@@ -210,8 +215,9 @@ write_sent_serves keeps keeps' owes owes' s n H cs r l p lease flying e k lies c
     (λ o. record { pages = o.pages; owed = owed l o.pages o.owed; reads = owed-append_write H cs (ring_of r.links l) o.pages p e o.reads })
     (λ m other pages. owed m pages)
     (λ q within.
-    by_page (λ q. q.0 < pages_of s → PageFits keeps' s H (rings.sent r.links l x) q (has_page r q) (state_for s (slabs.begun r.slabs (slab_for s p)) q)) p q
-    (λ _. let Q : SlabState → Type 0 = λ y. PageFits keeps' s H (rings.sent r.links l x) p (has_page r p) y in
+    by_page (λ q. q.0 < pages_of s → PageFits keeps' s H (rings.sent_after r.links l x) q (has_page r q)
+    (state_for s (slabs.begun_after r.slabs (slab_for s p)) q)) p q
+    (λ _. let Q : SlabState → Type 0 = λ y. PageFits keeps' s H (rings.sent_after r.links l x) p (has_page r p) y in
     subst Q (sym (begun-same r.slabs (slab_for s p) l lease flying slab_in lies.mapped)) here)
     (λ other within.
     page_sent keeps keeps' s H r l p q lease flying x k.single slab_in link_in lies.mapped (entry_to-other q p e other)
@@ -226,9 +232,9 @@ none_of : {X : Type 0} (a b : Option X) → first_of a b ≡ None → (a ≡ Non
 none_of None b e = (refl, e)
 none_of (Some x) b e = cc
 
-pub none_written : (p : Page) (ring : List Request) → latest p ring ≡ None → AllByRecursion (λ y. entry_to p y ≡ None) ring
+pub none_written : (p : Page) (ring : List Request) → latest_write p ring ≡ None → AllByRecursion (λ y. entry_to p y ≡ None) ring
 none_written p [] e = tt
-none_written p (y ∷ ring) e = let both = none_of (latest p ring) (entry_to p y) e in (both.1, none_written p ring both.0)
+none_written p (y ∷ ring) e = let both = none_of (latest_write p ring) (entry_to p y) e in (both.1, none_written p ring both.0)
 
 read_last :
     (s : Sizes) (H : History) (cs : Calls) (states : List SlabState) (l : Lender) (c : Caller) (p : Page) (y : Request)
@@ -267,7 +273,7 @@ call_shift H cs c call idles = record {
 }
   where
     call-other : (cs : Calls) (c d : Caller) (call : calls.Call) → (d.0 ≡ c.0 → ⊥) → state_of (calls.with_call cs c call) d ≡ state_of cs d
-    call-other cs c d call other = ap (λ (x : calls.Call). x.state) (get_or-set_other cs c.0 d.0 call calls.idle other)
+    call-other cs c d call other = ap (λ (x : calls.Call). x.state) (get_or-set_other cs c.0 d.0 call calls.idle_call other)
 
 pub bits_stay : (z : List ℕ) (H : History) (p : Page) (bit : Bool) → PageStays z H H p bit bit
 bits_stay z H p bit = record { clear = λ e. e; set = λ e. (e, refl, refl) }
@@ -300,7 +306,7 @@ read_sent_serves keeps keeps' owes owes' s n H cs r l c p lease flying newest si
     subst P lies.mapped (k.page p lies.within) in
     let readable : IsReadable keeps (zeros s) H p l lease (place_of s p.0) (ring_of r.links l) = fits.0 set in
     let state : state_of cs' c ≡ Reading p newest (via.Lender l) arrived.Waiting false since =
-    ap (λ (y : calls.Call). y.state) (get_or-set_same cs c.0 call calls.idle (subst (λ m. c.0 < m) (sym k.calls_len) caller)) in
+    ap (λ (y : calls.Call). y.state) (get_or-set_same cs c.0 call calls.idle_call (subst (λ m. c.0 < m) (sym k.calls_len) caller)) in
     let waits : WaitsFrom l p (state_of cs' c) = let P : CallState → Type 0 = λ y. WaitsFrom l p y in subst P (sym state) (refl, refl) in
     let content : IsContent H (array (zeros s) H p) p (state_of cs' c) = let P : CallState → Type 0 = λ y. IsContent H (array (zeros s) H p) p y in
     subst P (sym state) (last_out H p newest is_last, sym (last_bytes (zeros s) H p newest is_last)) in

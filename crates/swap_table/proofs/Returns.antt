@@ -29,7 +29,7 @@ use Rattle.swap_rings.specs.declared.Request.TheVariants.{Query, Borrow, Write, 
 use Rattle.swap_remote.specs.Remote as remote
 use Rattle.swap_remote.specs.Remote.{Remote, slab_for, state_for, has_page}
 use Rattle.swap_table.specs.Device.{is_newest}
-use Rattle.swap_table.specs.Serves.{Keeping, Owing, is_for_slab, flying_for, entry_to, latest, bytes_of, IsLeasedFrom, WaitsFrom, IsAwaited, MayPrecede, AreInOrder, IsContent, AreOwed, OwesReads, SlabFits, IsWriteKept, IsReadable, PageFits, AreSingle, Serves}
+use Rattle.swap_table.specs.Serves.{Keeping, Owing, is_for_slab, flying_for, entry_to, latest_write, bytes_of, IsLeasedFrom, WaitsFrom, IsAwaited, MayPrecede, AreInOrder, IsContent, AreOwed, OwesReads, SlabFits, IsWriteKept, IsReadable, PageFits, AreSingle, Serves}
 use Rattle.swap_table.proofs.Lists.{by_page, not_eqb, one_if, All-implies}
 use Rattle.swap_table.proofs.Leases.{single_same, single_fewer}
 use Rattle.swap_table.proofs.Links.{by_slab, state-same, state-other, flying-cons, entry_to-own, entry_to-other}
@@ -90,15 +90,16 @@ mapped_asks l m lease flying state is h = let no : slabs.asks m (Mapped l lease 
 settled_fits :
     (s : Sizes) (links : List LinkState) (l : Lender) (x : Request) (rest : List Request) (t : Slab) (lease : Lease) (flying : ℕ) → l.0 < length links
     → ring_of links l ≡ x ∷ rest → is_for_slab s t x ≡ true → SlabFits s links t (Mapped l lease flying)
-    → SlabFits s (rings.answered links l) t (Mapped l lease (flying - 1))
+    → SlabFits s (rings.answered_after links l) t (Mapped l lease (flying - 1))
 settled_fits s links l x rest t lease flying within ring here k =
     let all : flying ≡ 1 + flying_for s t rest = k.1 ∙ ap (flying_for s t) ring ∙ flying-cons s t x rest ∙ ap (λ b. one_if b + flying_for s t rest) here in
     (answered-up links l l within ∙ k.0, omega (arith, all) ∙ sym (ap (flying_for s t) (answered-ring links l x rest within ring)))
 
 -- the writes of a page after one of it are of later entries
-latest_after : (p : Page) (e : EntryNo) (ring : List Request) (g : EntryNo) → AllByRecursion (MayPrecede (Write p e)) ring → latest p ring ≡ Some g → e.0 < g.0
+latest_after : (p : Page) (e : EntryNo) (ring : List Request) (g : EntryNo) → AllByRecursion (MayPrecede (Write p e)) ring → latest_write p ring ≡ Some g
+    → e.0 < g.0
 latest_after p e [] g all is = cc
-latest_after p e (y ∷ ring) g all is = go (latest p ring) refl is (latest_after p e ring g all.1)
+latest_after p e (y ∷ ring) g all is = go (latest_write p ring) refl is (latest_after p e ring g all.1)
   where
     here : (y : Request) → MayPrecede (Write p e) y → entry_to p y ≡ Some g → e.0 < g.0
     here (Query u) h is = cc
@@ -110,16 +111,16 @@ latest_after p e (y ∷ ring) g all is = go (latest p ring) refl is (latest_afte
         test true same is = let entry : f ≡ g = cc in subst (λ (x : EntryNo). e.0 < x.0) entry (h (sym (eqb-true q.0 p.0 same)))
         test false same is = cc
 
-    go : (o : Option EntryNo) → latest p ring ≡ o → first_of o (entry_to p y) ≡ Some g → (latest p ring ≡ Some g → e.0 < g.0) → e.0 < g.0
+    go : (o : Option EntryNo) → latest_write p ring ≡ o → first_of o (entry_to p y) ≡ Some g → (latest_write p ring ≡ Some g → e.0 < g.0) → e.0 < g.0
     go (Some f) same is rest = rest (same ∙ is)
     go None same is rest = here y all.0 is
 
 none_after :
     (s : Sizes) (H : History) (cs : Calls) (states : List SlabState) (l : Lender) (p : Page) (e : EntryNo) (ring : List Request)
-    → AllByRecursion (MayPrecede (Write p e)) ring → AllByRecursion (IsAwaited s H cs states l) ring → last H p ≡ Some e → latest p ring ≡ None
-none_after s H cs states l p e ring order awaited newest = go (latest p ring) refl
+    → AllByRecursion (MayPrecede (Write p e)) ring → AllByRecursion (IsAwaited s H cs states l) ring → last H p ≡ Some e → latest_write p ring ≡ None
+none_after s H cs states l p e ring order awaited newest = go (latest_write p ring) refl
   where
-    go : (o : Option EntryNo) → latest p ring ≡ o → o ≡ None
+    go : (o : Option EntryNo) → latest_write p ring ≡ o → o ≡ None
     go None is = refl
     go (Some g) is = absurd (omega (arith, latest_after p e ring g order is, none_later H p e g newest (latest_out s H cs states l p ring g awaited is)))
 
@@ -135,37 +136,37 @@ with_page_is false r p = refl
 write_back : (keeps keeps' : Keeping) (s : Sizes) (H : History) (links links' : List LinkState) (bits : List Bool) (p : Page) (l : Lender) (lease : Lease)
     (f f' : ℕ) (e : EntryNo) (rest : List Request) (b : Bool)
     → p.0 < length bits → ring_of links l ≡ Write p e ∷ rest → ring_of links' l ≡ rest → (b ≡ true → last H p ≡ Some e)
-    → (last H p ≡ Some e → latest p rest ≡ None) → ((bytes : List ℕ) → keeps l lease (place_of s p.0) bytes → keeps' l lease (place_of s p.0) bytes)
+    → (last H p ≡ Some e → latest_write p rest ≡ None) → ((bytes : List ℕ) → keeps l lease (place_of s p.0) bytes → keeps' l lease (place_of s p.0) bytes)
     → PageFits keeps s H links p (has bits p.0) (Mapped l lease f)
     → PageFits keeps' s H links' p (has (cond b (with_number bits p.0) bits) p.0) (Mapped l lease f')
 write_back keeps keeps' s H links links' bits p l lease f f' e rest b within ring ring' newest none kept h =
-    (readable b newest, subst (λ o. IsWriteKept keeps' H l lease (place_of s p.0) o) (sym (ap (latest p) ring')) (left (latest p rest) refl))
+    (readable b newest, subst (λ o. IsWriteKept keeps' H l lease (place_of s p.0) o) (sym (ap (latest_write p) ring')) (left (latest_write p rest) refl))
   where
-    before : latest p (ring_of links l) ≡ first_of (latest p rest) (Some e)
-    before = ap (latest p) ring ∙ ap (λ o. first_of (latest p rest) o) (entry_to-own p e)
+    before : latest_write p (ring_of links l) ≡ first_of (latest_write p rest) (Some e)
+    before = ap (latest_write p) ring ∙ ap (λ o. first_of (latest_write p rest) o) (entry_to-own p e)
 
     never_none : (o : Option EntryNo) → first_of o (Some e) ≡ None → ⊥
     never_none None is = cc
     never_none (Some g) is = cc
 
-    left : (o : Option EntryNo) → latest p rest ≡ o → IsWriteKept keeps' H l lease (place_of s p.0) o
+    left : (o : Option EntryNo) → latest_write p rest ≡ o → IsWriteKept keeps' H l lease (place_of s p.0) o
     left None is = tt
     left (Some g) is =
-        let was : latest p (ring_of links l) ≡ Some g = before ∙ ap (λ o. first_of o (Some e)) is in
+        let was : latest_write p (ring_of links l) ≡ Some g = before ∙ ap (λ o. first_of o (Some e)) is in
         kept (bytes_of H g) (let P : Option EntryNo → Type 0 = λ o. IsWriteKept keeps H l lease (place_of s p.0) o in subst P was h.1)
 
     readable :
         (b : Bool) → (b ≡ true → last H p ≡ Some e) → has (cond b (with_number bits p.0) bits) p.0 ≡ true
         → IsReadable keeps' (zeros s) H p l lease (place_of s p.0) (ring_of links' l)
-    readable false newest set = absurd (never_none (latest p rest) (sym before ∙ (h.0 set).none))
+    readable false newest set = absurd (never_none (latest_write p rest) (sym before ∙ (h.0 set).none))
     readable true newest set =
         let is : last H p ≡ Some e = newest refl in
-        let was : latest p (ring_of links l) ≡ Some e = before ∙ ap (λ o. first_of o (Some e)) (none is) in
+        let was : latest_write p (ring_of links l) ≡ Some e = before ∙ ap (λ o. first_of o (Some e)) (none is) in
         let here : keeps l lease (place_of s p.0) (bytes_of H e) = let P : Option EntryNo → Type 0 = λ o. IsWriteKept keeps H l lease (place_of s p.0) o in
         subst P was h.1 in
         record {
           some = subst (λ o. IsSome o) (sym is) refl;
-          none = ap (latest p) ring' ∙ none is;
+          none = ap (latest_write p) ring' ∙ none is;
           kept = subst (λ bytes. keeps' l lease (place_of s p.0) bytes) (last_bytes (zeros s) H p e is) (kept (bytes_of H e) here);
         }
 
@@ -176,23 +177,23 @@ pub page_back :
     → l.0 < length r.links → t.0 < length r.slabs → ring_of r.links l ≡ x ∷ rest → entry_to q x ≡ None
     → slabs.state_of r.slabs t ≡ Mapped l lease flying → state ≡ Mapped l lease (flying - 1) → KeepsAll keeps keeps'
     → PageFits keeps s H r.links q (has_page r q) (state_for s r.slabs q)
-    → PageFits keeps' s H (rings.answered r.links l) q (has_page r q) (state_for s (slabs.with_state r.slabs t state) q)
+    → PageFits keeps' s H (rings.answered_after r.links l) q (has_page r q) (state_for s (slabs.with_state r.slabs t state) q)
 page_back keeps keeps' s H r l q x rest t state lease flying link_in slab_in ring none is is_state kept h =
     by_slab
     (λ u. PageFits keeps s H r.links q (has_page r q) (slabs.state_of r.slabs u)
-    → PageFits keeps' s H (rings.answered r.links l) q (has_page r q) (slabs.state_of (slabs.with_state r.slabs t state) u))
+    → PageFits keeps' s H (rings.answered_after r.links l) q (has_page r q) (slabs.state_of (slabs.with_state r.slabs t state) u))
     t
     (slab_for s q)
     (λ h.
     let P : SlabState → Type 0 = λ y. PageFits keeps s H r.links q (has_page r q) y in
-    let Q : SlabState → Type 0 = λ y. PageFits keeps' s H (rings.answered r.links l) q (has_page r q) y in
+    let Q : SlabState → Type 0 = λ y. PageFits keeps' s H (rings.answered_after r.links l) q (has_page r q) y in
     subst Q (sym (state-same r.slabs t state slab_in ∙ is_state))
-    (mapped_stays keeps keeps' s H r.links (rings.answered r.links l) q (has_page r q) l lease flying (flying - 1)
+    (mapped_stays keeps keeps' s H r.links (rings.answered_after r.links l) q (has_page r q) l lease flying (flying - 1)
     (latest_answered r.links l l x rest q link_in ring none) (kept l lease (place_of s q.0)) (subst P is h)))
     (λ other h.
-    let Q : SlabState → Type 0 = λ y. PageFits keeps' s H (rings.answered r.links l) q (has_page r q) y in
+    let Q : SlabState → Type 0 = λ y. PageFits keeps' s H (rings.answered_after r.links l) q (has_page r q) y in
     subst Q (sym (state-other r.slabs t (slab_for s q) state other))
-    (page_stays keeps keeps' s H r.links (rings.answered r.links l) q (has_page r q) (state_for s r.slabs q)
+    (page_stays keeps keeps' s H r.links (rings.answered_after r.links l) q (has_page r q) (state_for s r.slabs q)
     (λ m j has. (latest_answered r.links l m x rest q link_in ring none, kept m j (place_of s q.0))) h))
     h
 
@@ -219,7 +220,7 @@ none_for s t (y ∷ ring) e = let both = apart (is_for_slab s t y) refl in (both
 -- a slab of the lender drains, or is local where nothing flies: what it is, what is awaited, and its pages
 pub drained_fits :
     (s : Sizes) (links : List LinkState) (l : Lender) (t : Slab) (lease : Lease) (flying : ℕ) → is_up links l ≡ true → flying ≡ flying_for s t (ring_of links l)
-    → SlabFits s links t (slabs.drained l lease flying)
+    → SlabFits s links t (slabs.drain_to l lease flying)
 drained_fits s links l t lease flying up all = go (flying == 0)
   where
     go : (b : Bool) → SlabFits s links t (cond b Local (Draining l lease flying))
@@ -227,7 +228,7 @@ drained_fits s links l t lease flying up all = go (flying == 0)
     go false = (up, all)
 
 pub drained_lease :
-    (l m : Lender) (lease k : Lease) (flying : ℕ) → slabs.has_lease m k (slabs.drained l lease flying) ≡ true
+    (l m : Lender) (lease k : Lease) (flying : ℕ) → slabs.has_lease m k (slabs.drain_to l lease flying) ≡ true
     → slabs.has_lease m k (Mapped l lease flying) ≡ true
 drained_lease l m lease k flying h = go (flying == 0) h
   where
@@ -254,7 +255,7 @@ drains_rests l lease flying state is =
 pub drained_awaited :
     (s : Sizes) (H : History) (cs : Calls) (states : List SlabState) (t : Slab) (l : Lender) (lease : Lease) (flying : ℕ) (rest : List Request)
     → t.0 < length states → IsAtRest (slabs.state_of states t) → flying ≡ flying_for s t rest → AllByRecursion (IsAwaited s H cs states l) rest
-    → AllByRecursion (IsAwaited s H cs (slabs.with_state states t (slabs.drained l lease flying)) l) rest
+    → AllByRecursion (IsAwaited s H cs (slabs.with_state states t (slabs.drain_to l lease flying)) l) rest
 drained_awaited s H cs states t l lease flying rest within at_rest all h = go (flying == 0) refl
   where
     go : (b : Bool) → (flying == 0) ≡ b → AllByRecursion (IsAwaited s H cs (slabs.with_state states t (cond b Local (Draining l lease flying))) l) rest
@@ -276,7 +277,7 @@ drained_elsewhere s H cs states t state m y at_rest away a =
 
 pub drained_page :
     (keeps : Keeping) (s : Sizes) (H : History) (links : List LinkState) (q : Page) (bit : Bool) (l : Lender) (lease : Lease) (flying : ℕ) → bit ≡ false
-    → PageFits keeps s H links q bit (slabs.drained l lease flying)
+    → PageFits keeps s H links q bit (slabs.drain_to l lease flying)
 drained_page keeps s H links q bit l lease flying clear = go (flying == 0)
   where
     go : (b : Bool) → PageFits keeps s H links q bit (cond b Local (Draining l lease flying))
@@ -291,7 +292,7 @@ module _ (keeps keeps' : Keeping) (owes : Owing) (s : Sizes) (n : ℕ) (H : Hist
   abbrev settled_state : SlabState
   settled_state = slabs.after_settled (slabs.state_of r.slabs t)
 
-  settled_is : settled_state ≡ slabs.drained l lease (flying - 1)
+  settled_is : settled_state ≡ slabs.drain_to l lease (flying - 1)
   settled_is = ap slabs.after_settled is
 
   settled_in : t.0 < length r.slabs
@@ -307,11 +308,11 @@ module _ (keeps keeps' : Keeping) (owes : Owing) (s : Sizes) (n : ℕ) (H : Hist
       before.1 ∙ ap (flying_for s t) ring ∙ flying-cons s t x rest ∙ ap (λ b. one_if b + flying_for s t rest) here in
       omega (arith, all)
 
-  settled_fit : SlabFits s (rings.answered r.links l) t settled_state
+  settled_fit : SlabFits s (rings.answered_after r.links l) t settled_state
   settled_fit =
-      let P : SlabState → Type 0 = λ y. SlabFits s (rings.answered r.links l) t y in
+      let P : SlabState → Type 0 = λ y. SlabFits s (rings.answered_after r.links l) t y in
       subst P (sym settled_is)
-      (drained_fits s (rings.answered r.links l) l t lease (flying - 1) (answered-up r.links l l settled_link ∙ up)
+      (drained_fits s (rings.answered_after r.links l) l t lease (flying - 1) (answered-up r.links l l settled_link ∙ up)
       (settled_rest ∙ sym (ap (flying_for s t) (answered-ring r.links l x rest settled_link ring))))
 
   settled_single : AreSingle (slabs.with_state r.slabs t settled_state)
@@ -336,22 +337,22 @@ module _ (keeps keeps' : Keeping) (owes : Owing) (s : Sizes) (n : ℕ) (H : Hist
   settled_page :
       (q : Page) → ((slab_of s q.0 ≡ t.0 → ⊥) → entry_to q x ≡ None) → KeepsAll keeps keeps'
       → PageFits keeps s H r.links q (has_page r q) (state_for s r.slabs q)
-      → PageFits keeps' s H (rings.answered r.links l) q (has_page r q) (state_for s (slabs.with_state r.slabs t settled_state) q)
+      → PageFits keeps' s H (rings.answered_after r.links l) q (has_page r q) (state_for s (slabs.with_state r.slabs t settled_state) q)
   settled_page q none kept h =
       by_slab
       (λ u. (u.0 ≡ slab_of s q.0) → PageFits keeps s H r.links q (has_page r q) (slabs.state_of r.slabs u)
-      → PageFits keeps' s H (rings.answered r.links l) q (has_page r q) (slabs.state_of (slabs.with_state r.slabs t settled_state) u))
+      → PageFits keeps' s H (rings.answered_after r.links l) q (has_page r q) (slabs.state_of (slabs.with_state r.slabs t settled_state) u))
       t
       (slab_for s q)
       (λ _ h.
       let P : SlabState → Type 0 = λ y. PageFits keeps s H r.links q (has_page r q) y in
-      let Q : SlabState → Type 0 = λ y. PageFits keeps' s H (rings.answered r.links l) q (has_page r q) y in
+      let Q : SlabState → Type 0 = λ y. PageFits keeps' s H (rings.answered_after r.links l) q (has_page r q) y in
       subst Q (sym (state-same r.slabs t settled_state settled_in ∙ settled_is))
-      (drained_page keeps' s H (rings.answered r.links l) q (has_page r q) l lease (flying - 1) (subst P is h)))
+      (drained_page keeps' s H (rings.answered_after r.links l) q (has_page r q) l lease (flying - 1) (subst P is h)))
       (λ other _ h.
-      let Q : SlabState → Type 0 = λ y. PageFits keeps' s H (rings.answered r.links l) q (has_page r q) y in
+      let Q : SlabState → Type 0 = λ y. PageFits keeps' s H (rings.answered_after r.links l) q (has_page r q) y in
       subst Q (sym (state-other r.slabs t (slab_for s q) settled_state other))
-      (page_stays keeps keeps' s H r.links (rings.answered r.links l) q (has_page r q) (state_for s r.slabs q)
+      (page_stays keeps keeps' s H r.links (rings.answered_after r.links l) q (has_page r q) (state_for s r.slabs q)
       (λ m j has. (latest_answered r.links l m x rest q settled_link ring (none other), kept m j (place_of s q.0))) h))
       refl h
 
@@ -360,7 +361,7 @@ written_maps : (keeps keeps' : Keeping) (owes owes' : Owing) (s : Sizes) (n : �
     (rest : List Request)
     → Serves keeps owes s n H cs r → is_up r.links l ≡ true → ring_of r.links l ≡ Write p e ∷ rest → (lease : Lease) (flying : ℕ)
     → state_for s r.slabs p ≡ Mapped l lease flying → KeepsAll keeps keeps' → OwesAll owes owes'
-    → Serves keeps' owes' s n H cs (remote.written s r l p (is_newest (last H p) e))
+    → Serves keeps' owes' s n H cs (remote.written_after s r l p (is_newest (last H p) e))
 written_maps keeps keeps' owes owes' s n H cs r l p e rest k up ring lease flying is kept owed =
     let x : Request = Write p e in
     let t : Slab = slab_for s p in
@@ -376,7 +377,7 @@ written_maps keeps keeps' owes owes' s n H cs r l p e rest k up ring lease flyin
     let is_state : state ≡ Mapped l lease (flying - 1) = ap slabs.after_settled is in
     let before : SlabFits s r.links t (Mapped l lease flying) = let P : SlabState → Type 0 = λ y. SlabFits s r.links t y in
     subst P is (k.slab t slab_within') in
-    let fits : SlabFits s (rings.answered r.links l) t (Mapped l lease (flying - 1)) =
+    let fits : SlabFits s (rings.answered_after r.links l) t (Mapped l lease (flying - 1)) =
     settled_fits s r.links l x rest t lease flying link_in ring (eq-eqb (slab_of s p.0) (slab_of s p.0) refl) before in
     let same : (j : Lender) → IsLeasedFrom j (slabs.state_of r.slabs t) → IsLeasedFrom j state =
     λ j h. let P : SlabState → Type 0 = λ y. IsLeasedFrom j y in
@@ -392,8 +393,8 @@ written_maps keeps keeps' owes owes' s n H cs r l p e rest k up ring lease flyin
     let old : PageFits keeps s H r.links p (has_page r p) (Mapped l lease flying) = let P : SlabState
     → Type 0 = λ y. PageFits keeps s H r.links p (has_page r p) y in
     subst P is (k.page p page_in) in
-    let here : PageFits keeps' s H (rings.answered r.links l) p (get_or bits p.0 false) (Mapped l lease (flying - 1)) =
-    write_back keeps keeps' s H r.links (rings.answered r.links l) r.bits p l lease flying (flying - 1) e rest newest bit_in ring
+    let here : PageFits keeps' s H (rings.answered_after r.links l) p (get_or bits p.0 false) (Mapped l lease (flying - 1)) =
+    write_back keeps keeps' s H r.links (rings.answered_after r.links l) r.bits p l lease flying (flying - 1) e rest newest bit_in ring
     (answered-ring r.links l x rest link_in ring) is_newest_too (λ is. none_after s H cs r.slabs l p e rest ordered.0 awaited.1 is)
     (kept l lease (place_of s p.0)) old in
     let R : Remote → Type 0 = λ y. Serves keeps' owes' s n H cs y in
@@ -407,7 +408,7 @@ written_maps keeps keeps' owes owes' s n H cs r l p e rest k up ring lease flyin
       single =
           single_same r.slabs t state slab_in
           (λ j o. let P : SlabState → Type 0 = λ y. slabs.has_lease j o (slabs.after_settled y) ≡ slabs.has_lease j o y in subst P (sym is) refl) k.single;
-      fits = let P : SlabState → Type 0 = λ y. SlabFits s (rings.answered r.links l) t y in subst P (sym is_state) fits;
+      fits = let P : SlabState → Type 0 = λ y. SlabFits s (rings.answered_after r.links l) t y in subst P (sym is_state) fits;
       calls_len = refl;
       here =
           λ after h.
@@ -420,12 +421,13 @@ written_maps keeps keeps' owes owes' s n H cs r l p e rest k up ring lease flyin
     bits_len
     (λ q q_in.
     by_page
-    (λ q. q.0 < pages_of s → PageFits keeps' s H (rings.answered r.links l) q (get_or bits q.0 false) (state_for s (slabs.with_state r.slabs t state) q)) p q
-    (λ _. let Q : SlabState → Type 0 = λ y. PageFits keeps' s H (rings.answered r.links l) p (get_or bits p.0 false) y in
+    (λ q. q.0 < pages_of s → PageFits keeps' s H (rings.answered_after r.links l) q (get_or bits q.0 false) (state_for s (slabs.with_state r.slabs t state) q))
+    p q
+    (λ _. let Q : SlabState → Type 0 = λ y. PageFits keeps' s H (rings.answered_after r.links l) p (get_or bits p.0 false) y in
     subst Q (sym (state-same r.slabs t state slab_in ∙ is_state)) here)
     (λ other q_in.
     let bit : get_or bits q.0 false ≡ has_page r q = chosen_bit newest r.bits p.0 q.0 other in
-    let Q : Bool → Type 0 = λ b. PageFits keeps' s H (rings.answered r.links l) q b (state_for s (slabs.with_state r.slabs t state) q) in
+    let Q : Bool → Type 0 = λ b. PageFits keeps' s H (rings.answered_after r.links l) q b (state_for s (slabs.with_state r.slabs t state) q) in
     subst Q (sym bit)
     (page_back keeps keeps' s H r l q x rest t state lease flying link_in slab_in ring (entry_to-other q p e other) is is_state kept (k.page q q_in)))
     q_in))
@@ -443,12 +445,12 @@ written_maps keeps keeps' owes owes' s n H cs r l p e rest k up ring lease flyin
     chosen_bit false bits i j other = refl
 
 -- a read that came back: its caller's call has the page, and every other waits on
-came_other : (cs : Calls) (c d : Caller) (bytes : List ℕ) → (d.0 ≡ c.0 → ⊥) → state_of (calls.came cs c bytes) d ≡ state_of cs d
-came_other cs c d bytes other = ap (λ (x : calls.Call). x.state) (get_or-set_other cs c.0 d.0 _ calls.idle other)
+came_other : (cs : Calls) (c d : Caller) (bytes : List ℕ) → (d.0 ≡ c.0 → ⊥) → state_of (calls.came_after cs c bytes) d ≡ state_of cs d
+came_other cs c d bytes other = ap (λ (x : calls.Call). x.state) (get_or-set_other cs c.0 d.0 _ calls.idle_call other)
 
 awaited_came :
     (s : Sizes) (H : History) (cs : Calls) (states : List SlabState) (m : Lender) (c : Caller) (bytes : List ℕ) (y : Request)
-    → ((d : Caller) (q : Page) → y ≡ Read d q → d.0 ≡ c.0 → ⊥) → IsAwaited s H cs states m y → IsAwaited s H (calls.came cs c bytes) states m y
+    → ((d : Caller) (q : Page) → y ≡ Read d q → d.0 ≡ c.0 → ⊥) → IsAwaited s H cs states m y → IsAwaited s H (calls.came_after cs c bytes) states m y
 awaited_came s H cs states m c bytes (Query u) other k = k
 awaited_came s H cs states m c bytes (Borrow u) other k = k
 awaited_came s H cs states m c bytes (Write p e) other k = k
@@ -457,7 +459,8 @@ awaited_came s H cs states m c bytes (Read d q) other k =
 
 owed_came :
     (H : History) (cs : Calls) (c : Caller) (bytes : List ℕ) (ring : List Request) (pages : List (List ℕ))
-    → AllByRecursion (λ y. (d : Caller) (q : Page) → y ≡ Read d q → d.0 ≡ c.0 → ⊥) ring → AreOwed H cs ring pages → AreOwed H (calls.came cs c bytes) ring pages
+    → AllByRecursion (λ y. (d : Caller) (q : Page) → y ≡ Read d q → d.0 ≡ c.0 → ⊥) ring → AreOwed H cs ring pages
+    → AreOwed H (calls.came_after cs c bytes) ring pages
 owed_came H cs c bytes [] [] all o = o
 owed_came H cs c bytes [] (page ∷ pages) all o = o
 owed_came H cs c bytes (Query u ∷ ring) pages all o = owed_came H cs c bytes ring pages all.1 o
@@ -534,11 +537,11 @@ brought_maps : (keeps keeps' : Keeping) (owes owes' : Owing) (s : Sizes) (n : �
     → Serves keeps owes s n H cs r → is_up r.links l ≡ true → ring_of r.links l ≡ Read c p ∷ rest → (lease : Lease) (flying : ℕ)
     → state_for s r.slabs p ≡ Mapped l lease flying → KeepsAll keeps keeps' → OwesOthers l owes owes'
     → ((page : List ℕ) (more : List (List ℕ)) → owes l (page ∷ more) → owes' l more)
-    → Serves keeps' owes' s n H (calls.came cs c bytes) (remote.settled_for s r l p)
+    → Serves keeps' owes' s n H (calls.came_after cs c bytes) (remote.settled_for s r l p)
 brought_maps keeps keeps' owes owes' s n H cs r l c p bytes rest k up ring lease flying is kept others less =
     let x : Request = Read c p in
     let t : Slab = slab_for s p in
-    let cs' : Calls = calls.came cs c bytes in
+    let cs' : Calls = calls.came_after cs c bytes in
     let awaited : AllByRecursion (IsAwaited s H cs r.slabs l) (x ∷ rest) =
     subst (λ ys. AllByRecursion (IsAwaited s H cs r.slabs l) ys) ring (k.link l).awaited in
     let ordered : AreInOrder (x ∷ rest) = subst AreInOrder ring (k.link l).ordered in
@@ -552,7 +555,7 @@ brought_maps keeps keeps' owes owes' s n H cs r l c p bytes rest k up ring lease
     let is_state : state ≡ Mapped l lease (flying - 1) = ap slabs.after_settled is in
     let before : SlabFits s r.links t (Mapped l lease flying) = let P : SlabState → Type 0 = λ y. SlabFits s r.links t y in
     subst P is (k.slab t slab_within') in
-    let fits : SlabFits s (rings.answered r.links l) t (Mapped l lease (flying - 1)) =
+    let fits : SlabFits s (rings.answered_after r.links l) t (Mapped l lease (flying - 1)) =
     settled_fits s r.links l x rest t lease flying link_in ring (eq-eqb (slab_of s p.0) (slab_of s p.0) refl) before in
     let same : (j : Lender) → IsLeasedFrom j (slabs.state_of r.slabs t) → IsLeasedFrom j state =
     λ j h. let P : SlabState → Type 0 = λ y. IsLeasedFrom j y in
@@ -568,7 +571,7 @@ brought_maps keeps keeps' owes owes' s n H cs r l c p bytes rest k up ring lease
       single =
           single_same r.slabs t state slab_in
           (λ j o. let P : SlabState → Type 0 = λ y. slabs.has_lease j o (slabs.after_settled y) ≡ slabs.has_lease j o y in subst P (sym is) refl) k.single;
-      fits = let P : SlabState → Type 0 = λ y. SlabFits s (rings.answered r.links l) t y in subst P (sym is_state) fits;
+      fits = let P : SlabState → Type 0 = λ y. SlabFits s (rings.answered_after r.links l) t y in subst P (sym is_state) fits;
       calls_len = length-set cs c.0 _;
       here =
           λ after h.
@@ -607,7 +610,7 @@ written_drains : (keeps keeps' : Keeping) (owes owes' : Owing) (s : Sizes) (n : 
     (rest : List Request)
     → Serves keeps owes s n H cs r → is_up r.links l ≡ true → ring_of r.links l ≡ Write p e ∷ rest → (lease : Lease) (flying : ℕ)
     → state_for s r.slabs p ≡ Draining l lease flying → KeepsAll keeps keeps' → OwesAll owes owes'
-    → Serves keeps' owes' s n H cs (remote.written s r l p (is_newest (last H p) e))
+    → Serves keeps' owes' s n H cs (remote.written_after s r l p (is_newest (last H p) e))
 written_drains keeps keeps' owes owes' s n H cs r l p e rest k up ring lease flying is kept owed =
     let x : Request = Write p e in
     let t : Slab = slab_for s p in
@@ -617,7 +620,7 @@ written_drains keeps keeps' owes owes' s n H cs r l p e rest k up ring lease fly
     let here : is_for_slab s t x ≡ true = eq-eqb (slab_of s p.0) (slab_of s p.0) refl in
     let state : SlabState = slabs.after_settled (slabs.state_of r.slabs t) in
     let unmapped : slabs.is_mapped (state_for s r.slabs p) ≡ false = ap slabs.is_mapped is in
-    let stays : remote.written s r l p (is_newest (last H p) e) ≡ remote.settled_for s r l p =
+    let stays : remote.written_after s r l p (is_newest (last H p) e) ≡ remote.settled_for s r l p =
     ap (λ b. remote.with_page_if (is_newest (last H p) e && b) (remote.settled_for s r l p) p) unmapped
     ∙ ap (λ b. remote.with_page_if b (remote.settled_for s r l p) p) (and-false (is_newest (last H p) e)) in
     let R : Remote → Type 0 = λ y. Serves keeps' owes' s n H cs y in
@@ -646,11 +649,11 @@ brought_drains : (keeps keeps' : Keeping) (owes owes' : Owing) (s : Sizes) (n : 
     → Serves keeps owes s n H cs r → is_up r.links l ≡ true → ring_of r.links l ≡ Read c p ∷ rest → (lease : Lease) (flying : ℕ)
     → state_for s r.slabs p ≡ Draining l lease flying → KeepsAll keeps keeps' → OwesOthers l owes owes'
     → ((page : List ℕ) (more : List (List ℕ)) → owes l (page ∷ more) → owes' l more)
-    → Serves keeps' owes' s n H (calls.came cs c bytes) (remote.settled_for s r l p)
+    → Serves keeps' owes' s n H (calls.came_after cs c bytes) (remote.settled_for s r l p)
 brought_drains keeps keeps' owes owes' s n H cs r l c p bytes rest k up ring lease flying is kept others less =
     let x : Request = Read c p in
     let t : Slab = slab_for s p in
-    let cs' : Calls = calls.came cs c bytes in
+    let cs' : Calls = calls.came_after cs c bytes in
     let awaited : AllByRecursion (IsAwaited s H cs r.slabs l) (x ∷ rest) =
     subst (λ ys. AllByRecursion (IsAwaited s H cs r.slabs l) ys) ring (k.link l).awaited in
     let within : t.0 < s.slabs = slab_within s p.0 awaited.0.1 in
@@ -700,13 +703,13 @@ brought_drains keeps keeps' owes owes' s n H cs r l c p bytes rest k up ring lea
 pub written_serves : (keeps keeps' : Keeping) (owes owes' : Owing) (s : Sizes) (n : ℕ) (H : History) (cs : Calls) (r : Remote) (l : Lender) (p : Page)
     (e : EntryNo) (rest : List Request)
     → Serves keeps owes s n H cs r → is_up r.links l ≡ true → ring_of r.links l ≡ Write p e ∷ rest → KeepsAll keeps keeps' → OwesAll owes owes'
-    → Serves keeps' owes' s n H cs (remote.written s r l p (is_newest (last H p) e))
+    → Serves keeps' owes' s n H cs (remote.written_after s r l p (is_newest (last H p) e))
 written_serves keeps keeps' owes owes' s n H cs r l p e rest k up ring kept owed = go (leased_of l (state_for s r.slabs p) awaited.0.1)
   where
     awaited : AllByRecursion (IsAwaited s H cs r.slabs l) (Write p e ∷ rest)
     awaited = subst (λ ys. AllByRecursion (IsAwaited s H cs r.slabs l) ys) ring (k.link l).awaited
 
-    go : Leased l (state_for s r.slabs p) → Serves keeps' owes' s n H cs (remote.written s r l p (is_newest (last H p) e))
+    go : Leased l (state_for s r.slabs p) → Serves keeps' owes' s n H cs (remote.written_after s r l p (is_newest (last H p) e))
     go (maps lease flying is) = written_maps keeps keeps' owes owes' s n H cs r l p e rest k up ring lease flying is kept owed
     go (drains lease flying is) = written_drains keeps keeps' owes owes' s n H cs r l p e rest k up ring lease flying is kept owed
 
@@ -714,12 +717,12 @@ pub brought_serves : (keeps keeps' : Keeping) (owes owes' : Owing) (s : Sizes) (
     (p : Page) (bytes : List ℕ) (rest : List Request)
     → Serves keeps owes s n H cs r → is_up r.links l ≡ true → ring_of r.links l ≡ Read c p ∷ rest → KeepsAll keeps keeps' → OwesOthers l owes owes'
     → ((page : List ℕ) (more : List (List ℕ)) → owes l (page ∷ more) → owes' l more)
-    → Serves keeps' owes' s n H (calls.came cs c bytes) (remote.settled_for s r l p)
+    → Serves keeps' owes' s n H (calls.came_after cs c bytes) (remote.settled_for s r l p)
 brought_serves keeps keeps' owes owes' s n H cs r l c p bytes rest k up ring kept others less = go (leased_of l (state_for s r.slabs p) awaited.0.2)
   where
     awaited : AllByRecursion (IsAwaited s H cs r.slabs l) (Read c p ∷ rest)
     awaited = subst (λ ys. AllByRecursion (IsAwaited s H cs r.slabs l) ys) ring (k.link l).awaited
 
-    go : Leased l (state_for s r.slabs p) → Serves keeps' owes' s n H (calls.came cs c bytes) (remote.settled_for s r l p)
+    go : Leased l (state_for s r.slabs p) → Serves keeps' owes' s n H (calls.came_after cs c bytes) (remote.settled_for s r l p)
     go (maps lease flying is) = brought_maps keeps keeps' owes owes' s n H cs r l c p bytes rest k up ring lease flying is kept others less
     go (drains lease flying is) = brought_drains keeps keeps' owes owes' s n H cs r l c p bytes rest k up ring lease flying is kept others less

@@ -41,30 +41,30 @@ slab_within s p within = go s.pages_per_slab refl
         (div-lt_iff_lt-mul {k = s.pages_per_slab} {x = p} {y = s.slabs} some).1 (subst (λ n. p < n) (mul_comm s.pages_per_slab s.slabs) within)
 
 -- the links after a request was sent on one that is up
-pub sent-same : (links : List LinkState) (l : Lender) (x : Request) → l.0 < length links → link_of (rings.sent links l x) l ≡ sent_on (link_of links l) x
+pub sent-same : (links : List LinkState) (l : Lender) (x : Request) → l.0 < length links → link_of (rings.sent_after links l x) l ≡ sent_on (link_of links l) x
 sent-same links l x within = link-same links l (sent_on (link_of links l) x) within
 
-pub sent-other : (links : List LinkState) (l m : Lender) (x : Request) → (m.0 ≡ l.0 → ⊥) → link_of (rings.sent links l x) m ≡ link_of links m
+pub sent-other : (links : List LinkState) (l m : Lender) (x : Request) → (m.0 ≡ l.0 → ⊥) → link_of (rings.sent_after links l x) m ≡ link_of links m
 sent-other links l m x other = link-other links l m (sent_on (link_of links l) x) other
 
-pub sent-up : (links : List LinkState) (l m : Lender) (x : Request) → l.0 < length links → is_up (rings.sent links l x) m ≡ is_up links m
+pub sent-up : (links : List LinkState) (l m : Lender) (x : Request) → l.0 < length links → is_up (rings.sent_after links l x) m ≡ is_up links m
 sent-up links l m x within =
-    by_lender (λ m. is_up (rings.sent links l x) m ≡ is_up links m) l m (ap (λ (k : LinkState). k.up) (sent-same links l x within))
+    by_lender (λ m. is_up (rings.sent_after links l x) m ≡ is_up links m) l m (ap (λ (k : LinkState). k.up) (sent-same links l x within))
     (λ other. ap (λ (k : LinkState). k.up) (sent-other links l m x other))
 
 -- how many requests are for a slab, where the one that was sent isn't
 flying-sent :
     (s : Sizes) (links : List LinkState) (l m : Lender) (x : Request) (t : Slab) → l.0 < length links → is_for_slab s t x ≡ false
-    → flying_for s t (ring_of (rings.sent links l x) m) ≡ flying_for s t (ring_of links m)
+    → flying_for s t (ring_of (rings.sent_after links l x) m) ≡ flying_for s t (ring_of links m)
 flying-sent s links l m x t within off =
-    by_lender (λ m. flying_for s t (ring_of (rings.sent links l x) m) ≡ flying_for s t (ring_of links m)) l m
+    by_lender (λ m. flying_for s t (ring_of (rings.sent_after links l x) m) ≡ flying_for s t (ring_of links m)) l m
     (ap (λ (k : LinkState). flying_for s t k.ring) (sent-same links l x within) ∙ flying-append s t (ring_of links l) x
     ∙ ap (λ b. flying_for s t (ring_of links l) + one_if b) off ∙ omega arith)
     (λ other. ap (λ (k : LinkState). flying_for s t k.ring) (sent-other links l m x other))
 
 pub slab_sent :
     (s : Sizes) (links : List LinkState) (l : Lender) (x : Request) (t : Slab) (state : SlabState) → l.0 < length links → is_for_slab s t x ≡ false
-    → SlabFits s links t state → SlabFits s (rings.sent links l x) t state
+    → SlabFits s links t state → SlabFits s (rings.sent_after links l x) t state
 slab_sent s links l x t Local within off k = tt
 slab_sent s links l x t (Asking pair) within off k = tt
 slab_sent s links l x t (Borrowing m) within off k = sent-up links l m x within ∙ k
@@ -74,17 +74,17 @@ slab_sent s links l x t (Draining m lease flying) within off k = (sent-up links 
 -- a slab to which one request more flies is mapped as before
 pub begun-same :
     (states : List SlabState) (t : Slab) (l : Lender) (lease : Lease) (flying : ℕ) → t.0 < length states → slabs.state_of states t ≡ Mapped l lease flying
-    → slabs.state_of (slabs.begun states t) t ≡ Mapped l lease (flying + 1)
+    → slabs.state_of (slabs.begun_after states t) t ≡ Mapped l lease (flying + 1)
 begun-same states t l lease flying within is = state-same states t (slabs.after_begin (slabs.state_of states t)) within ∙ ap slabs.after_begin is
 
-pub begun-other : (states : List SlabState) (t u : Slab) → (u.0 ≡ t.0 → ⊥) → slabs.state_of (slabs.begun states t) u ≡ slabs.state_of states u
+pub begun-other : (states : List SlabState) (t u : Slab) → (u.0 ≡ t.0 → ⊥) → slabs.state_of (slabs.begun_after states t) u ≡ slabs.state_of states u
 begun-other states t u other = state-other states t u (slabs.after_begin (slabs.state_of states t)) other
 
 mapped_begun :
     (states : List SlabState) (t u : Slab) (l m : Lender) (lease : Lease) (flying : ℕ) → t.0 < length states → slabs.state_of states t ≡ Mapped l lease flying
-    → IsLeasedFrom m (slabs.state_of states u) → IsLeasedFrom m (slabs.state_of (slabs.begun states t) u)
+    → IsLeasedFrom m (slabs.state_of states u) → IsLeasedFrom m (slabs.state_of (slabs.begun_after states t) u)
 mapped_begun states t u l m lease flying within is k =
-    by_slab (λ u. IsLeasedFrom m (slabs.state_of states u) → IsLeasedFrom m (slabs.state_of (slabs.begun states t) u)) t u
+    by_slab (λ u. IsLeasedFrom m (slabs.state_of states u) → IsLeasedFrom m (slabs.state_of (slabs.begun_after states t) u)) t u
     (λ k.
     subst (λ x. IsLeasedFrom m x) (sym (begun-same states t l lease flying within is)) (let P : SlabState → Type 0 = λ x. IsLeasedFrom m x in subst P is k))
     (λ other k. subst (λ x. IsLeasedFrom m x) (sym (begun-other states t u other)) k) k
@@ -92,10 +92,10 @@ mapped_begun states t u l m lease flying within is k =
 pub awaited_begun :
     (s : Sizes) (H : History) (calls : Calls) (states : List SlabState) (t : Slab) (l m : Lender) (lease : Lease) (flying : ℕ) (y : Request)
     → t.0 < length states
-    → slabs.state_of states t ≡ Mapped l lease flying → IsAwaited s H calls states m y → IsAwaited s H calls (slabs.begun states t) m y
+    → slabs.state_of states t ≡ Mapped l lease flying → IsAwaited s H calls states m y → IsAwaited s H calls (slabs.begun_after states t) m y
 awaited_begun s H calls states t l m lease flying (Query u) within is k = (
   k.0,
-  by_slab (λ u. slabs.asks m (slabs.state_of states u) ≡ true → slabs.asks m (slabs.state_of (slabs.begun states t) u) ≡ true) t u
+  by_slab (λ u. slabs.asks m (slabs.state_of states u) ≡ true → slabs.asks m (slabs.state_of (slabs.begun_after states t) u) ≡ true) t u
       (λ e. absurd (not_both (sym (ap (slabs.asks m) is) ∙ e))) (λ other e. ap (slabs.asks m) (begun-other states t u other) ∙ e) k.1,
 )
   where
@@ -103,7 +103,7 @@ awaited_begun s H calls states t l m lease flying (Query u) within is k = (
     not_both e = cc
 awaited_begun s H calls states t l m lease flying (Borrow u) within is k = (
   k.0,
-  by_slab (λ u. slabs.state_of states u ≡ Borrowing m → slabs.state_of (slabs.begun states t) u ≡ Borrowing m) t u (λ e. absurd (not_both (sym is ∙ e)))
+  by_slab (λ u. slabs.state_of states u ≡ Borrowing m → slabs.state_of (slabs.begun_after states t) u ≡ Borrowing m) t u (λ e. absurd (not_both (sym is ∙ e)))
       (λ other e. begun-other states t u other ∙ e) k.1,
 )
   where
@@ -162,7 +162,8 @@ pub sent_serves : (keeps keeps' : Keeping) (owes owes' : Owing) (s : Sizes) (n :
     → Serves keeps owes s n H calls r → LiesAt s r p l lease flying → IsSendable s H calls r.slabs l p (ring_of r.links l) x
     → (OwesReads owes H calls l (ring_of r.links l) → OwesReads owes' H calls l (ring_of r.links l ++ x ∷ []))
     → ((m : Lender) → (m.0 ≡ l.0 → ⊥) → (pages : List (List ℕ)) → owes m pages → owes' m pages)
-    → ((q : Page) → q.0 < pages_of s → PageFits keeps' s H (rings.sent r.links l x) q (has_page r q) (state_for s (slabs.begun r.slabs (slab_for s p)) q))
+    → ((q : Page) → q.0 < pages_of s → PageFits keeps' s H (rings.sent_after r.links l x) q (has_page r q)
+    (state_for s (slabs.begun_after r.slabs (slab_for s p)) q))
     → Serves keeps' owes' s n H calls (sent_for s r l p x)
 sent_serves keeps keeps' owes owes' s n H calls r l p lease flying x k lies may reads others pages =
     let t : Slab = slab_for s p in
@@ -171,7 +172,7 @@ sent_serves keeps keeps' owes owes' s n H calls r l p lease flying x k lies may 
     let link_in : l.0 < length r.links = subst (λ m. l.0 < m) (sym k.links_len) (omega (arith, lender_in, k.few)) in
     let before : SlabFits s r.links t (Mapped l lease flying) = let P : SlabState → Type 0 = λ y. SlabFits s r.links t y in
     subst P lies.mapped (k.slab t (slab_within s p.0 lies.within)) in
-    let after : SlabFits s (rings.sent r.links l x) t (Mapped l lease (flying + 1)) = (
+    let after : SlabFits s (rings.sent_after r.links l x) t (Mapped l lease (flying + 1)) = (
       sent-up r.links l l x link_in ∙ before.0,
       sym
           (ap (λ (y : LinkState). flying_for s t y.ring) (sent-same r.links l x link_in) ∙ flying-append s t (ring_of r.links l) x
@@ -189,24 +190,24 @@ sent_serves keeps keeps' owes owes' s n H calls r l p lease flying x k lies may 
           k.single;
       slab =
           λ u within.
-          by_slab (λ u. u.0 < s.slabs → SlabFits s (rings.sent r.links l x) u (slabs.state_of (slabs.begun r.slabs t) u)) t u
-          (λ _. let P : SlabState → Type 0 = λ y. SlabFits s (rings.sent r.links l x) t y in
+          by_slab (λ u. u.0 < s.slabs → SlabFits s (rings.sent_after r.links l x) u (slabs.state_of (slabs.begun_after r.slabs t) u)) t u
+          (λ _. let P : SlabState → Type 0 = λ y. SlabFits s (rings.sent_after r.links l x) t y in
           subst P (sym (begun-same r.slabs t l lease flying slab_in lies.mapped)) after)
-          (λ other within. let P : SlabState → Type 0 = λ y. SlabFits s (rings.sent r.links l x) u y in
+          (λ other within. let P : SlabState → Type 0 = λ y. SlabFits s (rings.sent_after r.links l x) u y in
           subst P (sym (begun-other r.slabs t u other)) (slab_sent s r.links l x u (slabs.state_of r.slabs u) link_in (may.there u other) (k.slab u within)))
           within;
       link =
           λ m.
-          by_lender (λ m. LinkFits owes' s n H calls (slabs.begun r.slabs t) m (link_of (rings.sent r.links l x) m)) l m
-          (let P : LinkState → Type 0 = λ y. LinkFits owes' s n H calls (slabs.begun r.slabs t) l y in
+          by_lender (λ m. LinkFits owes' s n H calls (slabs.begun_after r.slabs t) m (link_of (rings.sent_after r.links l x) m)) l m
+          (let P : LinkState → Type 0 = λ y. LinkFits owes' s n H calls (slabs.begun_after r.slabs t) l y in
           subst P (sym (sent-same r.links l x link_in))
-          (link_sent owes owes' s n H calls r.slabs (slabs.begun r.slabs t) l (link_of r.links l) x lies.up
+          (link_sent owes owes' s n H calls r.slabs (slabs.begun_after r.slabs t) l (link_of r.links l) x lies.up
           (λ y h. awaited_begun s H calls r.slabs t l l lease flying y slab_in lies.mapped h)
           (awaited_begun s H calls r.slabs t l l lease flying x slab_in lies.mapped may.awaited) may.order reads (k.link l)))
           (λ other.
-          let P : LinkState → Type 0 = λ y. LinkFits owes' s n H calls (slabs.begun r.slabs t) m y in
+          let P : LinkState → Type 0 = λ y. LinkFits owes' s n H calls (slabs.begun_after r.slabs t) m y in
           subst P (sym (sent-other r.links l m x other))
-          (link_stays owes owes' s n H calls r.slabs (slabs.begun r.slabs t) m (link_of r.links m)
+          (link_stays owes owes' s n H calls r.slabs (slabs.begun_after r.slabs t) m (link_of r.links m)
           (λ y h. awaited_begun s H calls r.slabs t l m lease flying y slab_in lies.mapped h) (others m other) (k.link m)));
       page = pages;
     }

@@ -18,7 +18,7 @@ use Rattle.swap_rings.specs.Rings.{LinkState, link_of, ring_of}
 use Rattle.swap_rings.specs.declared.Request.{Request}
 use Rattle.swap_rings.specs.declared.Request.TheVariants.{Query, Borrow, Write, Read}
 use Rattle.swap_remote.specs.Remote.{Remote, state_for, has_page}
-use Rattle.swap_table.specs.Serves.{Keeping, Owing, entry_to, latest, IsOut, bytes_of, WaitsFrom, IsAwaited, IsContent, AreOwed, OwesReads, LinkFits, IsWriteKept, IsReadable, PageFits, Serves}
+use Rattle.swap_table.specs.Serves.{Keeping, Owing, entry_to, latest_write, IsOut, bytes_of, WaitsFrom, IsAwaited, IsContent, AreOwed, OwesReads, LinkFits, IsWriteKept, IsReadable, PageFits, Serves}
 use Rattle.swap_table.proofs.Lists.{All-implies}
 
 -- what the history and the calls may do: entries stay, a waiting call waits on, and what it is owed stays its entry's bytes
@@ -65,11 +65,11 @@ written_out s H calls states l p (Write q f) e a is = go (q.0 == p.0) refl is
 
 pub latest_out :
     (s : Sizes) (H : History) (calls : Calls) (states : List SlabState) (l : Lender) (p : Page) (ring : List Request) (e : EntryNo)
-    → AllByRecursion (IsAwaited s H calls states l) ring → latest p ring ≡ Some e → IsOut H p e
+    → AllByRecursion (IsAwaited s H calls states l) ring → latest_write p ring ≡ Some e → IsOut H p e
 latest_out s H calls states l p [] e all is = cc
-latest_out s H calls states l p (x ∷ ring) e all is = go (latest p ring) refl is (latest_out s H calls states l p ring e all.1)
+latest_out s H calls states l p (x ∷ ring) e all is = go (latest_write p ring) refl is (latest_out s H calls states l p ring e all.1)
   where
-    go : (o : Option EntryNo) → latest p ring ≡ o → first_of o (entry_to p x) ≡ Some e → (latest p ring ≡ Some e → IsOut H p e) → IsOut H p e
+    go : (o : Option EntryNo) → latest_write p ring ≡ o → first_of o (entry_to p x) ≡ Some e → (latest_write p ring ≡ Some e → IsOut H p e) → IsOut H p e
     go (Some f) same is rest = rest (same ∙ is)
     go None same is rest = written_out s H calls states l p x e all.0 is
 
@@ -105,7 +105,7 @@ page_shift keeps s H H' calls states links p bit bit' (Borrowing l) all entries 
 page_shift keeps s H H' calls states links p bit bit' (Draining l lease flying) all entries stays k = stays.clear k
 page_shift keeps s H H' calls states links p bit bit' (Mapped l lease flying) all entries stays k = (
   λ is. let same = stays.set is in readable_shift keeps (zeros s) H H' p l lease (place_of s p.0) (ring_of links l) same.1 same.2 (k.0 same.0),
-  kept_shift keeps H H' l lease (place_of s p.0) p (latest p (ring_of links l))
+  kept_shift keeps H H' l lease (place_of s p.0) p (latest_write p (ring_of links l))
       (λ e is. latest_out s H calls states l p (ring_of links l) e (all l) is) entries k.1,
 )
 

@@ -54,26 +54,26 @@ use Rattle.swap_table.specs.declared.LinkStep.{LinkStep}
 use Rattle.swap_table.specs.declared.LinkStep.TheVariants as link
 use Rattle.swap_table.specs.Ports.{Prog, Ret, AskFabric, answering, and_then}
 use Rattle.swap_table.specs.Device as device
-use Rattle.swap_table.specs.Device.{Device, enter, lost, accept, accepted, accepted_late, sent_nowhere, write_to, read_disk, after_read, read_at, source, route, route_by, routed_again, hit, periods_ended, put, out, finish, finish_by, disk_start, start_front, start_copy, disk_take, disk_finish, took_back, Heard, only, done_word, settled_word, chosen_for, is_newest, query_reply, borrow_reply, write_reply, read_reply, rate_asked, taken_back, query_answered, lent_or_refused, borrow_answered, write_answered, read_answered, answered, rate_told, evicted, heard_by, heard, with_step, understood, took_from, link_take, after_borrow, may_map, with_answer, map, raised, next_link, hello, with_link, connect_on, connect, lose, give_to}
+use Rattle.swap_table.specs.Device.{Device, enter_entry, lost_after, accept_program, accept_after, accepted_late, sent_nowhere, write_to, read_disk, after_read, read_at, source, route, route_by, routed_again, hit, periods_ended, put_program, out, finish, finish_by, disk_start, start_front, start_copy, disk_take, disk_finish, took_back, Heard, heard_only, done_word, settled_word, chosen_for, is_newest, query_reply, borrow_reply, write_reply, read_reply, rate_asked, taken_back, query_answered, lent_or_refused, borrow_answered, write_answered, read_answered, heard_answer, rate_told, heard_evict, heard_by, heard_parcel, with_step, understand, took_from, link_take, after_borrow, may_map, with_answer, map, raised_after, next_link, hello, with_link, connect_on, connect, lose, give_to}
 use Rattle.swap_table.proofs.Lists.{chosen}
 use Rattle.swap_table.proofs.Agree.{get_or-map_idle}
 use Rattle.swap_table.proofs.Waits.{front_of}
 use Rattle.swap_table.specs.Happens.{happens, seen_by, see_out, see_in, see_step, see_start, see_disk, see_tick, see_map, see_link, see_gave, see_cut, see_crash, see_host, see_take}
 use Rattle.swap_table.specs.Goes.{Goes, ends, first, asks_disk, asks_fabric, After, by, OfFabric}
-use Rattle.swap_table.specs.Moves.{Within, anything, Speaker, quiet, Outs, new_out, late_out, Ins, new_in, late_in, zero, copied, came, full, unread, told, write, read, borrow, query, query_too, Hears, roomy, lent, refused, written, brought, asked_rate, told_to_go, IsWord, greeting, rating, giving_back, far_give, far_cut, far_crash, far_host, Move, enters, gives, faults, waits_for_room, rates_change, lets_go, starts, waits_for_disk, takes, lets_finish, sends, finds_down, raises, speaks, speaks_to_nobody, hears, hears_nothing, loses, misunderstands, breaks_off, far}
+use Rattle.swap_table.specs.Moves.{Within, within_any, Speaker, quiet_speaker, Outs, new_out, late_out, Ins, new_in, late_in, zero, copied, came, full, unread, told, write, read, borrow, query, query_too, Hears, roomy, lent, refused, written, brought, asked_rate, told_to_go, IsWord, greeting, rating, giving_back, far_give, far_cut, far_crash, far_host, Move, enters, gives, faults, waits_for_room, rates_change, lets_go, starts, waits_for_disk, takes, lets_finish, sends, finds_down, raises, speaks, speaks_to_nobody, hears, hears_nothing, loses, misunderstands, breaks_off, far}
 use Rattle.swap_table.specs.Comes.{is_rest, is_of_link, Linked, as_was, sent_on, let_go, StepOut, begins_out, goes_on_out, StepIn, begins_in, goes_on_in, wait_seen, Comes, refuses, rests, accepts, gives_page, fails, keeps_page, reads, starts_write, takes_back, links, brings, rates_slabs, is_of_rates, ComesTo}
 use Rattle.swap_table.proofs.Going.{Goes-implies, Goes-then, Goes-answering}
 use Rattle.swap_table.proofs.Placing.{place_goes}
 use Rattle.swap_table.proofs.Losing.{lost_ins, linked_trans, Leaves, lost_down, chosen_slab, lose_passes, say_passes, follow_passes}
 
 -- what comes of a message
-answered_is : (d : Device) (x : Heard) (l : Lender) (q : Parcel) → answered d l q (rings.oldest (ring_of d.remote.links l)) ≡ Some x → Hears d l q x
+answered_is : (d : Device) (x : Heard) (l : Lender) (q : Parcel) → heard_answer d l q (rings.oldest (ring_of d.remote.links l)) ≡ Some x → Hears d l q x
 answered_is d x l q h = by_oldest (rings.oldest (ring_of d.remote.links l)) refl h
   where
     from : (y : Heard) → Hears d l q y → Some y ≡ Some x → Hears d l q x
     from y hears_y is = let same : y ≡ x = cc in subst (λ z. Hears d l q z) same hears_y
 
-    by_oldest : (oldest : Option Request) → rings.oldest (ring_of d.remote.links l) ≡ oldest → answered d l q oldest ≡ Some x → Hears d l q x
+    by_oldest : (oldest : Option Request) → rings.oldest (ring_of d.remote.links l) ≡ oldest → heard_answer d l q oldest ≡ Some x → Hears d l q x
     by_oldest None is h = cc
     by_oldest (Some (request.Query t)) is h = by_reply (query_reply q.msg) refl h
       where
@@ -86,7 +86,7 @@ answered_is d x l q h = by_oldest (rings.oldest (ring_of d.remote.links l)) refl
                 → cond b
                 (Some
                 (record {
-                  device = record d { remote = remote.told d.remote l t free };
+                  device = record d { remote = remote.told_after d.remote l t free };
                   word = None;
                   choice = chosen_for t (slabs.answer_choice (slabs.state_of d.remote.slabs t) l (reply.Free free));
                 }))
@@ -105,7 +105,7 @@ answered_is d x l q h = by_oldest (rings.oldest (ring_of d.remote.links l)) refl
           where
             by_lease :
                 (found : Option Slab) → slabs.by_lease d.remote.slabs l k ≡ found
-                → cond (is_none found) (Some (only (record d { remote = remote.lent d.remote l t k }))) None ≡ Some x → Hears d l q x
+                → cond (is_none found) (Some (heard_only (record d { remote = remote.lent_after d.remote l t k }))) None ≡ Some x → Hears d l q x
             by_lease None none h = from _ (lent (front_of _ _ is).is says same none) h
             by_lease (Some v) none h = cc
 
@@ -127,7 +127,7 @@ answered_is d x l q h = by_oldest (rings.oldest (ring_of d.remote.links l)) refl
                 → cond b
                 (Some
                 (record {
-                  device = record d { remote = remote.written d.sizes d.remote l p (is_newest (last d.history p) n) };
+                  device = record d { remote = remote.written_after d.sizes d.remote l p (is_newest (last d.history p) n) };
                   word = settled_word d p;
                   choice = None;
                 }))
@@ -147,7 +147,7 @@ answered_is d x l q h = by_oldest (rings.oldest (ring_of d.remote.links l)) refl
                 → cond b
                 (Some
                 (record {
-                  device = record d { remote = remote.settled_for d.sizes d.remote l p; calls = calls.came d.calls c q.page };
+                  device = record d { remote = remote.settled_for d.sizes d.remote l p; calls = calls.came_after d.calls c q.page };
                   word = settled_word d p;
                   choice = None;
                 }))
@@ -157,7 +157,7 @@ answered_is d x l q h = by_oldest (rings.oldest (ring_of d.remote.links l)) refl
             test true named h = from _ (brought (front_of _ _ is).is says named) h
             test false named h = cc
 
-pub heard_is : (d : Device) (x : Heard) (l : Lender) (q : Parcel) → heard d l q (rings.oldest (ring_of d.remote.links l)) ≡ Some x → Hears d l q x
+pub heard_is : (d : Device) (x : Heard) (l : Lender) (q : Parcel) → heard_parcel d l q (rings.oldest (ring_of d.remote.links l)) ≡ Some x → Hears d l q x
 heard_is d x l q h = go (rate_asked q.msg) refl (taken_back q.msg) refl h
   where
     from : (y : Heard) → Hears d l q y → Some y ≡ Some x → Hears d l q x
@@ -167,7 +167,7 @@ heard_is d x l q h = go (rate_asked q.msg) refl (taken_back q.msg) refl h
     rated k None says at h = cc
     rated k (Some t) says at h = from _ (asked_rate says at) h
 
-    evicts : (k : Lease) (o : Option Slab) → taken_back q.msg ≡ Some k → remote.mapped_by d.remote.slabs l k ≡ o → evicted d o ≡ Some x → Hears d l q x
+    evicts : (k : Lease) (o : Option Slab) → taken_back q.msg ≡ Some k → remote.mapped_by d.remote.slabs l k ≡ o → heard_evict d o ≡ Some x → Hears d l q x
     evicts k None says at h = cc
     evicts k (Some t) says at h = from _ (told_to_go says at) h
 
@@ -216,7 +216,7 @@ heard_choice d x l q u m (roomy {t = t} {free = free} ring says same) is =
     let within : t.0 < length d.remote.slabs =
     ⊎_elim (λ lt. lt) (λ ge. absurd (choice_asks state l (reply.Free free) t u m is (get_or_past d.remote.slabs t.0 Local ge)))
     (cases_lt t.0 (length d.remote.slabs)) in
-    subst (λ (y : Slab). y.0 < length x.device.remote.slabs) (sym (chosen_slab anything t u m (slabs.answer_choice state l (reply.Free free)) is))
+    subst (λ (y : Slab). y.0 < length x.device.remote.slabs) (sym (chosen_slab within_any t u m (slabs.answer_choice state l (reply.Free free)) is))
     (subst (λ n. t.0 < n) (sym (length-set d.remote.slabs t.0 _)) within)
 
 source_target : (d : Device) (p : Page) (a : Lender × Lease) → source d p ≡ Some a → target d.sizes d.remote p ≡ Some a
@@ -228,12 +228,12 @@ source_target d p a e = go (remote.has_page d.remote p) e
 
 -- a device that owes nothing
 abbrev pub Rests : {R : Type 0} → Device × R → Speaker → Type 0
-Rests a s = s ≡ quiet a.0
+Rests a s = s ≡ quiet_speaker a.0
 
 module _ (W : Within) (d : Device) (page : List ℕ) where
   -- a program that goes by moves from a device, and comes to what this event may come to from d
   abbrev pub Fares : {R : Type 0} → Event → (R → Seen) → Device → Prog (Device × R) → Type 0
-  Fares {R} e see now p = Goes (Move W) (λ (a : Device × R) s. (s ≡ quiet a.0) × Comes d page e a.0 (see a.1)) (quiet now) p
+  Fares {R} e see now p = Goes (Move W) (λ (a : Device × R) s. (s ≡ quiet_speaker a.0) × Comes d page e a.0 (see a.1)) (quiet_speaker now) p
 
   fares_as :
       {R T : Type 0} {e : Event} {now : Device} {p : Prog (Device × R)} (see : R → Seen) (see' : T → Seen) (h : Device × R → Device × T)
@@ -241,7 +241,7 @@ module _ (W : Within) (d : Device) (page : List ℕ) where
   fares_as {e = e} see see' h same g =
       Goes-answering (Move W) _ _ h
       (λ a t q. (
-        q.0 ∙ ap quiet (sym (same a).0),
+        q.0 ∙ ap quiet_speaker (sym (same a).0),
         let P : Device → Seen → Type 0 = λ x s. Comes d page e x s in
             subst (λ s. P (h a).0 s) (sym (same a).1) (subst (λ x. P x (see a.1)) (sym (same a).0) q.1),
       ))
@@ -250,26 +250,26 @@ module _ (W : Within) (d : Device) (page : List ℕ) where
   -- a loss in the middle of a program
   lost_fares :
       {R : Type 0} (e : Event) (see : R → Seen) (x : Device) (l : Lender) (h : Device → Device × R) → ((y : Device) → (h y).0 ≡ y)
-      → ((y : Device) → Leaves W (lost x l) y → Comes d page e (h y).0 (see (h y).1)) → Fares e see (lost x l) (answering h (lose x l))
-  lost_fares e see x l h same comes = Goes-answering (Move W) _ _ h (λ y t q. (q.0 ∙ ap quiet (sym (same y)), comes y q.1)) (lose_passes W x l)
+      → ((y : Device) → Leaves W (lost_after x l) y → Comes d page e (h y).0 (see (h y).1)) → Fares e see (lost_after x l) (answering h (lose x l))
+  lost_fares e see x l h same comes = Goes-answering (Move W) _ _ h (λ y t q. (q.0 ∙ ap quiet_speaker (sym (same y)), comes y q.1)) (lose_passes W x l)
 
   pub accept_fares :
       (e : Event) (c : Caller) (p : Page) (bytes : List ℕ) → Outs W d c p bytes → StepOut d page e c p bytes
-      → Fares e (seen.Done (next_name d.history)) d (accept d c p bytes)
+      → Fares e (seen.Done (next_name d.history)) d (accept_program d c p bytes)
   accept_fares e c p bytes outs step = go (target d.sizes d.remote p) refl
     where
       go :
           (at : Option (Lender × Lease)) → target d.sizes d.remote p ≡ at
-          → Fares e (seen.Done (next_name d.history)) d (write_to (enter d c p bytes) p (next_name d.history) bytes at)
+          → Fares e (seen.Done (next_name d.history)) d (write_to (enter_entry d c p bytes) p (next_name d.history) bytes at)
       go None is = first (enters outs) (ends (refl, accepts step as_was))
       go (Some at) is =
-          let x : Device = enter d c p bytes in
+          let x : Device = enter_entry d c p bytes in
           asks_fabric (elim [
             | sent.Sent ↦ by (sends (write outs is)) (ends (refl, accepts step (sent_on as_was _ _)))
             | sent.Down ↦
                 by (finds_down (write outs is))
                 (lost_fares e (seen.Done (next_name d.history)) x at.0 sent_nowhere (λ y. refl)
-                (λ y leaves. accepts step (linked_trans x (lost x at.0) y (let_go as_was at.0) leaves.linked)))
+                (λ y leaves. accepts step (linked_trans x (lost_after x at.0) y (let_go as_was at.0) leaves.linked)))
           ])
 
   -- a page-in's step; what is seen of one that reads goes by the event
@@ -301,14 +301,14 @@ module _ (W : Within) (d : Device) (page : List ℕ) where
           ])
         where
           read_after :
-              (l : Lender) (x : Device) (t : Speaker) → t ≡ quiet x → Leaves W (lost d l) x
-              → Goes (Move W) (λ (a : Device × InStep) s. (s ≡ quiet a.0) × Comes d page e a.0 (in_seen step a.1)) t (read_disk x c p m)
+              (l : Lender) (x : Device) (t : Speaker) → t ≡ quiet_speaker x → Leaves W (lost_after d l) x
+              → Goes (Move W) (λ (a : Device × InStep) s. (s ≡ quiet_speaker a.0) × Comes d page e a.0 (in_seen step a.1)) t (read_disk x c p m)
           read_after l x t same leaves =
               let P : Speaker → Type 0 =
-              λ y. Goes (Move W) (λ (a : Device × InStep) s. (s ≡ quiet a.0) × Comes d page e a.0 (in_seen step a.1)) y (read_disk x c p m) in
+              λ y. Goes (Move W) (λ (a : Device × InStep) s. (s ≡ quiet_speaker a.0) × Comes d page e a.0 (in_seen step a.1)) y (read_disk x c p m) in
               subst P (sym same)
               (read_fares e c p m step may within is none x (leaves.ins c p (lost_ins W d l c p may)) within (ap (λ H. last H p) leaves.history ∙ is)
-              (ap (λ k. queue.newest k p) leaves.queue ∙ none) (linked_trans d (lost d l) x (let_go as_was l) leaves.linked))
+              (ap (λ k. queue.newest k p) leaves.queue ∙ none) (linked_trans d (lost_after d l) x (let_go as_was l) leaves.linked))
 
   pub route_fares : (e : Event) (c : Caller) (p : Page) (step : StepIn d e c p) → Ins W d c p → W.caller c → Fares e (in_seen step) d (route d c p)
   route_fares e c p step may within = go (last d.history p) refl (queue.newest d.queue p) refl
@@ -320,11 +320,12 @@ module _ (W : Within) (d : Device) (page : List ℕ) where
       go (Some m) is (Some copy) has = first (gives (copied may is has)) (ends (refl, gives_page step))
       go (Some m) is None has = read_at_fares e c p m step may within is has
 
-  pub put_fares : (c : Caller) (p : Page) → is_idle (state_of d.calls c) ≡ true → W.page p → W.bytes page → Fares (event.PageOut c p) see_out d (put d c p page)
+  pub put_fares : (c : Caller) (p : Page) → is_idle (state_of d.calls c) ≡ true → W.page p → W.bytes page
+      → Fares (event.PageOut c p) see_out d (put_program d c p page)
   put_fares c p idle within hands =
       chosen (λ (x : Prog (Device × OutStep)). Fares (event.PageOut c p) see_out d x) (queue.has_room d.queue p) _ _
       (λ _.
-      fares_as (seen.Done (next_name d.history)) see_out (accepted (next_name d.history)) (λ a. (refl, refl))
+      fares_as (seen.Done (next_name d.history)) see_out (accept_after (next_name d.history)) (λ a. (refl, refl))
       (accept_fares (event.PageOut c p) c p page (new_out idle within hands) (begins_out idle)))
       (λ _. first (waits_for_room c p page idle within hands) (ends (refl, keeps_page idle)))
 
@@ -369,8 +370,8 @@ module _ (W : Within) (d : Device) (page : List ℕ) where
       step = begins_in idle
 
       same :
-          (a : Device × InStep) (t : Speaker) → (t ≡ quiet a.0) × Comes d page (event.PageIn c p) a.0 (in_seen step a.1)
-          → (t ≡ quiet a.0) × Comes d page (event.PageIn c p) a.0 (see_in a.1)
+          (a : Device × InStep) (t : Speaker) → (t ≡ quiet_speaker a.0) × Comes d page (event.PageIn c p) a.0 (in_seen step a.1)
+          → (t ≡ quiet_speaker a.0) × Comes d page (event.PageIn c p) a.0 (see_in a.1)
       same (x, ins.Done entry) t q = q
       same (x, ins.Wait v) t q = q
 
@@ -379,9 +380,9 @@ module _ (W : Within) (d : Device) (page : List ℕ) where
     where
       go : (line : List Page) → d.queue.line ≡ line → Fares event.Start see_start d (start_front d line)
       go [] is = ends (refl, rests refl refl)
-      go (p ∷ line) is = copy_of (queue.next d.queue p) refl
+      go (p ∷ line) is = copy_of (queue.next_copy d.queue p) refl
         where
-          copy_of : (copy : Option Copy) → queue.next d.queue p ≡ copy → Fares event.Start see_start d (start_copy d p copy)
+          copy_of : (copy : Option Copy) → queue.next_copy d.queue p ≡ copy → Fares event.Start see_start d (start_copy d p copy)
           copy_of None has = ends (refl, rests refl refl)
           copy_of (Some copy) has = asks_disk (λ r. by (starts is has) (ends (refl, starts_write)))
 
@@ -405,14 +406,15 @@ module _ (W : Within) (d : Device) (page : List ℕ) where
 
   -- what a take brings
   abbrev Takes : Lender → Device × LinkStep → Speaker → Type 0
-  Takes l a s = (s ≡ quiet a.0) × Comes d page (event.Take l) a.0 (see_take a.1)
+  Takes l a s = (s ≡ quiet_speaker a.0) × Comes d page (event.Take l) a.0 (see_take a.1)
 
-  pub taken_fares : (l : Lender) → is_up d.remote.links l ≡ true → (r : Handed) → After (Move W) (Takes l) (quiet d) (OfFabric (Take l) r) (took_from d l r)
-  taken_fares l up (Brought q) = brought_one (heard d l q (rings.oldest (ring_of d.remote.links l))) refl
+  pub taken_fares : (l : Lender) → is_up d.remote.links l ≡ true → (r : Handed)
+      → After (Move W) (Takes l) (quiet_speaker d) (OfFabric (Take l) r) (took_from d l r)
+  taken_fares l up (Brought q) = brought_one (heard_parcel d l q (rings.oldest (ring_of d.remote.links l))) refl
     where
       brought_one :
-          (x : Option Heard) → heard d l q (rings.oldest (ring_of d.remote.links l)) ≡ x
-          → After (Move W) (Takes l) (quiet d) (OfFabric (Take l) (Brought q)) (understood d l q.msg x)
+          (x : Option Heard) → heard_parcel d l q (rings.oldest (ring_of d.remote.links l)) ≡ x
+          → After (Move W) (Takes l) (quiet_speaker d) (OfFabric (Take l) (Brought q)) (understand d l q.msg x)
       brought_one (Some x) is =
           let hears_x : Hears d l q x = heard_is d x l q is in
           by (hears up hears_x)
@@ -424,12 +426,12 @@ module _ (W : Within) (d : Device) (page : List ℕ) where
           (λ r.
           by breaks_off
           (lost_fares (event.Take l) see_take d l (with_step link.Lied) (λ y. refl)
-          (λ y leaves. links refl refl (linked_trans d (lost d l) y (let_go as_was l) leaves.linked)))))
+          (λ y leaves. links refl refl (linked_trans d (lost_after d l) y (let_go as_was l) leaves.linked)))))
   taken_fares l up NothingCame = by (hears_nothing up) (ends (refl, rests refl refl))
   taken_fares l up LinkLost =
       by (loses up)
       (lost_fares (event.Take l) see_take d l (with_step link.Lost) (λ y. refl)
-      (λ y leaves. links refl refl (linked_trans d (lost d l) y (let_go as_was l) leaves.linked)))
+      (λ y leaves. links refl refl (linked_trans d (lost_after d l) y (let_go as_was l) leaves.linked)))
 
   pub link_take_fares : (l : Lender) → Fares (event.Take l) see_take d (link_take d l)
   link_take_fares l =
@@ -449,7 +451,7 @@ module _ (W : Within) (d : Device) (page : List ℕ) where
             | sent.Down ↦
                 by (finds_down (borrow (told within) may))
                 (lost_fares (event.Map t l) see_map d l (with_answer true) (λ y. refl)
-                (λ y leaves. links refl refl (linked_trans d (lost d l) y (let_go as_was l) leaves.linked)))
+                (λ y leaves. links refl refl (linked_trans d (lost_after d l) y (let_go as_was l) leaves.linked)))
           ])
       go false may = ends (refl, rests refl refl)
 
@@ -460,24 +462,24 @@ module _ (W : Within) (d : Device) (page : List ℕ) where
       (λ _. on (is_up d.remote.links l) refl) (λ _. ends (refl, rests refl refl))
     where
       raise :
-          (x : Device) (t : Speaker) → t ≡ quiet x → Linked d x → is_up x.remote.links l ≡ false
-          → Goes (Move W) (λ (a : Device × Option Link) s. (s ≡ quiet a.0) × Comes d page (event.Connect l) a.0 (see_link a.1)) t (connect_on x l)
+          (x : Device) (t : Speaker) → t ≡ quiet_speaker x → Linked d x → is_up x.remote.links l ≡ false
+          → Goes (Move W) (λ (a : Device × Option Link) s. (s ≡ quiet_speaker a.0) × Comes d page (event.Connect l) a.0 (see_link a.1)) t (connect_on x l)
       raise x t same linked off =
           let P : Speaker → Type 0 =
-          λ y. Goes (Move W) (λ (a : Device × Option Link) s. (s ≡ quiet a.0) × Comes d page (event.Connect l) a.0 (see_link a.1)) y (connect_on x l) in
+          λ y. Goes (Move W) (λ (a : Device × Option Link) s. (s ≡ quiet_speaker a.0) × Comes d page (event.Connect l) a.0 (see_link a.1)) y (connect_on x l) in
           subst P (sym same)
           (asks_fabric (λ r. by (raises within off)
           (Goes-answering (Move W) _ _ (with_link (next_link x))
-          (λ y s q. (q.0, links refl refl (linked_trans d (raised x l) y (sent_on linked _ _) q.1.linked)))
-          (say_passes W (raised x l) l (Some (hello x.sizes))
-          (λ q is. (let word : hello x.sizes ≡ q = cc in subst (λ w. IsWord (raised x l) w) word greeting))))))
+          (λ y s q. (q.0, links refl refl (linked_trans d (raised_after x l) y (sent_on linked _ _) q.1.linked)))
+          (say_passes W (raised_after x l) l (Some (hello x.sizes))
+          (λ q is. (let word : hello x.sizes ≡ q = cc in subst (λ w. IsWord (raised_after x l) w) word greeting))))))
 
       on : (up : Bool) → is_up d.remote.links l ≡ up → Fares (event.Connect l) see_link d (and_then (cond up (lose d l) (Ret d)) (λ x. connect_on x l))
-      on false off = raise d (quiet d) refl as_was off
+      on false off = raise d (quiet_speaker d) refl as_was off
       on true up =
           first (lets_go l within up)
           (Goes-then (Move W) _ _ (λ x. connect_on x l)
-          (λ x t q. raise x t q.0 (linked_trans d (lost d l) x (let_go as_was l) q.1.linked) (q.1.down l (lost_down d l))) (lose_passes W d l))
+          (λ x t q. raise x t q.0 (linked_trans d (lost_after d l) x (let_go as_was l) q.1.linked) (q.1.down l (lost_down d l))) (lose_passes W d l))
 
   -- the far side moves
   pub give_fares : (l : Lender) → W.far l → Fares (event.Give l) see_gave d (give_to d l)
@@ -486,7 +488,7 @@ module _ (W : Within) (d : Device) (page : List ℕ) where
       seen_rests : (r : Gave) → is_rest (see_gave r) ≡ true
       seen_rests gave.Nothing = refl
       seen_rests gave.End = refl
-      seen_rests (gave.Got m reply evicted) = refl
+      seen_rests (gave.Got m reply heard_evict) = refl
       seen_rests (gave.Ended m) = refl
 
   pub cut_fares : (l : Lender) (a b : ℕ) → W.far l → Fares (event.Cut l a b) see_cut d (device.cut d l a b)
@@ -507,7 +509,7 @@ module _ (W : Within) (d : Device) (page : List ℕ) where
 module _ (W : Within) (d : Device) (page : List ℕ) where
   -- from a device that may have other rates
   abbrev pub FaresTo : {R : Type 0} → Event → (R → Seen) → Prog (Device × R) → Type 0
-  FaresTo {R} e see p = Goes (Move W) (λ (a : Device × R) s. (s ≡ quiet a.0) × ComesTo d page e a.0 (see a.1)) (quiet d) p
+  FaresTo {R} e see p = Goes (Move W) (λ (a : Device × R) s. (s ≡ quiet_speaker a.0) × ComesTo d page e a.0 (see a.1)) (quiet_speaker d) p
 
   rated_fares :
       {R : Type 0} {e : Event} {p : Prog (Device × R)} (see : R → Seen) (rates : List Activity) → rates_slabs e ≡ true → ((r : R) → is_of_rates (see r) ≡ true)
@@ -590,5 +592,5 @@ module _ (W : Within) (d : Device) (page : List ℕ) where
   happens_fares (event.Round word) names = ends (refl, (d.rates, inl refl, rests refl refl))
 
   -- the call that no event makes by itself
-  pub disk_finish_goes : (w : DiskWhich) (ok : Bool) → Goes (Move W) Rests (quiet d) (disk_finish d w ok)
+  pub disk_finish_goes : (w : DiskWhich) (ok : Bool) → Goes (Move W) Rests (quiet_speaker d) (disk_finish d w ok)
   disk_finish_goes w ok = asks_disk (λ r. by lets_finish (ends refl))

@@ -25,7 +25,7 @@ use Rattle.swap_slabs.specs.declared.SlabState.{SlabState}
 use Rattle.swap_slabs.specs.declared.SlabState.TheVariants.{Local, Borrowing, Mapped, Draining}
 use Rattle.swap_rings.specs.Rings.{is_up}
 use Rattle.swap_table.specs.Ports.{Prog, run}
-use Rattle.swap_table.specs.Device.{Device, new}
+use Rattle.swap_table.specs.Device.{Device, device_at_start}
 use Rattle.swap_table.specs.Happens.{happens}
 
 -- what sends and takes are answered, in order, and what was sent to whom, the newest first
@@ -66,8 +66,8 @@ pub record Step : Type 0 where
   pub event : Event
   pub page : List ℕ
 
-abbrev pub by : Event → Step
-by e = record { event = e; page = [] }
+abbrev pub step_by : Event → Step
+step_by e = record { event = e; page = [] }
 
 -- what is seen of events, and the device after them
 abbrev pub go_on : List Page → Told → List Step → List Seen → Device → (List Seen × Device) × Told
@@ -79,11 +79,11 @@ go_on pages told (step ∷ steps) seens d =
 abbrev pub sizes : Sizes
 sizes = record { page_bytes = 8; pages_per_slab = 4; slabs = 2; queue = 4; callers = 2; window = 2; hot = 1 }
 
-abbrev pub first : Lender
-first = record { 0 = 0 }
+abbrev pub first_lender : Lender
+first_lender = record { 0 = 0 }
 
-abbrev pub second : Lender
-second = record { 0 = 1 }
+abbrev pub second_lender : Lender
+second_lender = record { 0 = 1 }
 
 abbrev pub slab : ℕ → Slab
 slab n = record { 0 = n }
@@ -100,17 +100,19 @@ page n = record { 0 = n }
 abbrev pub out : ℕ → Step
 out p = record { event = event.PageOut caller (page p); page = replicate 8 7 }
 
-abbrev pub brought : Msg → Handed
-brought m = Brought (parcel_of m (replicate 8 7))
+abbrev pub brought_plain : Msg → Handed
+brought_plain m = Brought (parcel_of m (replicate 8 7))
 
 abbrev pub make : List Sent → List Handed → List Step → (List Seen × Device) × Told
-make sends takes steps = go_on [] (record { sends = sends; takes = takes; heard = [] }) steps [] (new sizes 2)
+make sends takes steps =
+    go_on [] (record { sends = sends; takes = takes; heard = [] }) steps [] (device_at_start sizes 2)
 
 abbrev pub up_and_mapped : List Step
-up_and_mapped = map by (event.Connect first ∷ event.Map (slab 0) first ∷ event.Take first ∷ [])
+up_and_mapped =
+    map step_by (event.Connect first_lender ∷ event.Map (slab 0) first_lender ∷ event.Take first_lender ∷ [])
 
-abbrev pub lent : Handed
-lent = brought (msg.Lent (slab 0) (lease 5))
+abbrev pub brought_lent : Handed
+brought_lent = brought_plain (msg.Lent (slab 0) (lease 5))
 
 -- after the link was made, the slab mapped and this done, what was seen last, and the state of the slab
 abbrev pub last_seen : List Seen → Seen
@@ -120,11 +122,14 @@ last_seen (s ∷ seens) = last_seen seens
 
 abbrev pub Ends : (List Seen × Device) × Told → Seen → SlabState → Bool → Type 0
 Ends r s state up =
-    (last_seen r.0.0 ≡ s) × (state_of r.0.1.remote.slabs (slab 0) ≡ state) × (is_up r.0.1.remote.links first ≡ up)
+    (last_seen r.0.0 ≡ s) × (state_of r.0.1.remote.slabs (slab 0) ≡ state)
+    × (is_up r.0.1.remote.links first_lender ≡ up)
 
 -- each message that isn't allowed there is a lie: the link is ended and lost
 abbrev pub IsLie : Msg → Type 0
-IsLie m = Ends (make [] (lent ∷ brought m ∷ []) (up_and_mapped ++ by (event.Take first) ∷ [])) seen.Lied Local false
+IsLie m =
+    Ends (make [] (brought_lent ∷ brought_plain m ∷ []) (up_and_mapped
+    ++ step_by (event.Take first_lender) ∷ [])) seen.Lied Local false
 
 abbrev pub LiesEndTheLink : Type 0
 LiesEndTheLink =
@@ -140,11 +145,12 @@ LiesEndTheLink =
 abbrev pub LeaseInUse : Type 0
 LeaseInUse =
     Ends
-    (make [] (lent ∷ brought (msg.Lent (slab 1) (lease 5)) ∷ [])
-    (up_and_mapped ++ map by (event.Map (slab 1) first ∷ event.Take first ∷ [])))
+    (make [] (brought_lent ∷ brought_plain (msg.Lent (slab 1) (lease 5)) ∷ [])
+    (up_and_mapped ++ map step_by (event.Map (slab 1) first_lender ∷ event.Take first_lender ∷ [])))
     seen.Lied Local false
     × Ends
-    (make [] (lent ∷ brought (msg.Wrote (lease 5) 2) ∷ []) (up_and_mapped ++ out 1 ∷ by (event.Take first) ∷ []))
+    (make [] (brought_lent ∷ brought_plain (msg.Wrote (lease 5) 2) ∷ []) (up_and_mapped
+    ++ out 1 ∷ step_by (event.Take first_lender) ∷ []))
     seen.Lied Local false
 
 -- a send that finds the link down: a write's page-out is answered, a read goes to the disk, and a borrowed slab stays
@@ -154,77 +160,83 @@ Down = sent.Sent ∷ sent.Sent ∷ sent.Down ∷ []
 
 abbrev pub WriteFindsTheLinkDown : Type 0
 WriteFindsTheLinkDown =
-    Ends (make Down (lent ∷ []) (up_and_mapped ++ out 1 ∷ [])) (seen.Done (record { 0 = 0 }) None) Local false
+    Ends (make Down (brought_lent ∷ []) (up_and_mapped ++ out 1 ∷ [])) (seen.Done (record { 0 = 0 }) None) Local false
 
 abbrev pub written_away : List Step
 written_away =
     up_and_mapped ++ out 1
-    ∷ map by
-    (event.Take first ∷ event.Start ∷ event.Disk (which.Write (page 1)) true ∷ event.PageIn caller (page 1) ∷ [])
+    ∷ map step_by
+    (event.Take first_lender ∷ event.Start ∷ event.Disk (which.Write (page 1)) true ∷ event.PageIn caller (page 1) ∷ [])
 
 abbrev pub ReadFindsTheLinkDown : Type 0
 ReadFindsTheLinkDown =
-    Ends (make (replicate 3 sent.Sent ++ sent.Down ∷ []) (lent ∷ brought (msg.Wrote (lease 5) 1) ∷ []) written_away)
+    Ends (make (replicate 3 sent.Sent ++ sent.Down ∷ []) (brought_lent ∷ brought_plain (msg.Wrote (lease 5) 1) ∷ [])
+    written_away)
     (seen.Wait via.Disk) Local false
-    × Ends (make [] (lent ∷ brought (msg.Wrote (lease 5) 1) ∷ []) written_away) (seen.Wait (via.Lender first))
-    (Mapped first (lease 5) 1) true
+    × Ends (make [] (brought_lent ∷ brought_plain (msg.Wrote (lease 5) 1) ∷ []) written_away)
+    (seen.Wait (via.Lender first_lender))
+    (Mapped first_lender (lease 5) 1) true
 
 abbrev pub BorrowFindsTheLinkDown : Type 0
 BorrowFindsTheLinkDown =
     Ends
-    (make (sent.Sent ∷ sent.Down ∷ []) [] (map by (event.Connect first ∷ event.Map (slab 0) first ∷ []))) seen.Borrowing
+    (make (sent.Sent ∷ sent.Down ∷ []) [] (map step_by (event.Connect first_lender ∷ event.Map (slab 0) first_lender ∷
+    []))) seen.Borrowing
     Local false
 
 abbrev pub GreetingFindsTheLinkDown : Type 0
 GreetingFindsTheLinkDown =
-    Ends (make (sent.Down ∷ []) [] (by (event.Connect first) ∷ [])) (seen.Linked (record { 0 = 0 })) Local false
+    Ends (make (sent.Down ∷ []) [] (step_by (event.Connect first_lender) ∷ [])) (seen.Linked (record { 0 = 0 })) Local
+    false
 
 -- a hot slab, its first lender down, and both; and a first lender that is lost while the slab asks both
 abbrev pub hits : List Step
-hits = map by (replicate 5 (event.PageIn caller (page 0)))
+hits = map step_by (replicate 5 (event.PageIn caller (page 0)))
 
 abbrev pub both_up : List Step
-both_up = map by (event.Connect first ∷ event.Connect second ∷ []) ++ hits
+both_up = map step_by (event.Connect first_lender ∷ event.Connect second_lender ∷ []) ++ hits
 
 abbrev pub QueryFindsTheLinkDown : Type 0
 QueryFindsTheLinkDown =
-    (last_seen (make (sent.Sent ∷ sent.Sent ∷ sent.Down ∷ []) [] (both_up ++ by (event.Tick 0) ∷ [])).0.0
-    ≡ seen.Asked (slab 0) second None)
-    × (last_seen (make (sent.Sent ∷ sent.Sent ∷ sent.Sent ∷ sent.Down ∷ []) [] (both_up ++ by (event.Tick 0) ∷ [])).0.0
-    ≡ seen.Asked (slab 0) first None)
-    × (last_seen (make (sent.Sent ∷ sent.Sent ∷ sent.Down ∷ sent.Down ∷ []) [] (both_up ++ by (event.Tick 0) ∷ [])).0.0
+    (last_seen (make (sent.Sent ∷ sent.Sent ∷ sent.Down ∷ []) [] (both_up ++ step_by (event.Tick 0) ∷ [])).0.0
+    ≡ seen.Asked (slab 0) second_lender None)
+    × (last_seen (make (sent.Sent ∷ sent.Sent ∷ sent.Sent ∷ sent.Down ∷ []) [] (both_up
+    ++ step_by (event.Tick 0) ∷ [])).0.0
+    ≡ seen.Asked (slab 0) first_lender None)
+    × (last_seen (make (sent.Sent ∷ sent.Sent ∷ sent.Down ∷ sent.Down ∷ []) [] (both_up
+    ++ step_by (event.Tick 0) ∷ [])).0.0
     ≡ seen.Ticked)
 
 -- a slab is taken back: at once where nothing flies, and else once its write was answered, which sets no bit; a lease
 -- that
 -- can't be given back is given up with the link
 abbrev pub taken_back : Handed
-taken_back = brought (msg.Evict (lease 5))
+taken_back = brought_plain (msg.Evict (lease 5))
 
 abbrev pub SlabsAreGivenBack : Type 0
 SlabsAreGivenBack =
-    Ends (make [] (lent ∷ taken_back ∷ []) (up_and_mapped ++ by (event.Take first) ∷ []))
+    Ends (make [] (brought_lent ∷ taken_back ∷ []) (up_and_mapped ++ step_by (event.Take first_lender) ∷ []))
     (seen.Took (msg.Evict (lease 5))) Local true
-    × Ends (make [] (lent ∷ taken_back ∷ []) (up_and_mapped ++ out 1 ∷ by (event.Take first) ∷ []))
-    (seen.Took (msg.Evict (lease 5))) (Draining first (lease 5) 1) true
-    × ((make [] (lent ∷ taken_back ∷ brought (msg.Wrote (lease 5) 1) ∷ [])
-    (up_and_mapped ++ out 1 ∷ map by (event.Take first ∷ event.Take first ∷ []))).0.1.remote.bits
+    × Ends (make [] (brought_lent ∷ taken_back ∷ []) (up_and_mapped ++ out 1 ∷ step_by (event.Take first_lender) ∷ []))
+    (seen.Took (msg.Evict (lease 5))) (Draining first_lender (lease 5) 1) true
+    × ((make [] (brought_lent ∷ taken_back ∷ brought_plain (msg.Wrote (lease 5) 1) ∷ [])
+    (up_and_mapped ++ out 1 ∷ map step_by (event.Take first_lender ∷ event.Take first_lender ∷ []))).0.1.remote.bits
     ≡ replicate 8 false)
     × Ends
-    (make (sent.Sent ∷ sent.Sent ∷ sent.Down ∷ []) (lent ∷ taken_back ∷ [])
-    (up_and_mapped ++ by (event.Take first) ∷ []))
+    (make (sent.Sent ∷ sent.Sent ∷ sent.Down ∷ []) (brought_lent ∷ taken_back ∷ [])
+    (up_and_mapped ++ step_by (event.Take first_lender) ∷ []))
     (seen.Took (msg.Evict (lease 5))) Local false
 
 -- the last reply of an asking slab is a loss: it borrows from the other; and where that link is down it's local
 abbrev pub room_of_second : Handed
-room_of_second = brought (msg.Room (slab 0) 3)
+room_of_second = brought_plain (msg.Room (slab 0) 3)
 
 abbrev pub loses_first : List Step
-loses_first = both_up ++ map by (event.Tick 0 ∷ event.Take second ∷ event.Take first ∷ [])
+loses_first = both_up ++ map step_by (event.Tick 0 ∷ event.Take second_lender ∷ event.Take first_lender ∷ [])
 
 abbrev pub LossMakesTheChoice : Type 0
 LossMakesTheChoice =
-    Ends (make [] (room_of_second ∷ LinkLost ∷ []) loses_first) seen.Lost (Borrowing second) false
+    Ends (make [] (room_of_second ∷ LinkLost ∷ []) loses_first) seen.Lost (Borrowing second_lender) false
     × Ends
     (make (replicate 4 sent.Sent ++ sent.Down ∷ []) (room_of_second ∷ LinkLost ∷ []) loses_first) seen.Lost Local
     false

@@ -22,7 +22,7 @@ use Rattle.swap_calls.specs.declared.Arrived.{Arrived}
 use Rattle.swap_calls.specs.declared.CallState.TheVariants.{Room, Reading}
 use Rattle.swap_activity.specs.Rates.{Activity}
 use Rattle.swap_remote.specs.Remote.{Remote}
-use Rattle.swap_table.specs.Device.{Device, enter, give, fault, lost, wait_for_room, took_back}
+use Rattle.swap_table.specs.Device.{Device, enter_entry, give, fault, lost_after, wait_for_room, took_back}
 use Rattle.swap_table.specs.Happens.{see_disk}
 use Rattle.swap_table.specs.Moves.{Faults}
 
@@ -31,7 +31,7 @@ use Rattle.swap_table.specs.Moves.{Faults}
 pub data Linked (d : Device) : Device → Type 0 where
   as_was : Linked d d
   sent_on : {e : Device} → Linked d e → (r : Remote) (made : ℕ) → Linked d (record e { remote = r; links_made = made })
-  let_go : {e : Device} → Linked d e → (l : Lender) → Linked d (lost e l)
+  let_go : {e : Device} → Linked d e → (l : Lender) → Linked d (lost_after e l)
 
 -- an event that is a step of a page-out, and of a page-in
 pub data StepOut (d : Device) (page : List ℕ) : Event → Caller → Page → List ℕ → Type 0 where
@@ -87,7 +87,7 @@ pub data Comes : Device → List ℕ → Event → Device → Seen → Type 0 wh
   accepts :
       {d : Device} {page : List ℕ} {e : Event} {c : Caller} {p : Page} {bytes : List ℕ} {d' : Device}
       {to : Option Lender}
-      → StepOut d page e c p bytes → Linked (enter d c p bytes) d'
+      → StepOut d page e c p bytes → Linked (enter_entry d c p bytes) d'
       → Comes d page e d' (seen.Done (next_name d.history) to)
   gives_page :
       {d : Device} {page : List ℕ} {e : Event} {c : Caller} {p : Page} {named : Option EntryNo} {from : Origin}
@@ -116,7 +116,7 @@ pub data Comes : Device → List ℕ → Event → Device → Seen → Type 0 wh
       → Linked d d' → Comes d page e d' s
   brings :
       {d : Device} {page : List ℕ} {l : Lender} {m : Msg} {d' : Device} (c : Caller) (bytes : List ℕ) (r : Remote)
-      → Linked (record d { remote = r; calls = calls.came d.calls c bytes }) d'
+      → Linked (record d { remote = r; calls = calls.came_after d.calls c bytes }) d'
       → Comes d page (event.Take l) d' (seen.Took m)
 
 -- the events that hit a slab or end the periods of all, and what is seen where they do

@@ -17,7 +17,7 @@ use Rattle.swap_base.specs.declared.DiskWhich.{DiskWhich}
 use Rattle.swap_base.specs.declared.DiskWhich.TheVariants as which
 use Rattle.swap_base.specs.Sizes.{Sizes, pages_of, place_of, zeros}
 use Rattle.swap_record.specs.declared.Op.TheVariants as op
-use Rattle.swap_record.specs.History.{History, next_name, last, pushed}
+use Rattle.swap_record.specs.History.{History, next_name, last, with_row}
 use Rattle.swap_queue.specs.Queue as queue
 use Rattle.swap_queue.specs.Queue.{Queue, Copy}
 use Rattle.swap_disk.specs.Disk.{Taken}
@@ -87,8 +87,8 @@ pub record Core (D F : Type 0) : Type 0 where
 abbrev pub of_device : Device → FabricOf
 of_device d = record { sizes = d.sizes; lenders = d.lenders }
 
-abbrev pub new : Sizes → ℕ → Device
-new s lenders =
+abbrev pub device_at_start : Sizes → ℕ → Device
+device_at_start s lenders =
     record {
       sizes = s;
       lenders = lenders;
@@ -97,31 +97,31 @@ new s lenders =
       calls = calls.all_idle s.callers;
       failed_writes = 0;
       failed_reads = 0;
-      remote = remote.none s;
+      remote = remote.remote_at_start s;
       rates = rates.all_still s.slabs;
       links_made = 0;
     }
 
 -- an accepted page-out: its entry, its copy in the queue, the page's readers marked, the page's bit cleared, and the
 -- caller idle
-abbrev pub enter : Device → Caller → Page → List ℕ → Device
-enter d c p bytes =
+abbrev pub enter_entry : Device → Caller → Page → List ℕ → Device
+enter_entry d c p bytes =
     record d {
-      history = pushed d.history c p op.PageOut bytes;
-      queue = queue.put d.queue p (record { entry = next_name d.history; bytes = bytes });
-      calls = calls.ended (calls.paged_out d.calls p) c;
-      remote = remote.changed d.remote p;
+      history = with_row d.history c p op.PageOut bytes;
+      queue = queue.put_after d.queue p (record { entry = next_name d.history; bytes = bytes });
+      calls = calls.end_after (calls.paged_out d.calls p) c;
+      remote = remote.changed_after d.remote p;
     }
 
 -- an answered page-in
 abbrev pub give : Device → Caller → Page → Option EntryNo → Origin → List ℕ → Device
 give d c p named from bytes =
-    record d { history = pushed d.history c p (op.PageIn named from) bytes; calls = calls.ended d.calls c }
+    record d { history = with_row d.history c p (op.PageIn named from) bytes; calls = calls.end_after d.calls c }
 
 -- a call that a failure of the disk ends
 abbrev pub fault : Device → Caller → Page → CallKind → ℕ → ℕ → List ℕ → Device
 fault d c p kind since at bytes =
-    record d { history = pushed d.history c p (op.Failed kind since at) bytes; calls = calls.ended d.calls c }
+    record d { history = with_row d.history c p (op.Failed kind since at) bytes; calls = calls.end_after d.calls c }
 
 -- a page-out that is kept until the queue has room
 abbrev pub wait_for_room : Device → Caller → Page → List ℕ → Device
@@ -140,8 +140,8 @@ periods_ended d = record d { rates = rates.periods_ended d.rates }
 
 -- a link that is lost, but for the slabs that asked its lender: those at its lender are local, and the calls that wait
 -- through it are lost
-abbrev pub lost : Device → Lender → Device
-lost d l = record d { remote = remote.lost d.sizes d.remote l; calls = calls.lost d.calls l }
+abbrev pub lost_after : Device → Lender → Device
+lost_after d l = record d { remote = remote.lost_after d.sizes d.remote l; calls = calls.lost_after d.calls l }
 
 -- a write, or a read, that was sent to the lender of the page's slab
 abbrev pub write_sent : Device → Lender → Page → EntryNo → Device
@@ -182,7 +182,7 @@ choose down d (Some at) = borrow_from down d at.0 at.1
 -- a slab that asked a lender which is gone waits no more for its reply
 abbrev pub give_up_one : (Device → Lender → Prog Device) → Device → Lender → Slab → Prog Device
 give_up_one down d l slab =
-    choose down (record d { remote = remote.gone d.remote l slab })
+    choose down (record d { remote = remote.gone_after d.remote l slab })
     (chosen_for slab (slabs.answer_choice (slabs.state_of d.remote.slabs slab) l reply.Gone))
 
 -- so each such slab of these many from the n-th on, in order
@@ -198,8 +198,8 @@ give_up down (suc left) n d l =
 -- its lender waits no more. A choice that is due then may find the next link down. Each loss takes one link, so that no
 -- more follow than there are links.
 abbrev pub lose_with : ℕ → Device → Lender → Prog Device
-lose_with zero d l = give_up (λ e m. Ret (lost e m)) (length d.remote.slabs) 0 (lost d l) l
-lose_with (suc more) d l = give_up (lose_with more) (length d.remote.slabs) 0 (lost d l) l
+lose_with zero d l = give_up (λ e m. Ret (lost_after e m)) (length d.remote.slabs) 0 (lost_after d l) l
+lose_with (suc more) d l = give_up (lose_with more) (length d.remote.slabs) 0 (lost_after d l) l
 
 abbrev pub lose : Device → Lender → Prog Device
 lose d l = lose_with MOST_LENDERS d l
@@ -217,8 +217,9 @@ write_to d p e bytes None = Ret (d, None)
 write_to d p e bytes (Some at) =
     AskFabric (Send at.0 (parcel_of (msg.Write at.1 (place_of d.sizes p.0)) bytes)) (after_write d at.0 p e)
 
-abbrev pub accept : Device → Caller → Page → List ℕ → Prog (Device × Option Lender)
-accept d c p bytes = write_to (enter d c p bytes) p (next_name d.history) bytes (remote.target d.sizes d.remote p)
+abbrev pub accept_program : Device → Caller → Page → List ℕ → Prog (Device × Option Lender)
+accept_program d c p bytes =
+    write_to (enter_entry d c p bytes) p (next_name d.history) bytes (remote.target d.sizes d.remote p)
 
 -- a read of the disk
 abbrev pub read_disk : Device → Caller → Page → EntryNo → Prog (Device × InStep)
@@ -249,16 +250,16 @@ abbrev pub route : Device → Caller → Page → Prog (Device × InStep)
 route d c p = route_by d c p (last d.history p) (queue.newest d.queue p)
 
 -- a page-out's first step
-abbrev pub accepted : EntryNo → Device × Option Lender → Device × OutStep
-accepted entry r = (r.0, outs.Done entry r.1)
+abbrev pub accept_after : EntryNo → Device × Option Lender → Device × OutStep
+accept_after entry r = (r.0, outs.Done entry r.1)
 
-abbrev pub put : Device → Caller → Page → List ℕ → Prog (Device × OutStep)
-put d c p bytes =
-    if queue.has_room d.queue p then answering (accepted (next_name d.history)) (accept d c p bytes)
+abbrev pub put_program : Device → Caller → Page → List ℕ → Prog (Device × OutStep)
+put_program d c p bytes =
+    if queue.has_room d.queue p then answering (accept_after (next_name d.history)) (accept_program d c p bytes)
     else Ret (wait_for_room d c p bytes, outs.Room)
 
 abbrev pub out : Device → Caller → Page → List ℕ → Prog (Device × OutStep)
-out d c p bytes = put (hit d p) c p bytes
+out d c p bytes = put_program (hit d p) c p bytes
 
 -- a page-in's first step
 abbrev pub read : Device → Caller → Page → Prog (Device × InStep)
@@ -279,7 +280,7 @@ accepted_late entry r = (r.0, steps.Done entry r.1)
 
 abbrev pub finish_out : Device → Caller → Page → ℕ → List ℕ → Prog (Device × Step)
 finish_out d c p since bytes =
-    if queue.has_room d.queue p then answering (accepted_late (next_name d.history)) (accept d c p bytes)
+    if queue.has_room d.queue p then answering (accepted_late (next_name d.history)) (accept_program d c p bytes)
     else
     (if nat_lt since d.failed_writes
     then Ret
@@ -311,30 +312,30 @@ start_copy d p (Some copy) =
 
 abbrev pub start_front : Device → List Page → Prog (Device × Option (Page × EntryNo))
 start_front d [] = Ret (d, None)
-start_front d (p ∷ line) = start_copy d p (queue.next d.queue p)
+start_front d (p ∷ line) = start_copy d p (queue.next_copy d.queue p)
 
 abbrev pub disk_start : Device → Prog (Device × Option (Page × EntryNo))
 disk_start d = start_front d d.queue.line
 
 -- a write that came back, by the copy that was flying
-abbrev pub wrote : Device → Page → Option Copy → Bool → Device × DiskStep
-wrote d p None ok = (d, disk.Nothing)
-wrote d p (Some copy) true = (record d { queue = queue.done d.queue p }, disk.Written p copy.entry)
-wrote d p (Some copy) false = (
-  record d { queue = queue.failed d.queue p; failed_writes = d.failed_writes + 1 },
-  if is_none (queue.next d.queue p) then disk.Kept p copy.entry else disk.Dropped p copy.entry,
+abbrev pub wrote_after : Device → Page → Option Copy → Bool → Device × DiskStep
+wrote_after d p None ok = (d, disk.Nothing)
+wrote_after d p (Some copy) true = (record d { queue = queue.done_after d.queue p }, disk.Written p copy.entry)
+wrote_after d p (Some copy) false = (
+  record d { queue = queue.failed_after d.queue p; failed_writes = d.failed_writes + 1 },
+  if is_none (queue.next_copy d.queue p) then disk.Kept p copy.entry else disk.Dropped p copy.entry,
 )
 
 -- an operation that the disk gave back
-abbrev pub took : Device → DiskWhich → Page → Bool → List ℕ → Device × DiskStep
-took d (which.Write q) p ok bytes = wrote d p (queue.flying d.queue p) ok
-took d (which.Read c) p true bytes = (record d { calls = calls.came d.calls c bytes }, disk.Came c p)
-took d (which.Read c) p false bytes =
-    (record d { calls = calls.failed d.calls c; failed_reads = d.failed_reads + 1 }, disk.Failed c p)
+abbrev pub took_after : Device → DiskWhich → Page → Bool → List ℕ → Device × DiskStep
+took_after d (which.Write q) p ok bytes = wrote_after d p (queue.flying d.queue p) ok
+took_after d (which.Read c) p true bytes = (record d { calls = calls.came_after d.calls c bytes }, disk.Came c p)
+took_after d (which.Read c) p false bytes =
+    (record d { calls = calls.failed_after d.calls c; failed_reads = d.failed_reads + 1 }, disk.Failed c p)
 
 abbrev pub took_back : Device → Option Taken → Device × DiskStep
 took_back d None = (d, disk.Nothing)
-took_back d (Some t) = took d t.done.which t.done.page t.done.ok t.bytes
+took_back d (Some t) = took_after d t.done.which t.done.page t.done.ok t.bytes
 
 abbrev pub disk_take : Device → Prog (Device × DiskStep)
 disk_take d = AskDisk TakeDone (λ taken. Ret (took_back d taken))
@@ -376,8 +377,8 @@ pub record Heard : Type 0 where
   pub word : Option Parcel
   pub choice : Option (Slab × Lender)
 
-abbrev pub only : Device → Heard
-only d = record { device = d; word = None; choice = None }
+abbrev pub heard_only : Device → Heard
+heard_only d = record { device = d; word = None; choice = None }
 
 -- a lease is given back, where there is one to give
 abbrev pub done_word : Option Lease → Option Parcel
@@ -391,7 +392,7 @@ query_answered d l slab (Some told) =
     if told.0.0 == slab.0
     then Some
     (record {
-      device = record d { remote = remote.told d.remote l slab told.1 };
+      device = record d { remote = remote.told_after d.remote l slab told.1 };
       word = None;
       choice = chosen_for slab (slabs.answer_choice (slabs.state_of d.remote.slabs slab) l (reply.Free told.1));
     })
@@ -399,10 +400,10 @@ query_answered d l slab (Some told) =
 
 -- a slab that was lent is mapped, where no slab at the lender has this lease; one that was refused is local
 abbrev pub lent_or_refused : Device → Lender → Slab → Option Lease → Option Heard
-lent_or_refused d l slab None = Some (only (record d { remote = remote.refused d.remote l slab }))
+lent_or_refused d l slab None = Some (heard_only (record d { remote = remote.refused_after d.remote l slab }))
 lent_or_refused d l slab (Some lease) =
     if is_none (slabs.by_lease d.remote.slabs l lease)
-    then Some (only (record d { remote = remote.lent d.remote l slab lease })) else None
+    then Some (heard_only (record d { remote = remote.lent_after d.remote l slab lease })) else None
 
 abbrev pub borrow_answered : Device → Lender → Slab → Option (Slab × Option Lease) → Option Heard
 borrow_answered d l slab None = None
@@ -423,7 +424,7 @@ write_answered d l p e (Some at) =
     if remote.names_page d.sizes d.remote l p at.0 at.1
     then Some
     (record {
-      device = record d { remote = remote.written d.sizes d.remote l p (is_newest (last d.history p) e) };
+      device = record d { remote = remote.written_after d.sizes d.remote l p (is_newest (last d.history p) e) };
       word = settled_word d p;
       choice = None;
     })
@@ -436,19 +437,19 @@ read_answered d l c p bytes (Some at) =
     if remote.names_page d.sizes d.remote l p at.0 at.1
     then Some
     (record {
-      device = record d { remote = remote.settled_for d.sizes d.remote l p; calls = calls.came d.calls c bytes };
+      device = record d { remote = remote.settled_for d.sizes d.remote l p; calls = calls.came_after d.calls c bytes };
       word = settled_word d p;
       choice = None;
     })
     else None
 
 -- what a message does that answers the oldest request of its link
-abbrev pub answered : Device → Lender → Parcel → Option Request → Option Heard
-answered d l parcel None = None
-answered d l parcel (Some (request.Query slab)) = query_answered d l slab (query_reply parcel.msg)
-answered d l parcel (Some (request.Borrow slab)) = borrow_answered d l slab (borrow_reply parcel.msg)
-answered d l parcel (Some (request.Write p e)) = write_answered d l p e (write_reply parcel.msg)
-answered d l parcel (Some (request.Read c p)) = read_answered d l c p parcel.page (read_reply parcel.msg)
+abbrev pub heard_answer : Device → Lender → Parcel → Option Request → Option Heard
+heard_answer d l parcel None = None
+heard_answer d l parcel (Some (request.Query slab)) = query_answered d l slab (query_reply parcel.msg)
+heard_answer d l parcel (Some (request.Borrow slab)) = borrow_answered d l slab (borrow_reply parcel.msg)
+heard_answer d l parcel (Some (request.Write p e)) = write_answered d l p e (write_reply parcel.msg)
+heard_answer d l parcel (Some (request.Read c p)) = read_answered d l c p parcel.page (read_reply parcel.msg)
 
 -- a lender asks for the rate of the slab that is mapped there with this lease
 abbrev pub rate_told : Device → Lease → Option Slab → Option Heard
@@ -458,12 +459,12 @@ rate_told d lease (Some slab) =
     (record { device = d; word = Some (parcel_of (msg.Rates lease (rates.value_of d.rates slab)) []); choice = None })
 
 -- a lender takes it back: no page of it can be read, and it drains
-abbrev pub evicted : Device → Option Slab → Option Heard
-evicted d None = None
-evicted d (Some slab) =
+abbrev pub heard_evict : Device → Option Slab → Option Heard
+heard_evict d None = None
+heard_evict d (Some slab) =
     Some
     (record {
-      device = record d { remote = remote.evicted d.sizes d.remote slab };
+      device = record d { remote = remote.evicted_after d.sizes d.remote slab };
       word = done_word (slabs.evicted_lease (slabs.state_of d.remote.slabs slab));
       choice = None;
     })
@@ -471,36 +472,36 @@ evicted d (Some slab) =
 -- what a message does; no other is allowed
 abbrev pub heard_by : Device → Lender → Parcel → Option Request → Option Lease → Option Lease → Option Heard
 heard_by d l parcel oldest (Some lease) back = rate_told d lease (remote.mapped_by d.remote.slabs l lease)
-heard_by d l parcel oldest None (Some lease) = evicted d (remote.mapped_by d.remote.slabs l lease)
-heard_by d l parcel oldest None None = answered d l parcel oldest
+heard_by d l parcel oldest None (Some lease) = heard_evict d (remote.mapped_by d.remote.slabs l lease)
+heard_by d l parcel oldest None None = heard_answer d l parcel oldest
 
-abbrev pub heard : Device → Lender → Parcel → Option Request → Option Heard
-heard d l parcel oldest = heard_by d l parcel oldest (rate_asked parcel.msg) (taken_back parcel.msg)
+abbrev pub heard_parcel : Device → Lender → Parcel → Option Request → Option Heard
+heard_parcel d l parcel oldest = heard_by d l parcel oldest (rate_asked parcel.msg) (taken_back parcel.msg)
 
 -- something is said on a link that isn't a request
 abbrev pub after_word : Device → Lender → Sent → Prog Device
 after_word d l sent.Sent = Ret d
 after_word d l sent.Down = lose d l
 
-abbrev pub say : Device → Lender → Option Parcel → Prog Device
-say d l None = Ret d
-say d l (Some parcel) = AskFabric (Send l parcel) (after_word d l)
+abbrev pub say_after : Device → Lender → Option Parcel → Prog Device
+say_after d l None = Ret d
+say_after d l (Some parcel) = AskFabric (Send l parcel) (after_word d l)
 
 -- what follows on a message in the same step
 abbrev pub follow : Heard → Lender → Prog Device
-follow h l = and_then (say h.device l h.word) (λ e. choose lose e h.choice)
+follow h l = and_then (say_after h.device l h.word) (λ e. choose lose e h.choice)
 
 abbrev pub with_step : LinkStep → Device → Device × LinkStep
 with_step step d = (d, step)
 
 -- a link that brought a message which isn't allowed is ended, and lost
-abbrev pub understood : Device → Lender → Msg → Option Heard → Prog (Device × LinkStep)
-understood d l m (Some heard) = answering (with_step (link.Got m)) (follow heard l)
-understood d l m None = AskFabric (End l) (λ _. answering (with_step link.Lied) (lose d l))
+abbrev pub understand : Device → Lender → Msg → Option Heard → Prog (Device × LinkStep)
+understand d l m (Some heard) = answering (with_step (link.Got m)) (follow heard l)
+understand d l m None = AskFabric (End l) (λ _. answering (with_step link.Lied) (lose d l))
 
 abbrev pub took_from : Device → Lender → Handed → Prog (Device × LinkStep)
 took_from d l (Brought parcel) =
-    understood d l parcel.msg (heard d l parcel (rings.oldest (rings.ring_of d.remote.links l)))
+    understand d l parcel.msg (heard_parcel d l parcel (rings.oldest (rings.ring_of d.remote.links l)))
 took_from d l NothingCame = Ret (d, link.Nothing)
 took_from d l LinkLost = answering (with_step link.Lost) (lose d l)
 
@@ -558,7 +559,8 @@ ask d slab (picked.Two n m) =
 -- the hottest local slab is asked for, of two lenders
 abbrev pub place_at : Device → ℕ → Option Slab → Prog (Device × Option Placed)
 place_at d word None = Ret (d, None)
-place_at d word (Some slab) = ask d slab (choice.asked word (remote.fresh d.remote) (remote.others d.remote))
+place_at d word (Some slab) =
+    ask d slab (choice.two_asked word (remote.fresh_lenders d.remote) (remote.other_lenders d.remote))
 
 abbrev pub place : Device → ℕ → Prog (Device × Option Placed)
 place d word = place_at d word (rates.hottest d.sizes.hot d.remote.slabs d.rates)
@@ -568,8 +570,8 @@ abbrev pub tick : Device → ℕ → Prog (Device × Option Placed)
 tick d word = place (periods_ended d) word
 
 -- a link is made, with the next number, in place of the one that is up, and greeted
-abbrev pub raised : Device → Lender → Device
-raised d l = record d { remote = remote.raised d.remote l; links_made = d.links_made + 1 }
+abbrev pub raised_after : Device → Lender → Device
+raised_after d l = record d { remote = remote.raised_after d.remote l; links_made = d.links_made + 1 }
 
 abbrev pub next_link : Device → Link
 next_link d = record { 0 = d.links_made }
@@ -583,7 +585,7 @@ with_link n d = (d, Some n)
 abbrev pub connect_on : Device → Lender → Prog (Device × Option Link)
 connect_on d l =
     AskFabric (Connect l (next_link d))
-    (λ _. answering (with_link (next_link d)) (say (raised d l) l (Some (hello d.sizes))))
+    (λ _. answering (with_link (next_link d)) (say_after (raised_after d l) l (Some (hello d.sizes))))
 
 abbrev pub without_link : Device → Lender → Prog Device
 without_link d l = if rings.is_up d.remote.links l then lose d l else Ret d

@@ -10,7 +10,7 @@ use Rattle.swap_base.specs.Sizes.{Sizes, pages_of, zeros}
 use Rattle.swap_record.specs.declared.Op.{Op}
 use Rattle.swap_record.specs.declared.Op.TheVariants.{PageOut, PageIn, Failed}
 use Rattle.swap_record.specs.History.{History, Row, IsOrdered, array, last}
-use Rattle.swap_queue.specs.Queue.{Queue, Places, Copy, places_of, newest, next, flying, first_of}
+use Rattle.swap_queue.specs.Queue.{Queue, Places, Copy, places_of, newest, next_copy, flying, first_of}
 use Rattle.swap_disk.specs.Disk.{Flight, Write, Read, Finished, which_of, is_flight_of, same_which}
 use Rattle.swap_disk.specs.Port.{Port, writes_in}
 use Rattle.swap_calls.specs.Calls.{Call, Calls, state_of}
@@ -115,7 +115,7 @@ IsUnderWay blocks flights (Some f) =
 
 -- a page in the line has a next copy, and none that flies
 abbrev pub IsInLine : ℕ → Queue → Page → Type 0
-IsInLine pages q page = (page.0 < pages) × IsSome (next q page) × (flying q page ≡ None)
+IsInLine pages q page = (page.0 < pages) × IsSome (next_copy q page) × (flying q page ≡ None)
 
 abbrev pub AreApart : List Page → Type 0
 AreApart [] = Unit {0}

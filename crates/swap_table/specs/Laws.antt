@@ -11,7 +11,7 @@ use Rattle.swap_wire.specs.declared.fabric.Fabric.{Ghosts as FabricMeaning}
 use Rattle.swap_calls.specs.Calls.{state_of, is_idle}
 use Rattle.swap_slabs.specs.declared.TheConstants.{MOST_LENDERS}
 use Rattle.swap_table.specs.Ports.{Prog, Leads}
-use Rattle.swap_table.specs.Device.{Device, of_device, new, out, read, finish, disk_start, disk_take, disk_finish, link_take, tick, map, connect, give_to, cut, crash, host}
+use Rattle.swap_table.specs.Device.{Device, of_device, device_at_start, out, read, finish, disk_start, disk_take, disk_finish, link_take, tick, map, connect, give_to, cut, crash, host}
 use Rattle.swap_table.specs.Fits.{Fits, IsBlank}
 
 module _ {D F : Type 0} (disk : DiskMeaning D) (fabric : FabricMeaning F) where
@@ -74,4 +74,4 @@ module _ {D F : Type 0} (disk : DiskMeaning D) (fabric : FabricMeaning F) where
   abbrev pub NewAgrees : Type 0
   NewAgrees =
       (s : Sizes) (n : ℕ) (k : D) (f : F) → IsBlank s (disk.means k) → fabric.of f ≡ record { sizes = s; lenders = n }
-      → n ≤ MOST_LENDERS → AgreeWith (is_some (disk.means k).blocks) (new s n) k f
+      → n ≤ MOST_LENDERS → AgreeWith (is_some (disk.means k).blocks) (device_at_start s n) k f

@@ -38,7 +38,7 @@ use Rattle.swap_rings.specs.declared.Request.{Request}
 use Rattle.swap_rings.specs.declared.Request.TheVariants as request
 use Rattle.swap_remote.specs.Remote as remote
 use Rattle.swap_remote.specs.Remote.{target}
-use Rattle.swap_table.specs.Device.{Device, enter, give, fault, lost, wait_for_room, wait_for_disk, write_sent, read_sent, source, origin_of, took_back, Heard, only, done_word, settled_word, chosen_for, is_newest, query_reply, borrow_reply, write_reply, read_reply, rate_asked, taken_back, may_map, raised, next_link, hello}
+use Rattle.swap_table.specs.Device.{Device, enter_entry, give, fault, lost_after, wait_for_room, wait_for_disk, write_sent, read_sent, source, origin_of, took_back, Heard, heard_only, done_word, settled_word, chosen_for, is_newest, query_reply, borrow_reply, write_reply, read_reply, rate_asked, taken_back, may_map, raised_after, next_link, hello}
 use Rattle.swap_table.specs.Goes.{Asked, Nothing, OfDisk, OfFabric}
 
 -- what a device has made up its mind to do next on a link: to send a message, or to end the link
@@ -51,8 +51,8 @@ pub record Speaker : Type 0 where
   pub device : Device
   pub owed : List Owed
 
-abbrev pub quiet : Device → Speaker
-quiet d = record { device = d; owed = [] }
+abbrev pub quiet_speaker : Device → Speaker
+quiet_speaker d = record { device = d; owed = [] }
 
 -- one that owes a word on a link, where there is one to say
 abbrev pub words : Lender → Option Parcel → List Owed
@@ -83,8 +83,8 @@ of_sizes s lenders far may =
       bytes = may;
     }
 
-abbrev pub anything : Within
-anything =
+abbrev pub within_any : Within
+within_any =
     record {
       page = λ p. Unit {0};
       caller = λ c. Unit {0};
@@ -137,7 +137,7 @@ pub data Sends (W : Within) (d : Device) (l : Lender) : Parcel → Device → De
       {c : Caller} {p : Page} {k : Lease} {bytes : List ℕ} → Outs W d c p bytes
       → target d.sizes d.remote p ≡ Some (l, k)
       → Sends W d l (write_parcel k (place_of d.sizes p.0) bytes)
-      (write_sent (enter d c p bytes) l p (next_name d.history)) (enter d c p bytes)
+      (write_sent (enter_entry d c p bytes) l p (next_name d.history)) (enter_entry d c p bytes)
   read :
       {c : Caller} {p : Page} {k : Lease} {n : EntryNo} → Ins W d c p → W.caller c → last d.history p ≡ Some n
       → queue.newest d.queue p ≡ None → source d p ≡ Some (l, k)
@@ -162,25 +162,25 @@ pub data Hears (d : Device) (l : Lender) (q : Parcel) : Heard → Type 0 where
       → query_reply q.msg ≡ Some (u, free) → (u.0 == t.0) ≡ true
       → Hears d l q
       (record {
-        device = record d { remote = remote.told d.remote l t free };
+        device = record d { remote = remote.told_after d.remote l t free };
         word = None;
         choice = chosen_for t (slabs.answer_choice (slabs.state_of d.remote.slabs t) l (reply.Free free));
       })
   lent :
       {t u : Slab} {k : Lease} {rest : List Request} → ring_of d.remote.links l ≡ request.Borrow t ∷ rest
       → borrow_reply q.msg ≡ Some (u, Some k) → (u.0 == t.0) ≡ true → slabs.by_lease d.remote.slabs l k ≡ None
-      → Hears d l q (only (record d { remote = remote.lent d.remote l t k }))
+      → Hears d l q (heard_only (record d { remote = remote.lent_after d.remote l t k }))
   refused :
       {t u : Slab} {rest : List Request} → ring_of d.remote.links l ≡ request.Borrow t ∷ rest
       → borrow_reply q.msg ≡ Some (u, None) → (u.0 == t.0) ≡ true
-      → Hears d l q (only (record d { remote = remote.refused d.remote l t }))
+      → Hears d l q (heard_only (record d { remote = remote.refused_after d.remote l t }))
   written :
       {p : Page} {e : EntryNo} {at : Lease × ℕ} {rest : List Request}
       → ring_of d.remote.links l ≡ request.Write p e ∷ rest → write_reply q.msg ≡ Some at
       → remote.names_page d.sizes d.remote l p at.0 at.1 ≡ true
       → Hears d l q
       (record {
-        device = record d { remote = remote.written d.sizes d.remote l p (is_newest (last d.history p) e) };
+        device = record d { remote = remote.written_after d.sizes d.remote l p (is_newest (last d.history p) e) };
         word = settled_word d p;
         choice = None;
       })
@@ -191,7 +191,7 @@ pub data Hears (d : Device) (l : Lender) (q : Parcel) : Heard → Type 0 where
       → Hears d l q
       (record {
         device =
-            record d { remote = remote.settled_for d.sizes d.remote l p; calls = calls.came d.calls c q.page };
+            record d { remote = remote.settled_for d.sizes d.remote l p; calls = calls.came_after d.calls c q.page };
         word = settled_word d p;
         choice = None;
       })
@@ -202,7 +202,7 @@ pub data Hears (d : Device) (l : Lender) (q : Parcel) : Heard → Type 0 where
   told_to_go : {t : Slab} {k : Lease} → taken_back q.msg ≡ Some k → remote.mapped_by d.remote.slabs l k ≡ Some t
       → Hears d l q
       (record {
-        device = record d { remote = remote.evicted d.sizes d.remote t };
+        device = record d { remote = remote.evicted_after d.sizes d.remote t };
         word = done_word (slabs.evicted_lease (slabs.state_of d.remote.slabs t));
         choice = None;
       })
@@ -224,68 +224,74 @@ pub data IsFar (W : Within) : FabricCall → Type 0 where
 pub data Move (W : Within) : Speaker → Asked → Speaker → Type 0 where
   enters :
       {d : Device} {c : Caller} {p : Page} {bytes : List ℕ} → Outs W d c p bytes
-      → Move W (quiet d) Nothing (quiet (enter d c p bytes))
+      → Move W (quiet_speaker d) Nothing (quiet_speaker (enter_entry d c p bytes))
   gives :
       {d : Device} {c : Caller} {p : Page} {named : Option EntryNo} {from : Origin} {bytes : List ℕ}
-      → Gives W d c p named from bytes → Move W (quiet d) Nothing (quiet (give d c p named from bytes))
+      → Gives W d c p named from bytes → Move W (quiet_speaker d) Nothing (quiet_speaker (give d c p named from bytes))
   faults :
       {d : Device} {c : Caller} {p : Page} {k : CallKind} {since at : ℕ} {bytes : List ℕ}
       → Faults d c p k since at bytes
-      → Move W (quiet d) Nothing (quiet (fault d c p k since at bytes))
+      → Move W (quiet_speaker d) Nothing (quiet_speaker (fault d c p k since at bytes))
   waits_for_room :
       {d : Device} (c : Caller) (p : Page) (bytes : List ℕ) → is_idle (state_of d.calls c) ≡ true → W.page p
-      → W.bytes bytes → Move W (quiet d) Nothing (quiet (wait_for_room d c p bytes))
-  rates_change : {d : Device} (rates : List Activity) → Move W (quiet d) Nothing (quiet (record d { rates = rates }))
+      → W.bytes bytes → Move W (quiet_speaker d) Nothing (quiet_speaker (wait_for_room d c p bytes))
+  rates_change : {d : Device} (rates : List Activity)
+      → Move W (quiet_speaker d) Nothing (quiet_speaker (record d { rates = rates }))
   lets_go :
       {d : Device} (l : Lender) → W.lender l → is_up d.remote.links l ≡ true
-      → Move W (quiet d) Nothing (quiet (lost d l))
+      → Move W (quiet_speaker d) Nothing (quiet_speaker (lost_after d l))
   gives_up :
       {d : Device} (l : Lender) (t : Slab) → is_up d.remote.links l ≡ false
       → slabs.asks l (slabs.state_of d.remote.slabs t) ≡ true
-      → Move W (quiet d) Nothing (quiet (record d { remote = remote.gone d.remote l t }))
+      → Move W (quiet_speaker d) Nothing (quiet_speaker (record d { remote = remote.gone_after d.remote l t }))
   -- with the disk
   starts :
       {d : Device} {p : Page} {line : List Page} {copy : Copy} {r : DiskAnswer (StartWrite p copy.bytes)}
-      → d.queue.line ≡ p ∷ line → queue.next d.queue p ≡ Some copy
-      → Move W (quiet d) (OfDisk (StartWrite p copy.bytes) r) (quiet (record d { queue = queue.start d.queue }))
+      → d.queue.line ≡ p ∷ line → queue.next_copy d.queue p ≡ Some copy
+      → Move W (quiet_speaker d) (OfDisk (StartWrite p copy.bytes) r)
+      (quiet_speaker (record d { queue = queue.start d.queue }))
   waits_for_disk :
       {d : Device} {c : Caller} {p : Page} {n : EntryNo} {r : DiskAnswer (StartRead c p)} → Ins W d c p → W.caller c
       → last d.history p ≡ Some n → queue.newest d.queue p ≡ None
-      → Move W (quiet d) (OfDisk (StartRead c p) r) (quiet (wait_for_disk d c p n))
-  takes : {d : Device} {taken : Option Taken} → Move W (quiet d) (OfDisk TakeDone taken) (quiet (took_back d taken).0)
+      → Move W (quiet_speaker d) (OfDisk (StartRead c p) r) (quiet_speaker (wait_for_disk d c p n))
+  takes : {d : Device} {taken : Option Taken}
+      → Move W (quiet_speaker d) (OfDisk TakeDone taken) (quiet_speaker (took_back d taken).0)
   lets_finish :
-      {d : Device} {w : DiskWhich} {ok done : Bool} → Move W (quiet d) (OfDisk (LetFinish w ok) done) (quiet d)
+      {d : Device} {w : DiskWhich} {ok done : Bool}
+      → Move W (quiet_speaker d) (OfDisk (LetFinish w ok) done) (quiet_speaker d)
   -- with the fabric
   sends :
       {d e base : Device} {l : Lender} {q : Parcel} → Sends W d l q e base
-      → Move W (quiet d) (OfFabric (Send l q) sent.Sent) (quiet e)
+      → Move W (quiet_speaker d) (OfFabric (Send l q) sent.Sent) (quiet_speaker e)
   finds_down :
       {d e base : Device} {l : Lender} {q : Parcel} → Sends W d l q e base
-      → Move W (quiet d) (OfFabric (Send l q) sent.Down) (quiet (lost base l))
+      → Move W (quiet_speaker d) (OfFabric (Send l q) sent.Down) (quiet_speaker (lost_after base l))
   raises :
       {d : Device} {l : Lender} {r : FabricAnswer (Connect l (next_link d))} → W.lender l
       → is_up d.remote.links l ≡ false
-      → Move W (quiet d) (OfFabric (Connect l (next_link d)) r)
-      (record { device = raised d l; owed = Says l (hello d.sizes) ∷ [] })
+      → Move W (quiet_speaker d) (OfFabric (Connect l (next_link d)) r)
+      (record { device = raised_after d l; owed = Says l (hello d.sizes) ∷ [] })
   speaks :
       {d : Device} {l : Lender} {q : Parcel} → IsWord d q
-      → Move W (record { device = d; owed = Says l q ∷ [] }) (OfFabric (Send l q) sent.Sent) (quiet d)
+      → Move W (record { device = d; owed = Says l q ∷ [] }) (OfFabric (Send l q) sent.Sent) (quiet_speaker d)
   speaks_to_nobody :
       {d : Device} {l : Lender} {q : Parcel} → IsWord d q
-      → Move W (record { device = d; owed = Says l q ∷ [] }) (OfFabric (Send l q) sent.Down) (quiet (lost d l))
+      → Move W (record { device = d; owed = Says l q ∷ [] }) (OfFabric (Send l q) sent.Down)
+      (quiet_speaker (lost_after d l))
   hears :
       {d : Device} {h : Heard} {l : Lender} {q : Parcel} → is_up d.remote.links l ≡ true → Hears d l q h
-      → Move W (quiet d) (OfFabric (Take l) (Brought q)) (owing h l)
+      → Move W (quiet_speaker d) (OfFabric (Take l) (Brought q)) (owing h l)
   hears_nothing :
       {d : Device} {l : Lender} → is_up d.remote.links l ≡ true
-      → Move W (quiet d) (OfFabric (Take l) NothingCame) (quiet d)
+      → Move W (quiet_speaker d) (OfFabric (Take l) NothingCame) (quiet_speaker d)
   loses :
       {d : Device} {l : Lender} → is_up d.remote.links l ≡ true
-      → Move W (quiet d) (OfFabric (Take l) LinkLost) (quiet (lost d l))
+      → Move W (quiet_speaker d) (OfFabric (Take l) LinkLost) (quiet_speaker (lost_after d l))
   misunderstands :
       {d : Device} {l : Lender} {q : Parcel} → is_up d.remote.links l ≡ true
-      → Move W (quiet d) (OfFabric (Take l) (Brought q)) (record { device = d; owed = Ends l ∷ [] })
+      → Move W (quiet_speaker d) (OfFabric (Take l) (Brought q)) (record { device = d; owed = Ends l ∷ [] })
   breaks_off :
       {d : Device} {l : Lender} {r : FabricAnswer (End l)}
-      → Move W (record { device = d; owed = Ends l ∷ [] }) (OfFabric (End l) r) (quiet (lost d l))
-  far : {d : Device} {c : FabricCall} {r : FabricAnswer c} → IsFar W c → Move W (quiet d) (OfFabric c r) (quiet d)
+      → Move W (record { device = d; owed = Ends l ∷ [] }) (OfFabric (End l) r) (quiet_speaker (lost_after d l))
+  far : {d : Device} {c : FabricCall} {r : FabricAnswer c} → IsFar W c
+      → Move W (quiet_speaker d) (OfFabric c r) (quiet_speaker d)

@@ -10,7 +10,7 @@ use Rattle.swap_base.specs.declared.Lease.{Lease}
 use Rattle.swap_base.specs.declared.EntryNo.{EntryNo}
 use Rattle.swap_base.specs.declared.Via.TheVariants as via
 use Rattle.swap_base.specs.Sizes.{Sizes, pages_of, slab_of, place_of, zeros}
-use Rattle.swap_record.specs.History.{History, Row, array, last, named, is_out_of}
+use Rattle.swap_record.specs.History.{History, Row, array, last, row_named, is_out_of}
 use Rattle.swap_queue.specs.Queue.{first_of}
 use Rattle.swap_calls.specs.Calls.{Calls, state_of}
 use Rattle.swap_calls.specs.declared.Arrived.TheVariants as arrived
@@ -51,9 +51,9 @@ entry_to page (Write other entry) = if other.0 == page.0 then Some entry else No
 entry_to page (Read caller other) = None
 
 -- the entry that the last of a ring's writes to this page writes
-abbrev pub latest : Page → List Request → Option EntryNo
-latest page [] = None
-latest page (request ∷ ring) = first_of (latest page ring) (entry_to page request)
+abbrev pub latest_write : Page → List Request → Option EntryNo
+latest_write page [] = None
+latest_write page (request ∷ ring) = first_of (latest_write page ring) (entry_to page request)
 
 -- the entry is a page-out of this page
 abbrev pub IsOutIn : Page → Option Row → Type 0
@@ -61,7 +61,7 @@ IsOutIn page None = ⊥
 IsOutIn page (Some row) = is_out_of page row ≡ true
 
 abbrev pub IsOut : History → Page → EntryNo → Type 0
-IsOut H page entry = IsOutIn page (named H entry.0)
+IsOut H page entry = IsOutIn page (row_named H entry.0)
 
 -- the bytes of an entry
 abbrev pub bytes_in : Option Row → List ℕ
@@ -69,7 +69,7 @@ bytes_in None = []
 bytes_in (Some row) = row.bytes
 
 abbrev pub bytes_of : History → EntryNo → List ℕ
-bytes_of H entry = bytes_in (named H entry.0)
+bytes_of H entry = bytes_in (row_named H entry.0)
 
 -- a slab is mapped to this lender, or drains there
 abbrev pub IsLeasedFrom : Lender → SlabState → Type 0
@@ -166,7 +166,7 @@ IsWriteKept keeps H l lease place (Some entry) = keeps l lease place (bytes_of H
 pub record IsReadable (keeps : Keeping) (z : List ℕ) (H : History) (page : Page) (l : Lender) (lease : Lease)
     (place : ℕ) (ring : List Request) : Type 0 where
   pub some : IsSome (last H page)
-  pub none : latest page ring ≡ None
+  pub none : latest_write page ring ≡ None
   pub kept : keeps l lease place (array z H page)
 
 -- a page, by its slab and its bit
@@ -176,7 +176,7 @@ PageFits keeps s H links page bit (Asking pair) = bit ≡ false
 PageFits keeps s H links page bit (Borrowing l) = bit ≡ false
 PageFits keeps s H links page bit (Mapped l lease flying) =
     (bit ≡ true → IsReadable keeps (zeros s) H page l lease (place_of s page.0) (ring_of links l))
-    × IsWriteKept keeps H l lease (place_of s page.0) (latest page (ring_of links l))
+    × IsWriteKept keeps H l lease (place_of s page.0) (latest_write page (ring_of links l))
 PageFits keeps s H links page bit (Draining l lease flying) = bit ≡ false
 
 -- a lease of a lender is held by at most one slab

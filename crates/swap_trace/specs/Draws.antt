@@ -9,8 +9,8 @@ use Rattle.swap_base.specs.declared.CallKind.TheVariants as kind
 use Rattle.swap_trace.specs.declared.draws.Draw.{Draw}
 
 -- the generator of a number
-abbrev pub seeded : ℕ → Lcg
-seeded number = pcg32_of_seed (pcg32_seed 16 number)
+abbrev pub generator_of : ℕ → Lcg
+generator_of number = pcg32_of_seed (pcg32_seed 16 number)
 
 -- one draw in four takes any of 64 slabs, and the others one of the first four
 abbrev pub slab_of : ℕ → ℕ

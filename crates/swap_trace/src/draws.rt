@@ -1,7 +1,7 @@
 //! The calls that a drill draws, from a number.
 ghost use Rattle.std.specs.Prelude.{◌≡◌, ◌<◌, ◌^◌};
 ghost use Rattle.rand_pcg.specs.Pcg.{pcg32};
-ghost use Rattle.swap_trace.specs.Draws.{draw_of, seeded, slab_of, page_of, kind_of};
+ghost use Rattle.swap_trace.specs.Draws.{draw_of, generator_of, slab_of, page_of, kind_of};
 
 use rand_core::SeedableRng;
 use rand_core::utils::NextWord;
@@ -72,7 +72,7 @@ impl Model for DrillDraws {
 
 impl DrillDraws {
     pub fn make(number: u64) -> DrillDraws
-        ensures { result ≡ seeded number }
+        ensures { result ≡ generator_of number }
     {
         DrillDraws {
             words: Lcg64Xsh32::seed_from_u64(number),

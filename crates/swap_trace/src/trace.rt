@@ -1,7 +1,7 @@
 //! A text as a trace, and walks over its callers' calls and its operator's events.
 ghost use Rattle.std.specs.Prelude.{◌≡◌, ◌<◌, ◌≤◌, length, IfSome};
 ghost use Rattle.swap_wire.specs.Input.{IsInRange};
-ghost use Rattle.swap_script.specs.Reading.{first_event, later, page_after};
+ghost use Rattle.swap_script.specs.Reading.{first_event, without_first, page_after};
 ghost use Rattle.swap_trace.specs.Traces.{trace, calls_in, operators_in};
 
 use std::marker::Model;
@@ -69,7 +69,7 @@ impl<'t> CallerWalk<'t> {
     pub fn next(&mut self, page: &mut [u8]) -> Option<Event>
         requires { length page.old ≡ self.old.sizes.page_bytes }
         ensures event { result ≡ first_event self.old.inputs }
-        ensures left { self.new ≡ later self.old }
+        ensures left { self.new ≡ without_first self.old }
         ensures page { page.new ≡ page_after self.old.inputs page.old }
         ensures in_range { IfSome result (IsInRange self.old.sizes (length self.old.lenders)) }
     {

@@ -15,10 +15,10 @@ use Rattle.swap_io.proofs.Numbers.{own, cond_true}
 use Rattle.swap_record.specs.declared.Op.TheVariants as op
 use Rattle.swap_record.specs.Text as text
 use Rattle.swap_record.specs.Text.{origin_words, op_words}
-use Rattle.swap_script.specs.Forms.{small}
+use Rattle.swap_script.specs.Forms.{small_number}
 use Rattle.swap_script.specs.Lines.{is_word}
 use Rattle.swap_transcript.specs.Readers.{Words, word_at, small_at, wide_at, row, by_rows}
-use Rattle.swap_transcript.specs.Told.{Did, did, page_word, bytes_at, named_word, named_at, origin_rows, out_at, in_at, fault_out_at, fault_in_at, fault_rows, did_rows}
+use Rattle.swap_transcript.specs.Told.{Did, did_of, page_word, bytes_at, named_word, named_at, origin_rows, out_at, in_at, fault_out_at, fault_in_at, fault_rows, did_rows}
 use Rattle.swap_transcript.specs.Printed.{HasPageWord, HasOriginWords, HasNamedWord, HasDidWords}
 use Rattle.swap_transcript.proofs.Front.{bind_some, bound, small-only, small-back, small_at-only, wide_at-only, RowSays, Prints, from-row, one-row, by_rows-only, one-back}
 
@@ -71,12 +71,13 @@ bytes_at-back size page rest h = bound (page_word size (shortest page)) (λ b. S
 -- the entry that is named
 named_word-if :
     (word : List ℕ) (named : Option EntryNo) (b : Bool) → is_word (codes "none") word ≡ b
-    → cond b (Some None) (option_and_then (λ n. Some (Some (record { 0 = n }))) (small word)) ≡ Some named → HasNamedWord named × (word ≡ text.named_word named)
+    → cond b (Some None) (option_and_then (λ n. Some (Some (record { 0 = n }))) (small_number word)) ≡ Some named
+    → HasNamedWord named × (word ≡ text.named_word named)
 named_word-if word named true is e =
     let same : None ≡ named = cc in
     subst (λ n. HasNamedWord n × (word ≡ text.named_word n)) same (tt, sym ((bytes_eq-Decides (codes "none") word).0 is))
 named_word-if word named false is e =
-    let n = bind_some (small word) (λ n. Some (Some (record { 0 = n }))) named e in
+    let n = bind_some (small_number word) (λ n. Some (Some (record { 0 = n }))) named e in
     let one = small-only word n.0 n.1 in
     let same : Some (record { 0 = n.0 }) ≡ named = cc in
     subst (λ n. HasNamedWord n × (word ≡ text.named_word n)) same (one.1, one.0)
@@ -92,9 +93,9 @@ named_at-only (word ∷ words) x e =
 named_word-back : (named : Option EntryNo) → HasNamedWord named → named_word (text.named_word named) ≡ Some named
 named_word-back None h = refl
 named_word-back (Some e) h =
-    ap (λ b. cond b (Some None) (option_and_then (λ n. Some (Some (record { 0 = n }))) (small (decimal e.0))))
+    ap (λ b. cond b (Some None) (option_and_then (λ n. Some (Some (record { 0 = n }))) (small_number (decimal e.0))))
     (is_not_decimal (codes "none") e.0 refl (omega arith))
-    ∙ bound (small (decimal e.0)) (λ n. Some (Some (record { 0 = n }))) e.0 (small-back e.0 h)
+    ∙ bound (small_number (decimal e.0)) (λ n. Some (Some (record { 0 = n }))) e.0 (small-back e.0 h)
 
 pub named_at-back : (named : Option EntryNo) (rest : Words) → HasNamedWord named → named_at (text.named_word named ∷ rest) ≡ Some (named, rest)
 named_at-back named rest h = bound (named_word (text.named_word named)) (λ n. Some (n, rest)) named (named_word-back named h)
@@ -126,11 +127,11 @@ DidPrints size = Prints did_words (HasDidWords size)
 
 out-row : (size : ℕ) → RowSays (DidPrints size) (row (codes "out") (out_at size))
 out-row size words x e =
-    let p = bind_some (small_at words) (λ p. option_and_then (λ b. Some (did p.0 op.PageOut b.0, b.1)) (bytes_at size p.1)) x e in
-    let b = bind_some (bytes_at size p.0.1) (λ b. Some (did p.0.0 op.PageOut b.0, b.1)) x p.2 in
+    let p = bind_some (small_at words) (λ p. option_and_then (λ b. Some (did_of p.0 op.PageOut b.0, b.1)) (bytes_at size p.1)) x e in
+    let b = bind_some (bytes_at size p.0.1) (λ b. Some (did_of p.0.0 op.PageOut b.0, b.1)) x p.2 in
     let first = small_at-only words p.0 p.1 in
     let page = bytes_at-only size p.0.1 b.0 b.1 in
-    let same : (did p.0.0 op.PageOut b.0.0, b.0.1) ≡ x = cc in
+    let same : (did_of p.0.0 op.PageOut b.0.0, b.0.1) ≡ x = cc in
     subst (DidPrints size (codes "out" ∷ words)) same
     ((first.within, page.0), ap (λ r. codes "out" ∷ r) (first.spelled ∙ ap (λ r. decimal p.0.0 ∷ r) page.1))
 
@@ -140,12 +141,12 @@ in-row size words x e =
     let of = bind_some (word_at (codes "of") p.0.1) _ x p.2 in
     let named = bind_some (named_at of.0) _ x of.2 in
     let from = bind_some (by_rows origin_rows named.0.1) _ x named.2 in
-    let b = bind_some (bytes_at size from.0.1) (λ b. Some (did p.0.0 (op.PageIn named.0.0 from.0.0) b.0, b.1)) x from.2 in
+    let b = bind_some (bytes_at size from.0.1) (λ b. Some (did_of p.0.0 (op.PageIn named.0.0 from.0.0) b.0, b.1)) x from.2 in
     let first = small_at-only words p.0 p.1 in
     let name = named_at-only of.0 named.0 named.1 in
     let origin = origin-only named.0.1 from.0 from.1 in
     let page = bytes_at-only size from.0.1 b.0 b.1 in
-    let same : (did p.0.0 (op.PageIn named.0.0 from.0.0) b.0.0, b.0.1) ≡ x = cc in
+    let same : (did_of p.0.0 (op.PageIn named.0.0 from.0.0) b.0.0, b.0.1) ≡ x = cc in
     let tail : from.0.1 ≡ (shortest b.0.0 ∷ []) ++ b.0.1 = page.1 in
     let spelled : words ≡ decimal p.0.0 ∷ codes "of" ∷ text.named_word named.0.0 ∷ ((origin_words from.0.0 ++ shortest b.0.0 ∷ []) ++ b.0.1) =
     first.spelled ∙ ap (λ r. decimal p.0.0 ∷ r) (word_at-only (codes "of") p.0.1 of.0 of.1)
@@ -163,12 +164,12 @@ fault_out-row size words x e =
     let p = bind_some (small_at words) _ x e in
     let since = bind_some (wide_at p.0.1) _ x p.2 in
     let at = bind_some (wide_at since.0.1) _ x since.2 in
-    let b = bind_some (bytes_at size at.0.1) (λ b. Some (did p.0.0 (op.Failed kind.PageOut since.0.0 at.0.0) b.0, b.1)) x at.2 in
+    let b = bind_some (bytes_at size at.0.1) (λ b. Some (did_of p.0.0 (op.Failed kind.PageOut since.0.0 at.0.0) b.0, b.1)) x at.2 in
     let first = small_at-only words p.0 p.1 in
     let second = wide_at-only p.0.1 since.0 since.1 in
     let third = wide_at-only since.0.1 at.0 at.1 in
     let page = bytes_at-only size at.0.1 b.0 b.1 in
-    let same : (did p.0.0 (op.Failed kind.PageOut since.0.0 at.0.0) b.0.0, b.0.1) ≡ x = cc in
+    let same : (did_of p.0.0 (op.Failed kind.PageOut since.0.0 at.0.0) b.0.0, b.0.1) ≡ x = cc in
     subst (FaultPrints size (codes "out" ∷ words)) same (
       (first.within, (second.within, third.within, page.0)),
       ap (λ r. codes "fault" ∷ codes "out" ∷ r)
@@ -180,11 +181,11 @@ fault_in-row : (size : ℕ) → RowSays (FaultPrints size) (row (codes "in") (fa
 fault_in-row size words x e =
     let p = bind_some (small_at words) _ x e in
     let since = bind_some (wide_at p.0.1) _ x p.2 in
-    let at = bind_some (wide_at since.0.1) (λ at. Some (did p.0.0 (op.Failed kind.PageIn since.0.0 at.0) (replicate size 0), at.1)) x since.2 in
+    let at = bind_some (wide_at since.0.1) (λ at. Some (did_of p.0.0 (op.Failed kind.PageIn since.0.0 at.0) (replicate size 0), at.1)) x since.2 in
     let first = small_at-only words p.0 p.1 in
     let second = wide_at-only p.0.1 since.0 since.1 in
     let third = wide_at-only since.0.1 at.0 at.1 in
-    let same : (did p.0.0 (op.Failed kind.PageIn since.0.0 at.0.0) (replicate size 0), at.0.1) ≡ x = cc in
+    let same : (did_of p.0.0 (op.Failed kind.PageIn since.0.0 at.0.0) (replicate size 0), at.0.1) ≡ x = cc in
     subst (FaultPrints size (codes "in" ∷ words)) same (
       (first.within, (second.within, third.within, refl)),
       ap (λ r. codes "fault" ∷ codes "in" ∷ r) (first.spelled ∙ ap (λ r. decimal p.0.0 ∷ r) (second.spelled ∙ ap (λ r. decimal since.0.0 ∷ r) third.spelled)),

@@ -9,7 +9,7 @@ use Rattle.std.specs.Fmt.{decimal}
 use Rattle.swap_io.specs.Words.{number}
 use Rattle.swap_io.proofs.Back.{number_again, number_one}
 use Rattle.swap_io.proofs.Numbers.{cond_true}
-use Rattle.swap_script.specs.Forms.{small, below}
+use Rattle.swap_script.specs.Forms.{small_number, number_below}
 use Rattle.swap_script.specs.Lines.{is_word}
 use Rattle.swap_transcript.specs.Readers.{Words, small_at, wide_at, one_of, one_wide, two_of, Row, row, by_row, by_row_or, by_rows}
 
@@ -21,16 +21,16 @@ bind_some (Some x) f y e = (x, refl, e)
 pub bound : {A B : Type 0} (o : Option A) (f : A → Option B) (x : A) → o ≡ Some x → option_and_then f o ≡ f x
 bound o f x e = ap (option_and_then f) e
 
-pub small-only : (word : List ℕ) (n : ℕ) → small word ≡ Some n → (word ≡ decimal n) × (n < 2 ^ 32)
+pub small-only : (word : List ℕ) (n : ℕ) → small_number word ≡ Some n → (word ≡ decimal n) × (n < 2 ^ 32)
 small-only word n e =
-    let read = bind_some (number word) (below (2 ^ 32)) n e in
+    let read = bind_some (number word) (number_below (2 ^ 32)) n e in
     let fits = cond_some (nat_lt read.0 (2 ^ 32)) read.0 n read.2 in
     let same : number word ≡ Some n = read.1 ∙ ap (λ m. Some m) fits.1 in
     ((number_one word n same).0, subst (λ m. m < 2 ^ 32) fits.1 (ltb-true read.0 (2 ^ 32) fits.0))
 
-pub small-back : (n : ℕ) → n < 2 ^ 32 → small (decimal n) ≡ Some n
+pub small-back : (n : ℕ) → n < 2 ^ 32 → small_number (decimal n) ≡ Some n
 small-back n l =
-    bound (number (decimal n)) (below (2 ^ 32)) n (number_again n (omega arith)) ∙ cond_true (nat_lt n (2 ^ 32)) (Some n) None (lt-ltb n (2 ^ 32) l)
+    bound (number (decimal n)) (number_below (2 ^ 32)) n (number_again n (omega arith)) ∙ cond_true (nat_lt n (2 ^ 32)) (Some n) None (lt-ltb n (2 ^ 32) l)
 
 -- one number in front of other words
 pub record Number (limit : ℕ) (words : Words) (n : ℕ) (rest : Words) : Type 0 where
@@ -40,7 +40,7 @@ pub record Number (limit : ℕ) (words : Words) (n : ℕ) (rest : Words) : Type 
 pub small_at-only : (words : Words) (x : ℕ × Words) → small_at words ≡ Some x → Number (2 ^ 32) words x.0 x.1
 small_at-only [] x e = cc
 small_at-only (word ∷ words) x e =
-    let read = bind_some (small word) (λ n. Some (n, words)) x e in
+    let read = bind_some (small_number word) (λ n. Some (n, words)) x e in
     let one = small-only word read.0 read.1 in
     let same : (read.0, words) ≡ x = cc in
     subst (λ y. Number (2 ^ 32) (word ∷ words) y.0 y.1) same (record { spelled = ap (λ w. w ∷ words) one.0; within = one.1 })
@@ -54,7 +54,7 @@ wide_at-only (word ∷ words) x e =
     subst (λ y. Number (2 ^ 64) (word ∷ words) y.0 y.1) same (record { spelled = ap (λ w. w ∷ words) one.0; within = one.1 })
 
 pub small_at-back : (n : ℕ) (rest : Words) → n < 2 ^ 32 → small_at (decimal n ∷ rest) ≡ Some (n, rest)
-small_at-back n rest l = bound (small (decimal n)) (λ m. Some (m, rest)) n (small-back n l)
+small_at-back n rest l = bound (small_number (decimal n)) (λ m. Some (m, rest)) n (small-back n l)
 
 pub wide_at-back : (n : ℕ) (rest : Words) → n < 2 ^ 64 → wide_at (decimal n ∷ rest) ≡ Some (n, rest)
 wide_at-back n rest l = bound (number (decimal n)) (λ m. Some (m, rest)) n (number_again n l)

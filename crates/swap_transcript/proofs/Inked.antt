@@ -16,7 +16,7 @@ use Rattle.swap_base.specs.declared.EntryNo.{EntryNo}
 use Rattle.swap_base.specs.declared.CallKind.TheVariants as kind
 use Rattle.swap_base.specs.declared.DiskWhich.TheVariants as which
 use Rattle.swap_base.specs.Sizes.{Sizes}
-use Rattle.swap_io.specs.Words.{is_hex_digit, pairs, filled, shortest}
+use Rattle.swap_io.specs.Words.{is_hex_digit, pairs, fill_page, shortest}
 use Rattle.swap_io.proofs.Numbers.{own}
 use Rattle.swap_choice.specs.Slots.{has, slots}
 use Rattle.swap_record.specs.declared.Op.{Op}
@@ -65,7 +65,7 @@ hex_inked (d ∷ ds) h =
     let parts = and_parts (is_hex_digit d) (list_all is_hex_digit ds) h in
     and_from (nat_lt 32 d) (list_all (λ b. nat_lt 32 b) ds) (grind (arith, nat_tests, parts.0)) (hex_inked ds parts.1)
 
-is_piece_of : (size : ℕ) (b : Bool) (piece page : List ℕ) → filled size (cond b (Some piece) None) ≡ Some page → b ≡ true
+is_piece_of : (size : ℕ) (b : Bool) (piece page : List ℕ) → fill_page size (cond b (Some piece) None) ≡ Some page → b ≡ true
 is_piece_of size true piece page e = refl
 is_piece_of size false piece page e = cc
 

@@ -11,20 +11,20 @@ use Rattle.swap_script.specs.declared.Why.{Why}
 use Rattle.swap_script.specs.declared.Why.TheVariants as why
 use Rattle.swap_script.specs.declared.ScriptRefused.{ScriptRefused}
 use Rattle.swap_script.specs.Lines.{words_of, is_word}
-use Rattle.swap_script.specs.Reading.{◌>>=◌, at, caller_of, has_caller, has_page}
+use Rattle.swap_script.specs.Reading.{◌>>=◌, fault_at, caller_of, has_caller, has_page}
 use Rattle.swap_transcript.specs.Readers.{Words}
 use Rattle.swap_transcript.specs.Told.{page_word}
-use Rattle.swap_transcript.specs.Transcripts.{Pair, Above, Judged, pair_of, checked, counted, end_rest, end_number, counts, ended_at, before, pairs_from, with_pair, judging, tests, entries_in, tells_page}
+use Rattle.swap_transcript.specs.Transcripts.{Pair, Above, Judged, pair_of, check_pair, count_pair, end_rest, end_number, counts, ended_at, pair_before, pairs_from, with_pair, judging, tests, entries_in, tells_page}
 use Rattle.swap_script.specs.declared.TheConstants.{CALL_BYTES, EVENT_LIMIT}
 
 -- a line that isn't the end's
 abbrev pair_line : Sizes → ℕ → Above → ℕ → List (ℕ × List ℕ) → Result Pair Why → Result (List Pair) ScriptRefused
-pair_line s end above n rest read = at n read >>= λ pair. before pair (pairs_from s end (counted above pair) rest)
+pair_line s end above n rest read = fault_at n read >>= λ pair. pair_before pair (pairs_from s end (count_pair above pair) rest)
 
 abbrev either : Sizes → ℕ → Above → ℕ → List ℕ → List (ℕ × List ℕ) → Option Words → Result (List Pair) ScriptRefused
 either s end above n text rest o =
     option_map_or (λ behind. ended_at n (counts above.entries (end_number behind)) rest) o
-    (pair_line s end above n rest (checked s above (pair_of s (words_of text))))
+    (pair_line s end above n rest (check_pair s above (pair_of s (words_of text))))
 
 four : (v w x y : Why) (a b c d : Bool) → first_beyond ((v, a) ∷ (w, b) ∷ (x, c) ∷ (y, d) ∷ []) ≡ None → (a ≡ true) × (d ≡ true)
 four v w x y true true true true e = (refl, refl)

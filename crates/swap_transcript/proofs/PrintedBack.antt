@@ -7,12 +7,12 @@ use Rattle.swap_base.specs.declared.DiskWhich.TheVariants as which
 use Rattle.swap_base.specs.declared.geometry.LenderSpec.{LenderSpec}
 use Rattle.swap_wire.specs.declared.Event.{Event}
 use Rattle.swap_wire.specs.declared.Event.TheVariants as event
-use Rattle.swap_script.specs.Lines.{spaced, is_skipped}
+use Rattle.swap_script.specs.Lines.{with_spaces, is_skipped}
 use Rattle.swap_script.specs.Reading.{IsWithinLimits}
 use Rattle.swap_script.specs.Transcript.{event_words}
 use Rattle.swap_transcript.specs.Readers.{Words}
 use Rattle.swap_transcript.specs.Printed.{told_words, pair_words}
-use Rattle.swap_transcript.specs.Transcripts.{Pair, Above, nothing_above, counted}
+use Rattle.swap_transcript.specs.Transcripts.{Pair, Above, nothing_above, count_pair}
 use Rattle.swap_transcript.specs.Verdicts.{entries_of}
 use Rattle.swap_transcript.specs.Laws.{geometry_words, lender_words, end_words, transcript_words, MayStandBelow, MayFollow, text_of, PrintedIsRead}
 use Rattle.swap_transcript.proofs.Inked.{small_inked, pair_inked}
@@ -72,7 +72,7 @@ lenders_printed : (s : Sizes) (others specs : List LenderSpec) → MayStandBelow
 lenders_printed s others [] h = tt
 lenders_printed s others (spec ∷ specs) h = (lender_printed spec h.0, lenders_printed s (others ++ spec ∷ []) specs h.2)
 
-event_counts : (e : Event) (words : Words) → is_skipped (spaced (event_words e ++ codes "=" ∷ words)) ≡ false
+event_counts : (e : Event) (words : Words) → is_skipped (with_spaces (event_words e ++ codes "=" ∷ words)) ≡ false
 event_counts (event.PageOut c p) words = refl
 event_counts (event.PageIn c p) words = refl
 event_counts (event.Finish c) words = refl
@@ -93,7 +93,7 @@ pairs_printed : (s : Sizes) (above : Above) (pairs : List Pair) → MayFollow s 
 pairs_printed s above [] h = tt
 pairs_printed s above (pair ∷ pairs) h = (
   record { first = _; others = _; are = refl; inked = pair_inked s pair h.0; counts = event_counts pair.event (told_words pair.told) },
-  pairs_printed s (counted above pair) pairs h.2,
+  pairs_printed s (count_pair above pair) pairs h.2,
 )
 
 end_printed : (n : ℕ) → n < 2 ^ 32 → IsPrintedLine (end_words n)

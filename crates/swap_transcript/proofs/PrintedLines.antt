@@ -5,13 +5,13 @@ use Rattle.std.proofs.lemmas.Bool.{eqb-true}
 use Rattle.swap_base.specs.declared.EntryNo.{EntryNo}
 use Rattle.swap_base.specs.declared.Lender.{Lender}
 use Rattle.swap_base.specs.declared.Page.{Page}
-use Rattle.swap_record.specs.History.{History, Row, named}
+use Rattle.swap_record.specs.History.{History, Row, row_named}
 use Rattle.swap_record.specs.Text.{row_words, op_words}
 use Rattle.swap_record.specs.declared.Op.{Op}
 use Rattle.swap_record.specs.declared.Op.TheVariants as op
 use Rattle.swap_wire.specs.declared.Seen.{Seen}
 use Rattle.swap_wire.specs.declared.Seen.TheVariants as seen
-use Rattle.swap_script.specs.Lines.{onto_first, words_of, spaced, ended, kept_lines}
+use Rattle.swap_script.specs.Lines.{onto_first, words_of, with_spaces, with_line_end, kept_lines}
 use Rattle.swap_script.specs.Transcript.{line, event_words, seen_words, sent_words}
 use Rattle.swap_transcript.specs.Readers.{Words}
 use Rattle.swap_transcript.specs.Told.{Told, Saw, Entered}
@@ -33,29 +33,29 @@ some_words : (line : List ℕ) → Some_words (words_of line)
 some_words [] = record { first = []; others = []; are = refl }
 some_words (b ∷ line) = some_if b (eqb b 32) (words_of line) (some_words line)
 
-onto : (b : ℕ) (first : List ℕ) (others : Words) → spaced ((b ∷ first) ∷ others) ≡ b ∷ spaced (first ∷ others)
+onto : (b : ℕ) (first : List ℕ) (others : Words) → with_spaces ((b ∷ first) ∷ others) ≡ b ∷ with_spaces (first ∷ others)
 onto b first [] = refl
 onto b first (next ∷ others) = refl
 
 spaced_if :
     (b : ℕ) (t : Bool) (first : List ℕ) (others : Words) → eqb b 32 ≡ t
-    → spaced (cond t ([] ∷ first ∷ others) ((b ∷ first) ∷ others)) ≡ b ∷ spaced (first ∷ others)
-spaced_if b true first others is = ap (λ x. x ∷ spaced (first ∷ others)) (sym (eqb-true b 32 is))
+    → with_spaces (cond t ([] ∷ first ∷ others) ((b ∷ first) ∷ others)) ≡ b ∷ with_spaces (first ∷ others)
+spaced_if b true first others is = ap (λ x. x ∷ with_spaces (first ∷ others)) (sym (eqb-true b 32 is))
 spaced_if b false first others is = onto b first others
 
-spaced-words_of : (line : List ℕ) → spaced (words_of line) ≡ line
+spaced-words_of : (line : List ℕ) → with_spaces (words_of line) ≡ line
 spaced-words_of [] = refl
 spaced-words_of (b ∷ line) =
     let some = some_words line in
-    ap (λ w. spaced (cond (eqb b 32) ([] ∷ w) (onto_first b w))) some.are ∙ spaced_if b (eqb b 32) some.first some.others refl
-    ∙ ap (λ w. b ∷ spaced w) (sym some.are) ∙ ap (λ l. b ∷ l) (spaced-words_of line)
+    ap (λ w. with_spaces (cond (eqb b 32) ([] ∷ w) (onto_first b w))) some.are ∙ spaced_if b (eqb b 32) some.first some.others refl
+    ∙ ap (λ w. b ∷ with_spaces w) (sym some.are) ∙ ap (λ l. b ∷ l) (spaced-words_of line)
 
-texts_are : (lines : List (ℕ × List ℕ)) → map (λ numbered. numbered.1) lines ≡ map spaced (words_in lines)
+texts_are : (lines : List (ℕ × List ℕ)) → map (λ numbered. numbered.1) lines ≡ map with_spaces (words_in lines)
 texts_are [] = refl
 texts_are ((n, text) ∷ rest) = ap₂ (λ t ts. t ∷ ts) (sym (spaced-words_of text)) (texts_are rest)
 
 pub bytes_are_printed : BytesArePrinted
-bytes_are_printed text t e = texts_are (kept_lines text) ∙ ap (map spaced) (transcript-only text t e).lines
+bytes_are_printed text t e = texts_are (kept_lines text) ∙ ap (map with_spaces) (transcript-only text t e).lines
 
 -- a result without an entry is printed alike beside every history
 plain_words : (H : History) (x : Seen) → IsPlain x → seen_words H x ≡ seen_words [] x
@@ -72,7 +72,7 @@ row-are n row page bytes o same_page same_op same_bytes =
 
 entered-are :
     (H : History) (e : EntryNo) (page : Page) (bytes : List ℕ) (o : Op) (sent : Option Lender) → MayBeSent o sent
-    → row_words e.0 (named H e.0) ≡ codes "entry" ∷ decimal e.0 ∷ op_words page.0 bytes o
+    → row_words e.0 (row_named H e.0) ≡ codes "entry" ∷ decimal e.0 ∷ op_words page.0 bytes o
     → seen_words H (seen_by o e sent) ≡ codes "entry" ∷ decimal e.0 ∷ (op_words page.0 bytes o ++ sent_words sent)
 entered-are H e page bytes op.PageOut sent may row = ap (λ w. w ++ sent_words sent) row
 entered-are H e page bytes (op.PageIn named from) sent may row = ap (λ w. w ++ sent_words sent) row
@@ -88,4 +88,4 @@ told_are H (Entered shown) h =
     (ap (row_words shown.no.0) h.is ∙ row-are shown.no.0 h.row shown.page shown.bytes shown.op h.page h.op h.bytes)
 
 pub lines_are_printed : LinesArePrinted
-lines_are_printed H pair h = ap (λ w. ended (spaced (event_words pair.event ++ codes "=" ∷ w))) (told_are H pair.told h)
+lines_are_printed H pair h = ap (λ w. with_line_end (with_spaces (event_words pair.event ++ codes "=" ∷ w))) (told_are H pair.told h)

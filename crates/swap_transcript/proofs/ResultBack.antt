@@ -22,7 +22,7 @@ use Rattle.swap_wire.specs.declared.Event.TheVariants as event
 use Rattle.swap_wire.specs.declared.Seen.{Seen}
 use Rattle.swap_wire.specs.declared.Seen.TheVariants as seen
 use Rattle.swap_record.specs.Text.{op_words}
-use Rattle.swap_script.specs.Forms.{small}
+use Rattle.swap_script.specs.Forms.{small_number}
 use Rattle.swap_script.specs.Lines.{is_word}
 use Rattle.swap_script.specs.Transcript.{seen_words, msg_name, msg_words, reply_words, evicted_words, slots_behind, sent_words}
 use Rattle.swap_transcript.specs.Readers.{Words, small_at, word_at, one_of, whole}
@@ -167,7 +167,7 @@ rounded-back :
 rounded-back s w effects mapped le lm =
     else_if (is_word (codes "entry") (decimal effects)) _ _ (is_not_decimal (codes "entry") effects refl (omega arith))
     ∙ ap (option_map Saw)
-    (bound (small (decimal effects))
+    (bound (small_number (decimal effects))
     (λ n. option_and_then (λ behind. one_number (λ m. seen.Rounded n m) behind) (word_at (codes "mapped") (codes "mapped" ∷ decimal mapped ∷ []))) effects
     (small-back effects le)
     ∙ last-back (λ m. seen.Rounded effects m) mapped lm)

@@ -12,7 +12,7 @@ use Rattle.swap_base.specs.declared.DiskWhich.TheVariants as which
 use Rattle.swap_choice.specs.Slots.{slots}
 use Rattle.swap_io.specs.Words.{number}
 use Rattle.swap_io.proofs.Back.{number_one}
-use Rattle.swap_script.specs.Forms.{small}
+use Rattle.swap_script.specs.Forms.{small_number}
 use Rattle.swap_script.specs.Lines.{is_word}
 use Rattle.swap_script.specs.Transcript.{seen_words, via_words, msg_words, reply_words, evicted_words, slots_behind, event_words}
 use Rattle.swap_wire.specs.declared.Msg.{Msg}
@@ -25,7 +25,7 @@ use Rattle.swap_transcript.specs.Messages.{msg_rows, msg_at, HasMsgWords}
 use Rattle.swap_transcript.specs.Events.{event_at}
 use Rattle.swap_transcript.specs.Told.{Told, Saw, Entered, entry_of}
 use Rattle.swap_transcript.specs.Gave.{slots_of, evicted_of, reply_of, ended_of, gave_behind}
-use Rattle.swap_transcript.specs.Results.{bare, last_number, one_number, two_numbers, via_rows, via_of, wait_of, again_of, second_of, asked_of, hosted_behind, hosted_of, rounded_of, took_of, gave_of, out_rows, in_rows, finish_rows, start_rows, disk_rows, tick_rows, map_rows, connect_rows, cut_rows, crash_rows, give_rows, take_rows, nothing_rows, seen_of, agrees, entered_at, told_of}
+use Rattle.swap_transcript.specs.Results.{bare_result, last_number, one_number, two_numbers, via_rows, via_of, wait_of, again_of, second_of, asked_of, hosted_behind, hosted_of, rounded_of, took_of, gave_of, out_rows, in_rows, finish_rows, start_rows, disk_rows, tick_rows, map_rows, connect_rows, cut_rows, crash_rows, give_rows, take_rows, nothing_rows, seen_of, agrees, entered_at, told_of}
 use Rattle.swap_transcript.specs.Printed.{HasViaWords, MaySee, MayTell, HasPairWords, told_words, pair_words}
 use Rattle.swap_transcript.specs.Transcripts.{Pair, pair_behind, pair_of}
 use Rattle.swap_transcript.proofs.Front.{bind_some, small-only, small_at-only, RowSays, Prints, from-row, one-row, by_row-only, by_row_or-only, by_rows-only, two-only, Number}
@@ -45,7 +45,7 @@ whole-only (b, []) a e =
     ap (λ y. (y, [])) same
 whole-only (b, word ∷ words) a e = cc
 
-bare-row : (s : Sizes) (e : Event) (name : List ℕ) (o : Seen) → name ∷ [] ≡ seen_words [] o → MaySee s e o → RowSays (Sees s e) (row name (bare o))
+bare-row : (s : Sizes) (e : Event) (name : List ℕ) (o : Seen) → name ∷ [] ≡ seen_words [] o → MaySee s e o → RowSays (Sees s e) (row name (bare_result o))
 bare-row s e name o spells may [] x is =
     let same : o ≡ x = cc in
     subst (Sees s e (name ∷ [])) same (may, spells)
@@ -222,7 +222,7 @@ hosted_of-only s l u w word words x is =
 rounded_of-only : (s : Sizes) (w : ℕ) (word : List ℕ) (words : Words) (x : Seen) → rounded_of word words ≡ Some x → Sees s (event.Round w) (word ∷ words) x
 rounded_of-only s w word words x is =
     let effects =
-    bind_some (small word)
+    bind_some (small_number word)
     (λ effects. option_and_then (λ behind. one_number (λ mapped. seen.Rounded effects mapped) behind) (word_at (codes "mapped") words)) x is in
     let behind = bind_some (word_at (codes "mapped") words) (λ behind. one_number (λ mapped. seen.Rounded effects.0 mapped) behind) x effects.2 in
     let mapped = bind_some (last_number behind.0) (λ mapped. Some (seen.Rounded effects.0 mapped)) x behind.2 in

@@ -8,7 +8,7 @@ use Rattle.std.proofs.lemmas.Nat.{or_lt, pow_below}
 use Rattle.std.proofs.lemmas.Nat.Bits.{bit_at-zero, bit_at-lt, same_from_bits_below}
 use Rattle.swap_choice.specs.Slots.{has, slots}
 use Rattle.swap_choice.proofs.Ranks.{has-fold}
-use Rattle.swap_script.specs.Forms.{small}
+use Rattle.swap_script.specs.Forms.{small_number}
 use Rattle.swap_transcript.specs.Readers.{Words}
 use Rattle.swap_transcript.specs.Gave.{slots_from, slots_of}
 use Rattle.swap_transcript.proofs.Front.{bind_some, bound, small-only, small-back}
@@ -76,7 +76,8 @@ slots_from-only [] least set r l empty e =
     subst (λ x. ReadFrom least set x []) same
     (record { same = λ i a. refl; spelled = sym (ap (map decimal) (none_upwards set least (64 - least) (omega arith) empty)); small = λ a. a })
 slots_from-only (word ∷ words) least set r l empty e =
-    let read = bind_some (small word) (λ slot. cond (nat_le least slot && nat_lt slot 64) (slots_from (slot + 1) (bit_or set (2 ^ slot)) words) None) r e in
+    let read =
+    bind_some (small_number word) (λ slot. cond (nat_le least slot && nat_lt slot 64) (slots_from (slot + 1) (bit_or set (2 ^ slot)) words) None) r e in
     let slot = read.0 in
     let more = bit_or set (2 ^ slot) in
     let c = cond_then (nat_le least slot && nat_lt slot 64) (slots_from (slot + 1) more words) r read.2 in
@@ -131,7 +132,7 @@ back_at :
     → Agree part set least → Empty part least
     → slots_from low part (map decimal (cond b (least ∷ upwards set (least + 1) many) (upwards set (least + 1) many))) ≡ Some set
 back_at many least set low part true later is l within smaller agree empty =
-    bound (small (decimal least))
+    bound (small_number (decimal least))
     (λ slot. cond (nat_le low slot && nat_lt slot 64) (slots_from (slot + 1) (bit_or part (2 ^ slot)) (map decimal (upwards set (least + 1) many))) None)
     least
     (small-back least (omega arith))
@@ -144,8 +145,8 @@ back_at many least set low part false later is l within smaller agree empty =
 
 slots_from-back : (many least set : ℕ) → least + many ≡ 64 → set < 2 ^ 64 → ReadsBack set least many
 slots_from-back zero least set sum small low part l smaller agree empty = ap (λ x. Some x) (same_slots part set smaller small (λ i a. agree i (omega arith)))
-slots_from-back (suc many) least set sum small low part l smaller agree empty =
-    back_at many least set low part (has set least) (slots_from-back many (least + 1) set (omega arith) small) refl l (omega arith) smaller agree empty
+slots_from-back (suc many) least set sum small_number low part l smaller agree empty =
+    back_at many least set low part (has set least) (slots_from-back many (least + 1) set (omega arith) small_number) refl l (omega arith) smaller agree empty
 
 -- the slots of a whole set
 whole_slots : (set : ℕ) → upwards set 0 64 ≡ slots set
@@ -176,8 +177,8 @@ slots_of-only words set e =
     (record { small = from.small (omega arith); some = ap (λ n. eqb n 0) same.0 ∙ same.1; spelled = from.spelled ∙ ap (map decimal) (whole_slots read.0) })
 
 pub slots_of-back : (set : ℕ) → set < 2 ^ 64 → eqb set 0 ≡ false → slots_of (map decimal (slots set)) ≡ Some set
-slots_of-back set small some =
+slots_of-back set small_number some =
     ap (λ s. slots_of (map decimal s)) (sym (whole_slots set))
     ∙ bound (slots_from 0 0 (map decimal (upwards set 0 64))) (λ set. cond (eqb set 0) None (Some set)) set
-    (slots_from-back 64 0 set refl small 0 0 (omega arith) (omega arith) (λ i a. absurd (omega arith)) (none_yet 0))
+    (slots_from-back 64 0 set refl small_number 0 0 (omega arith) (omega arith) (λ i a. absurd (omega arith)) (none_yet 0))
     ∙ ap (λ b. cond b None (Some set)) some

@@ -16,10 +16,10 @@ use Rattle.swap_script.specs.declared.Why.{Why}
 use Rattle.swap_script.specs.declared.Why.TheVariants as why
 use Rattle.swap_script.specs.declared.ScriptRefused.{ScriptRefused}
 use Rattle.swap_script.specs.Lines.{words_of, is_word}
-use Rattle.swap_script.specs.Forms.{small, sizes_words, spec_words}
-use Rattle.swap_script.specs.Reading.{◌>>=◌, at, unless, fielded, sizes_within, geometry_line, spec_within, lending_tests, lender_line, lender_rest, Front, front_from, IsWithinLimits}
+use Rattle.swap_script.specs.Forms.{small_number, sizes_words, spec_words}
+use Rattle.swap_script.specs.Reading.{◌>>=◌, fault_at, value_unless, field_fault, sizes_within, geometry_line, spec_within, lending_tests, lender_line, lender_rest, Front, front_from, IsWithinLimits}
 use Rattle.swap_transcript.specs.Readers.{Words}
-use Rattle.swap_transcript.specs.Transcripts.{Pair, Above, counted, tests, checked, end_rest, end_number, counts, ended_at, nothing_behind, before, pairs_from, pair_of}
+use Rattle.swap_transcript.specs.Transcripts.{Pair, Above, count_pair, tests, check_pair, end_rest, end_number, counts, ended_at, nothing_behind, pair_before, pairs_from, pair_of}
 use Rattle.swap_transcript.specs.Printed.{pair_words}
 use Rattle.swap_transcript.specs.Laws.{sizes_rest, spec_rest, geometry_words, lender_words, end_words, words_in, MayStandBelow, MayFollow}
 use Rattle.swap_script.proofs.Read.{passes}
@@ -30,18 +30,18 @@ pub bind_ok : {A B E : Type 0} (r : Result A E) (f : A → Result B E) (y : B) �
 bind_ok (Ok x) f y e = (x, refl, e)
 bind_ok (Err x) f y e = cc
 
-pub at_ok : {A : Type 0} (n : ℕ) (r : Result A Why) (x : A) → at n r ≡ Ok x → r ≡ Ok x
+pub at_ok : {A : Type 0} (n : ℕ) (r : Result A Why) (x : A) → fault_at n r ≡ Ok x → r ≡ Ok x
 at_ok n (Ok y) x e =
     let same : y ≡ x = cc in
     ap (λ z. Ok z) same
 at_ok n (Err w) x e = cc
 
-unless_ok : {A E : Type 0} (o : Option E) (x y : A) → unless o x ≡ Ok y → (o ≡ None) × (x ≡ y)
+unless_ok : {A E : Type 0} (o : Option E) (x y : A) → value_unless o x ≡ Ok y → (o ≡ None) × (x ≡ y)
 unless_ok None x y e = (refl, cc)
 unless_ok (Some w) x y e = cc
 
 -- a list with its numbers, or none
-small_words-only : (word : List ℕ) (n : ℕ) → small word ≡ Some n → word ≡ decimal n
+small_words-only : (word : List ℕ) (n : ℕ) → small_number word ≡ Some n → word ≡ decimal n
 small_words-only word n e = (small-only word n e).0
 
 spec_words-only : (words : Words) (spec : LenderSpec) → spec_words words ≡ Some spec → words ≡ spec_rest spec
@@ -49,9 +49,9 @@ spec_words-only [] spec e = cc
 spec_words-only (a ∷ []) spec e = cc
 spec_words-only (a ∷ b ∷ []) spec e = cc
 spec_words-only (a ∷ b ∷ c ∷ []) spec e =
-    let x = bind_some (small a) _ spec e in
-    let y = bind_some (small b) _ spec x.2 in
-    let z = bind_some (small c) (λ extra. Some (record { slots = x.0; headroom = y.0; extra = extra })) spec y.2 in
+    let x = bind_some (small_number a) _ spec e in
+    let y = bind_some (small_number b) _ spec x.2 in
+    let z = bind_some (small_number c) (λ extra. Some (record { slots = x.0; headroom = y.0; extra = extra })) spec y.2 in
     let same : record { slots = x.0; headroom = y.0; extra = z.0 } ≡ spec = cc in
     ap (λ w. w ∷ b ∷ c ∷ []) (small_words-only a x.0 x.1) ∙ ap (λ w. decimal x.0 ∷ w ∷ c ∷ []) (small_words-only b y.0 y.1)
     ∙ ap (λ w. decimal x.0 ∷ decimal y.0 ∷ w ∷ []) (small_words-only c z.0 z.1) ∙ ap spec_rest same
@@ -59,9 +59,9 @@ spec_words-only (a ∷ b ∷ c ∷ d ∷ rest) spec e = cc
 
 spec_words-back : (spec : LenderSpec) → spec.slots < 2 ^ 32 → spec.headroom < 2 ^ 32 → spec.extra < 2 ^ 32 → spec_words (spec_rest spec) ≡ Some spec
 spec_words-back spec x y z =
-    bound (small (decimal spec.slots)) _ spec.slots (small-back spec.slots x)
-    ∙ bound (small (decimal spec.headroom)) _ spec.headroom (small-back spec.headroom y)
-    ∙ bound (small (decimal spec.extra)) (λ extra. Some (record { slots = spec.slots; headroom = spec.headroom; extra = extra })) spec.extra
+    bound (small_number (decimal spec.slots)) _ spec.slots (small-back spec.slots x)
+    ∙ bound (small_number (decimal spec.headroom)) _ spec.headroom (small-back spec.headroom y)
+    ∙ bound (small_number (decimal spec.extra)) (λ extra. Some (record { slots = spec.slots; headroom = spec.headroom; extra = extra })) spec.extra
     (small-back spec.extra z)
 
 sizes_words-only : (words : Words) (s : Sizes) → sizes_words words ≡ Some s → words ≡ sizes_rest s
@@ -73,14 +73,14 @@ sizes_words-only (a ∷ b ∷ c ∷ d ∷ []) s h = cc
 sizes_words-only (a ∷ b ∷ c ∷ d ∷ e ∷ []) s h = cc
 sizes_words-only (a ∷ b ∷ c ∷ d ∷ e ∷ f ∷ []) s h = cc
 sizes_words-only (a ∷ b ∷ c ∷ d ∷ e ∷ f ∷ g ∷ []) s h =
-    let p = bind_some (small a) _ s h in
-    let q = bind_some (small b) _ s p.2 in
-    let r = bind_some (small c) _ s q.2 in
-    let t = bind_some (small d) _ s r.2 in
-    let u = bind_some (small e) _ s t.2 in
-    let v = bind_some (small f) _ s u.2 in
+    let p = bind_some (small_number a) _ s h in
+    let q = bind_some (small_number b) _ s p.2 in
+    let r = bind_some (small_number c) _ s q.2 in
+    let t = bind_some (small_number d) _ s r.2 in
+    let u = bind_some (small_number e) _ s t.2 in
+    let v = bind_some (small_number f) _ s u.2 in
     let w =
-    bind_some (small g)
+    bind_some (small_number g)
     (λ hot. Some (record { page_bytes = p.0; pages_per_slab = q.0; slabs = r.0; queue = t.0; callers = u.0; window = v.0; hot = hot })) s v.2 in
     let same : record { page_bytes = p.0; pages_per_slab = q.0; slabs = r.0; queue = t.0; callers = u.0; window = v.0; hot = w.0 } ≡ s = cc in
     ap (λ x. x ∷ b ∷ c ∷ d ∷ e ∷ f ∷ g ∷ []) (small_words-only a p.0 p.1)
@@ -95,13 +95,13 @@ sizes_words-only (a ∷ b ∷ c ∷ d ∷ e ∷ f ∷ g ∷ i ∷ rest) s h = cc
 
 sizes_words-back : (s : Sizes) → IsWithin s → sizes_words (sizes_rest s) ≡ Some s
 sizes_words-back s h =
-    bound (small (decimal s.page_bytes)) _ s.page_bytes (small-back s.page_bytes (omega (arith, h.page_bytes.1)))
-    ∙ bound (small (decimal s.pages_per_slab)) _ s.pages_per_slab (small-back s.pages_per_slab (omega (arith, h.pages_per_slab.1)))
-    ∙ bound (small (decimal s.slabs)) _ s.slabs (small-back s.slabs (omega (arith, h.slabs.1)))
-    ∙ bound (small (decimal s.queue)) _ s.queue (small-back s.queue (omega (arith, h.queue.1)))
-    ∙ bound (small (decimal s.callers)) _ s.callers (small-back s.callers (omega (arith, h.callers.1)))
-    ∙ bound (small (decimal s.window)) _ s.window (small-back s.window (omega (arith, h.window.1)))
-    ∙ bound (small (decimal s.hot))
+    bound (small_number (decimal s.page_bytes)) _ s.page_bytes (small-back s.page_bytes (omega (arith, h.page_bytes.1)))
+    ∙ bound (small_number (decimal s.pages_per_slab)) _ s.pages_per_slab (small-back s.pages_per_slab (omega (arith, h.pages_per_slab.1)))
+    ∙ bound (small_number (decimal s.slabs)) _ s.slabs (small-back s.slabs (omega (arith, h.slabs.1)))
+    ∙ bound (small_number (decimal s.queue)) _ s.queue (small-back s.queue (omega (arith, h.queue.1)))
+    ∙ bound (small_number (decimal s.callers)) _ s.callers (small-back s.callers (omega (arith, h.callers.1)))
+    ∙ bound (small_number (decimal s.window)) _ s.window (small-back s.window (omega (arith, h.window.1)))
+    ∙ bound (small_number (decimal s.hot))
     (λ hot.
     Some
     (record {
@@ -117,7 +117,7 @@ sizes_words-back s h =
     (small-back s.hot (omega (arith, h.hot.1)))
 
 -- the geometry's line
-fielded_ok : (o : Option Field) (x s : Sizes) → fielded (unless o x) ≡ Ok s → (o ≡ None) × (x ≡ s)
+fielded_ok : (o : Option Field) (x s : Sizes) → field_fault (value_unless o x) ≡ Ok s → (o ≡ None) × (x ≡ s)
 fielded_ok None x s e = (refl, cc)
 fielded_ok (Some f) x s e = cc
 
@@ -140,7 +140,7 @@ geometry-only [] s e = cc
 geometry-only (word ∷ words) s e = geometry_if word words s (is_word (codes "geometry") word) refl e
 
 pub geometry-back : (s : Sizes) → AreInLimits s → geometry_line (geometry_words s) ≡ Ok s
-geometry-back s h = ap sizes_within (sizes_words-back s (within_limits s h)) ∙ ap (λ o. fielded (unless o s)) h
+geometry-back s h = ap sizes_within (sizes_words-back s (within_limits s h)) ∙ ap (λ o. field_fault (value_unless o s)) h
 
 -- a lender's line
 within_64 : (low n : ℕ) → is_within low 64 n ≡ true → n < 2 ^ 32
@@ -176,7 +176,7 @@ lender-only :
     (s : Sizes) (others : List LenderSpec) (words : Words) (spec : LenderSpec) → lender_line s others words ≡ Ok spec
     → MayStand s others spec × (words ≡ spec_rest spec)
 lender-only s others words spec e =
-    let x = bind_ok (spec_within (spec_words words)) (λ spec. unless (first_beyond (lending_tests s (others ++ spec ∷ []))) spec) spec e in
+    let x = bind_ok (spec_within (spec_words words)) (λ spec. value_unless (first_beyond (lending_tests s (others ++ spec ∷ []))) spec) spec e in
     let ok = unless_ok (first_beyond (lending_tests s (others ++ x.0 ∷ []))) x.0 spec x.2 in
     let read = spec_if words x.0 (spec_words words) refl x.1 in
     subst (λ y. MayStand s others y × (words ≡ spec_rest y)) ok.1 ((read.0, ok.0), read.1)
@@ -184,9 +184,9 @@ lender-only s others words spec e =
 lender-back : (s : Sizes) (others : List LenderSpec) (spec : LenderSpec) → MayStand s others spec → lender_line s others (spec_rest spec) ≡ Ok spec
 lender-back s others spec h =
     let few = spec_small spec h.0 in
-    ap (λ o. spec_within o >>= λ spec. unless (first_beyond (lending_tests s (others ++ spec ∷ []))) spec) (spec_words-back spec few.0 few.1 few.2)
-    ∙ ap (λ o. unless (option_map why.Field o) spec >>= λ spec. unless (first_beyond (lending_tests s (others ++ spec ∷ []))) spec) h.0
-    ∙ ap (λ o. unless o spec) h.1
+    ap (λ o. spec_within o >>= λ spec. value_unless (first_beyond (lending_tests s (others ++ spec ∷ []))) spec) (spec_words-back spec few.0 few.1 few.2)
+    ∙ ap (λ o. value_unless (option_map why.Field o) spec >>= λ spec. value_unless (first_beyond (lending_tests s (others ++ spec ∷ []))) spec) h.0
+    ∙ ap (λ o. value_unless o spec) h.1
 
 named_rest : (name word : List ℕ) (words rest : Words) → cond (is_word name word) (Some words) None ≡ Some rest → word ∷ words ≡ name ∷ rest
 named_rest name word words rest e =
@@ -212,7 +212,7 @@ front_if :
     (s : Sizes) (others : List LenderSpec) (n : ℕ) (text : List ℕ) (rest : List (ℕ × List ℕ)) (front : Front) (o : Option Words)
     → lender_rest (words_of text) ≡ o
     → ((more : List LenderSpec) → front_from s more rest ≡ Ok front → Lenders s more rest front)
-    → option_map_or (λ words. at n (lender_line s others words) >>= λ spec. front_from s (others ++ spec ∷ []) rest) o
+    → option_map_or (λ words. fault_at n (lender_line s others words) >>= λ spec. front_from s (others ++ spec ∷ []) rest) o
     (Ok (record { lenders = others; lines = (n, text) ∷ rest }))
     ≡ Ok front
     → Lenders s others ((n, text) ∷ rest) front
@@ -220,7 +220,7 @@ front_if s others n text rest front None is later e =
     let same : record { lenders = others; lines = (n, text) ∷ rest } ≡ front = cc in
     subst (Lenders s others ((n, text) ∷ rest)) same (record { specs = []; are = sym (append-nil others); stand = tt; spelled = refl })
 front_if s others n text rest front (Some words) is later e =
-    let spec = bind_ok (at n (lender_line s others words)) (λ spec. front_from s (others ++ spec ∷ []) rest) front e in
+    let spec = bind_ok (fault_at n (lender_line s others words)) (λ spec. front_from s (others ++ spec ∷ []) rest) front e in
     let read = lender-only s others words spec.0 (at_ok n (lender_line s others words) spec.0 spec.1) in
     let below = later (others ++ spec.0 ∷ []) spec.2 in
     let line : words_of text ≡ lender_words spec.0 = lender_rest-only (words_of text) words is ∙ ap (λ r. codes "lender" ∷ r) read.1 in
@@ -264,7 +264,7 @@ front-back s [] others ((n, text) ∷ rest) (words ∷ behind) h none e =
       is =
           ap
           (λ o.
-          option_map_or (λ words. at n (lender_line s others words) >>= λ spec. front_from s (others ++ spec ∷ []) rest) o
+          option_map_or (λ words. fault_at n (lender_line s others words) >>= λ spec. front_from s (others ++ spec ∷ []) rest) o
           (Ok (record { lenders = others; lines = (n, text) ∷ rest })))
           (ap lender_rest head.0 ∙ none)
           ∙ ap (λ l. Ok (record { lenders = l; lines = (n, text) ∷ rest })) (sym (append-nil others));
@@ -279,10 +279,10 @@ front-back s (spec ∷ specs) others ((n, text) ∷ rest) behind h none e =
       is =
           ap
           (λ o.
-          option_map_or (λ words. at n (lender_line s others words) >>= λ spec. front_from s (others ++ spec ∷ []) rest) o
+          option_map_or (λ words. fault_at n (lender_line s others words) >>= λ spec. front_from s (others ++ spec ∷ []) rest) o
           (Ok (record { lenders = others; lines = (n, text) ∷ rest })))
           (ap lender_rest head.0)
-          ∙ ap (λ r. at n r >>= λ spec. front_from s (others ++ spec ∷ []) rest) (lender-back s others spec (h.0, h.1)) ∙ later.is
+          ∙ ap (λ r. fault_at n r >>= λ spec. front_from s (others ++ spec ∷ []) rest) (lender-back s others spec (h.0, h.1)) ∙ later.is
           ∙ ap (λ l. Ok (record { lenders = l; lines = later.rest })) (append_assoc others (spec ∷ []) specs);
       spelled = later.spelled;
     }
@@ -290,17 +290,18 @@ front-back s (spec ∷ specs) others ((n, text) ∷ rest) behind h none e =
 -- the entries behind these pairs
 abbrev pub entries_after : Above → List Pair → ℕ
 entries_after above [] = above.entries
-entries_after above (pair ∷ pairs) = entries_after (counted above pair) pairs
+entries_after above (pair ∷ pairs) = entries_after (count_pair above pair) pairs
 
 checked_ok :
-    (s : Sizes) (above : Above) (o : Option Pair) (pair : Pair) → checked s above o ≡ Ok pair → (o ≡ Some pair) × (first_beyond (tests s above pair) ≡ None)
+    (s : Sizes) (above : Above) (o : Option Pair) (pair : Pair) → check_pair s above o ≡ Ok pair → (o ≡ Some pair) × (first_beyond (tests s above pair) ≡ None)
 checked_ok s above None pair e = cc
 checked_ok s above (Some x) pair e =
     let ok = unless_ok (first_beyond (tests s above x)) x pair e in
     (ap (λ y. Some y) ok.1, sym (ap (λ y. first_beyond (tests s above y)) ok.1) ∙ ok.0)
 
 before_ok :
-    (pair : Pair) (r : Result (List Pair) ScriptRefused) (pairs : List Pair) → before pair r ≡ Ok pairs → (ps : List Pair) × (r ≡ Ok ps) × (pairs ≡ pair ∷ ps)
+    (pair : Pair) (r : Result (List Pair) ScriptRefused) (pairs : List Pair) → pair_before pair r ≡ Ok pairs
+    → (ps : List Pair) × (r ≡ Ok ps) × (pairs ≡ pair ∷ ps)
 before_ok pair (Ok ps) pairs e = (ps, refl, cc)
 before_ok pair (Err r) pairs e = cc
 
@@ -334,15 +335,17 @@ pairs_if :
     → end_rest (words_of text) ≡ o
     → ((more : Above) (ps : List Pair) → pairs_from s end more rest ≡ Ok ps → Follows s more rest ps)
     → option_map_or (λ behind. ended_at n (counts above.entries (end_number behind)) rest) o
-    (at n (checked s above (pair_of s (words_of text))) >>= λ pair. before pair (pairs_from s end (counted above pair) rest))
+    (fault_at n (check_pair s above (pair_of s (words_of text))) >>= λ pair. pair_before pair (pairs_from s end (count_pair above pair) rest))
     ≡ Ok pairs
     → Follows s above ((n, text) ∷ rest) pairs
 pairs_if s end above n text rest pairs None is later e =
-    let pair = bind_ok (at n (checked s above (pair_of s (words_of text)))) (λ pair. before pair (pairs_from s end (counted above pair) rest)) pairs e in
-    let ok = checked_ok s above (pair_of s (words_of text)) pair.0 (at_ok n (checked s above (pair_of s (words_of text))) pair.0 pair.1) in
+    let pair =
+    bind_ok (fault_at n (check_pair s above (pair_of s (words_of text)))) (λ pair. pair_before pair (pairs_from s end (count_pair above pair) rest)) pairs
+    e in
+    let ok = checked_ok s above (pair_of s (words_of text)) pair.0 (at_ok n (check_pair s above (pair_of s (words_of text))) pair.0 pair.1) in
     let line = pair_of-only s (words_of text) pair.0 ok.0 in
-    let ps = before_ok pair.0 (pairs_from s end (counted above pair.0) rest) pairs pair.2 in
-    let below = later (counted above pair.0) ps.0 ps.1 in
+    let ps = before_ok pair.0 (pairs_from s end (count_pair above pair.0) rest) pairs pair.2 in
+    let below = later (count_pair above pair.0) ps.0 ps.1 in
     subst (Follows s above ((n, text) ∷ rest)) (sym ps.2)
     (record { follow = (line.0, ok.1, below.follow); spelled = ap₂ (λ w ws. w ∷ ws) line.1 below.spelled })
 pairs_if s end above n text rest pairs (Some behind) is later e =

@@ -9,9 +9,9 @@ use Rattle.swap_wire.specs.declared.Event.TheVariants as event
 use Rattle.swap_script.specs.declared.Why.TheVariants as why
 use Rattle.swap_script.specs.Lines.{words_of, kept_lines}
 use Rattle.swap_script.specs.Transcript.{event_words}
-use Rattle.swap_script.specs.Reading.{◌>>=◌, at, unless, geometry_line, lender_rest, Front, front_from, end_of}
+use Rattle.swap_script.specs.Reading.{◌>>=◌, fault_at, value_unless, geometry_line, lender_rest, Front, front_from, end_of}
 use Rattle.swap_transcript.specs.Readers.{Words}
-use Rattle.swap_transcript.specs.Transcripts.{Pair, Transcript, Above, Judged, nothing_above, counted, checked, end_rest, end_number, counts, ended_at, before, pairs_from, transcript_lines, transcript, pair_of, with_told, with_pair, with_pairs, no_entries, entries_in}
+use Rattle.swap_transcript.specs.Transcripts.{Pair, Transcript, Above, Judged, nothing_above, count_pair, check_pair, end_rest, end_number, counts, ended_at, pair_before, pairs_from, transcript_lines, transcript, pair_of, with_told, with_pair, with_pairs, no_entries, entries_in}
 use Rattle.swap_transcript.specs.Told.{Told, Saw, Entered}
 use Rattle.swap_transcript.specs.Printed.{pair_words, told_words}
 use Rattle.swap_transcript.specs.Verdicts.{entries_of}
@@ -62,7 +62,7 @@ pub few_entries :
 few_entries s [] above h fewer within = omega arith
 few_entries s (pair ∷ pairs) above h fewer within =
     let owes = owes_nothing s above pair h.1 in
-    few_entries s pairs (counted above pair) h.2 (omega (arith, few_in pair.told)) (omega (arith, owes.1))
+    few_entries s pairs (count_pair above pair) h.2 (omega (arith, few_in pair.told)) (omega (arith, owes.1))
 
 pairs-back :
     (s : Sizes) (end : ℕ) (pairs : List Pair) (above : Above) (lines : List (ℕ × List ℕ)) → MayFollow s above pairs → above.entries ≤ above.events
@@ -74,7 +74,7 @@ pairs-back s end [] above ((n, text) ∷ []) h fewer within e =
     ap
     (λ o.
     option_map_or (λ behind. ended_at n (counts above.entries (end_number behind)) []) o
-    (at n (checked s above (pair_of s (words_of text))) >>= λ pair. before pair (pairs_from s end (counted above pair) [])))
+    (fault_at n (check_pair s above (pair_of s (words_of text))) >>= λ pair. pair_before pair (pairs_from s end (count_pair above pair) [])))
     (ap end_rest head.0)
     ∙ ap (λ o. ended_at n (counts above.entries o) []) (number_again above.entries (omega arith))
     ∙ ap (λ b. ended_at n (cond b None (Some why.End)) []) (eq-eqb above.entries above.entries refl)
@@ -83,23 +83,25 @@ pairs-back s end [] above ((n, text) ∷ line ∷ rest) h fewer within e =
     cc
 pairs-back s end (pair ∷ pairs) above [] h fewer within e = cc
 pairs-back s end (pair ∷ pairs) above ((n, text) ∷ rest) h fewer within e =
-    let head = parts (words_of text) (pair_words pair) (words_in rest) (map pair_words pairs ++ end_words (entries_after (counted above pair) pairs) ∷ []) e in
+    let head =
+    parts (words_of text) (pair_words pair) (words_in rest) (map pair_words pairs ++ end_words (entries_after (count_pair above pair) pairs) ∷ []) e in
     let owes = owes_nothing s above pair h.1 in
-    let later = pairs-back s end pairs (counted above pair) rest h.2 (omega (arith, few_in pair.told)) (omega (arith, owes.1)) head.1 in
+    let later = pairs-back s end pairs (count_pair above pair) rest h.2 (omega (arith, few_in pair.told)) (omega (arith, owes.1)) head.1 in
     ap
     (λ o.
     option_map_or (λ behind. ended_at n (counts above.entries (end_number behind)) rest) o
-    (at n (checked s above (pair_of s (words_of text))) >>= λ pair. before pair (pairs_from s end (counted above pair) rest)))
+    (fault_at n (check_pair s above (pair_of s (words_of text))) >>= λ pair. pair_before pair (pairs_from s end (count_pair above pair) rest)))
     (ap end_rest head.0 ∙ (event_apart pair.event (codes "=" ∷ told_words pair.told)).1)
-    ∙ ap (λ o. at n (checked s above o) >>= λ pair. before pair (pairs_from s end (counted above pair) rest)) (ap (pair_of s) head.0 ∙ pair_of-back s pair h.0)
-    ∙ ap (λ o. at n (unless o pair) >>= λ pair. before pair (pairs_from s end (counted above pair) rest)) h.1
-    ∙ ap (before pair) later
+    ∙ ap (λ o. fault_at n (check_pair s above o) >>= λ pair. pair_before pair (pairs_from s end (count_pair above pair) rest)) (ap (pair_of s) head.0
+    ∙ pair_of-back s pair h.0)
+    ∙ ap (λ o. fault_at n (value_unless o pair) >>= λ pair. pair_before pair (pairs_from s end (count_pair above pair) rest)) h.1
+    ∙ ap (pair_before pair) later
 
 -- the entries that are counted are those that are judged
 entries-are :
     (pairs : List Pair) (above : Above) (j : Judged) → above.entries ≡ length j.history → entries_after above pairs ≡ length (with_pairs j pairs).history
 entries-are [] above j e = e
-entries-are (pair ∷ pairs) above j e = entries-are pairs (counted above pair) (with_pair j pair) (one_more above j pair.event pair.told e)
+entries-are (pair ∷ pairs) above j e = entries-are pairs (count_pair above pair) (with_pair j pair) (one_more above j pair.event pair.told e)
 
 pub entries_of-is : (t : Transcript) → entries_after nothing_above t.pairs ≡ entries_of t
 entries_of-is t = entries-are t.pairs nothing_above no_entries refl
@@ -111,7 +113,7 @@ no_lender (pair ∷ pairs) n = (event_apart pair.event (codes "=" ∷ told_words
 lines-only : (end : ℕ) (lines : List (ℕ × List ℕ)) (t : Transcript) → transcript_lines end lines ≡ Ok t → Spelled lines t
 lines-only end [] t e = cc
 lines-only end ((n, text) ∷ rest) t e =
-    let sizes = bind_ok (at n (geometry_line (words_of text))) _ t e in
+    let sizes = bind_ok (fault_at n (geometry_line (words_of text))) _ t e in
     let front = bind_ok (front_from sizes.0 [] rest) _ t sizes.2 in
     let pairs =
     bind_ok (pairs_from sizes.0 end nothing_above front.0.lines)
@@ -145,7 +147,7 @@ lines-back end ((n, text) ∷ rest) t h =
     pairs-back t.sizes end t.pairs nothing_above front.rest h.pairs (omega arith) (omega arith)
     (front.spelled ∙ ap (λ m. map pair_words t.pairs ++ end_words m ∷ []) (sym (entries_of-is t))) in
     ap
-    (λ r. at n r
+    (λ r. fault_at n r
     >>= λ sizes.
     (front_from sizes [] rest
     >>= λ front. (pairs_from sizes end nothing_above front.lines >>= λ pairs. Ok (record { sizes = sizes; lenders = front.lenders; pairs = pairs }))))

@@ -1,7 +1,7 @@
 -- What a lender did with a message, and the slots of a set.
 use Rattle.std.specs.Prelude.{ℕ, ◌+◌, ◌^◌, ◌&&◌, ◌==◌, nat_lt, nat_le, if◌then◌else◌, [], ◌∷◌, Option, None, Some, codes, bit_or}
 use Rattle.swap_base.specs.Sizes.{Sizes}
-use Rattle.swap_script.specs.Forms.{◌>>=◌, small, no_word}
+use Rattle.swap_script.specs.Forms.{◌>>=◌, small_number, no_word}
 use Rattle.swap_script.specs.Lines.{is_word}
 use Rattle.swap_wire.specs.declared.Msg.{Msg}
 use Rattle.swap_wire.specs.declared.Seen.{Seen}
@@ -13,7 +13,7 @@ use Rattle.swap_transcript.specs.Messages.{msg_at}
 abbrev pub slots_from : ℕ → ℕ → Words → Option ℕ
 slots_from least set [] = Some set
 slots_from least set (word ∷ words) =
-    small word >>= λ slot. if nat_le least slot && nat_lt slot 64
+    small_number word >>= λ slot. if nat_le least slot && nat_lt slot 64
     then slots_from (slot + 1) (bit_or set (2 ^ slot)) words else None
 
 -- one slot or more

@@ -7,16 +7,16 @@ use Rattle.swap_base.specs.declared.EntryNo.{EntryNo}
 use Rattle.swap_base.specs.declared.Lender.{Lender}
 use Rattle.swap_record.specs.declared.Op.{Op}
 use Rattle.swap_record.specs.declared.Op.TheVariants as op
-use Rattle.swap_record.specs.History.{History, Row, named}
+use Rattle.swap_record.specs.History.{History, Row, row_named}
 use Rattle.swap_wire.specs.declared.Seen.{Seen}
 use Rattle.swap_wire.specs.declared.Seen.TheVariants as seen
-use Rattle.swap_script.specs.Lines.{words_of, kept_lines, spaced, ended}
+use Rattle.swap_script.specs.Lines.{words_of, kept_lines, with_spaces, with_line_end}
 use Rattle.swap_script.specs.Transcript.{line}
 use Rattle.swap_script.specs.Reading.{IsWithinLimits, lending_tests}
 use Rattle.swap_transcript.specs.Readers.{Words}
 use Rattle.swap_transcript.specs.Printed.{MayBeSent, HasPairWords, pair_words}
 use Rattle.swap_transcript.specs.Told.{Told, Saw, Entered, Shown}
-use Rattle.swap_transcript.specs.Transcripts.{Pair, Transcript, Above, nothing_above, counted, tests, pair_of, transcript}
+use Rattle.swap_transcript.specs.Transcripts.{Pair, Transcript, Above, nothing_above, count_pair, tests, pair_of, transcript}
 use Rattle.swap_transcript.specs.Verdicts.{entries_of}
 
 abbrev pub sizes_rest : Sizes → Words
@@ -56,7 +56,7 @@ MayStandBelow s others (spec ∷ specs) =
 abbrev pub MayFollow : Sizes → Above → List Pair → Type 0
 MayFollow s above [] = Unit {0}
 MayFollow s above (pair ∷ pairs) =
-    HasPairWords s pair × (first_beyond (tests s above pair) ≡ None) × MayFollow s (counted above pair) pairs
+    HasPairWords s pair × (first_beyond (tests s above pair) ≡ None) × MayFollow s (count_pair above pair) pairs
 
 -- a text whose lines are printed so
 pub record IsSpelled (text : List ℕ) (t : Transcript) : Type 0 where
@@ -97,7 +97,7 @@ IsPlain _ = Unit {0}
 
 pub record IsEntry (H : History) (shown : Shown) : Type 0 where
   pub row : Row
-  pub is : named H shown.no.0 ≡ Some row
+  pub is : row_named H shown.no.0 ≡ Some row
   pub page : row.entry.page ≡ shown.page
   pub op : row.entry.op ≡ shown.op
   pub bytes : row.bytes ≡ shown.bytes
@@ -110,17 +110,17 @@ IsToldOf H (Entered shown) = IsEntry H shown
 abbrev pub LinesArePrinted : Type 0
 LinesArePrinted =
     (H : History) (pair : Pair) → IsToldOf H pair.told
-    → line H (pair.event, seen_told pair.told) ≡ ended (spaced (pair_words pair))
+    → line H (pair.event, seen_told pair.told) ≡ with_line_end (with_spaces (pair_words pair))
 
 -- the bytes of a transcript's lines are its words with one space between each two
 abbrev pub BytesArePrinted : Type 0
 BytesArePrinted =
     (text : List ℕ) (t : Transcript) → transcript text ≡ Ok t
-    → map (λ (numbered : ℕ × List ℕ). numbered.1) (kept_lines text) ≡ map spaced (transcript_words t)
+    → map (λ (numbered : ℕ × List ℕ). numbered.1) (kept_lines text) ≡ map with_spaces (transcript_words t)
 
 -- lines as a text: the words of each with one space between each two, and a line feed behind them
 abbrev pub text_of : List Words → List ℕ
-text_of lines = flat_map (λ words. ended (spaced words)) lines
+text_of lines = flat_map (λ words. with_line_end (with_spaces words)) lines
 
 -- a transcript within the limits, whose lines have words and owe nothing
 pub record IsWhole (t : Transcript) : Type 0 where

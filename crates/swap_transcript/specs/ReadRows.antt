@@ -10,9 +10,9 @@ use Rattle.swap_wire.specs.declared.Seen.{Seen}
 use Rattle.swap_wire.specs.declared.Seen.TheVariants as seen
 use Rattle.swap_script.specs.declared.Why.{Why}
 use Rattle.swap_script.specs.declared.Why.TheVariants as why
-use Rattle.swap_script.specs.Lines.{ended}
+use Rattle.swap_script.specs.Lines.{with_line_end}
 use Rattle.swap_transcript.specs.Told.{Saw, Entered}
-use Rattle.swap_transcript.specs.Transcripts.{Pair, transcript, judged}
+use Rattle.swap_transcript.specs.Transcripts.{Pair, transcript, judge}
 
 abbrev G : List ℕ
 G = codes "geometry 8 4 2 4 2 4 20"
@@ -21,7 +21,7 @@ abbrev sizes : Sizes
 sizes = record { page_bytes = 8; pages_per_slab = 4; slabs = 2; queue = 4; callers = 2; window = 4; hot = 20 }
 
 abbrev text : List (List ℕ) → List ℕ
-text lines = flat_map ended lines
+text lines = flat_map with_line_end lines
 
 abbrev Gives : List (List ℕ) → List Pair → Type 0
 Gives lines pairs = transcript (text (G ∷ lines)) ≡ Ok (record { sizes = sizes; lenders = []; pairs = pairs })
@@ -53,8 +53,8 @@ page_in n = record {
       });
 }
 
-abbrev saw : Event → Seen → Pair
-saw e s = record { event = e; told = Saw s }
+abbrev event_seen : Event → Seen → Pair
+event_seen e s = record { event = e; told = Saw s }
 
 abbrev give : Event
 give = event.Give (record { 0 = 0 })
@@ -65,18 +65,19 @@ ReadRows =
     × Gives (codes "out 0 3 = entry 0 out 3 aa" ∷ codes "in 0 3 = entry 1 in 3 of 0 queue aa" ∷ codes "end 2" ∷ [])
     (out ∷ page_in 1 ∷ [])
     × Gives (codes "start = -" ∷ codes "start = write 3 0" ∷ codes "end 0" ∷ [])
-    (saw event.Start seen.Nothing ∷ saw event.Start (seen.Started (record { 0 = 3 }) (record { 0 = 0 })) ∷ [])
+    (event_seen event.Start seen.Nothing ∷ event_seen event.Start (seen.Started (record { 0 = 3 }) (record { 0 = 0 })) ∷
+    [])
     × Gives (codes "give 0 = hello 1 > done 7 evict 0 2" ∷ codes "end 0" ∷ [])
-    (saw give (seen.Gave (msg.Hello 1 8 4) (Some (msg.Done (record { 0 = 7 }))) 5) ∷ [])
+    (event_seen give (seen.Gave (msg.Hello 1 8 4) (Some (msg.Done (record { 0 = 7 }))) 5) ∷ [])
 
 -- the printed number is 5 and the place is 1, so entry 1 is noted
 abbrev pub NotedRows : Type 0
 NotedRows =
     Gives (codes "out 0 3 = entry 0 out 3 aa" ∷ codes "in 0 3 = entry 5 in 3 of 0 queue aa" ∷ codes "end 2" ∷ [])
     (out ∷ page_in 5 ∷ [])
-    × ((judged (record { sizes = sizes; lenders = []; pairs = out ∷ page_in 5 ∷ [] })).noted ≡ Some 1)
-    × ((judged (record { sizes = sizes; lenders = []; pairs = out ∷ page_in 1 ∷ [] })).noted ≡ None)
-    × (length (judged (record { sizes = sizes; lenders = []; pairs = out ∷ page_in 5 ∷ [] })).history ≡ 2)
+    × ((judge (record { sizes = sizes; lenders = []; pairs = out ∷ page_in 5 ∷ [] })).noted ≡ Some 1)
+    × ((judge (record { sizes = sizes; lenders = []; pairs = out ∷ page_in 1 ∷ [] })).noted ≡ None)
+    × (length (judge (record { sizes = sizes; lenders = []; pairs = out ∷ page_in 5 ∷ [] })).history ≡ 2)
 
 abbrev pub RefusedRows : Type 0
 RefusedRows =

@@ -3,7 +3,7 @@
 use Rattle.std.specs.Prelude.{ℕ, if◌then◌else◌, List, [], ◌∷◌, Option, None, Some}
 use Rattle.swap_io.specs.Words.{number}
 use Rattle.swap_script.specs.Lines.{is_word}
-use Rattle.swap_script.specs.Forms.{◌>>=◌, small}
+use Rattle.swap_script.specs.Forms.{◌>>=◌, small_number}
 
 abbrev pub Words : Type 0
 Words = List (List ℕ)
@@ -16,7 +16,7 @@ word_at name (word ∷ words) = if is_word name word then Some words else None
 -- a number below 2 ^ 32, and one below 2 ^ 64
 abbrev pub small_at : Words → Option (ℕ × Words)
 small_at [] = None
-small_at (word ∷ words) = small word >>= λ n. Some (n, words)
+small_at (word ∷ words) = small_number word >>= λ n. Some (n, words)
 
 abbrev pub wide_at : Words → Option (ℕ × Words)
 wide_at [] = None

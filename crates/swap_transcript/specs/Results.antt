@@ -9,7 +9,7 @@ use Rattle.swap_io.specs.Words.{number}
 use Rattle.swap_record.specs.declared.Op.{Op}
 use Rattle.swap_record.specs.declared.Op.TheVariants as op
 use Rattle.swap_record.specs.History.{is_page_out}
-use Rattle.swap_script.specs.Forms.{◌>>=◌, small, no_word}
+use Rattle.swap_script.specs.Forms.{◌>>=◌, small_number, no_word}
 use Rattle.swap_script.specs.Lines.{is_word}
 use Rattle.swap_wire.specs.declared.Event.{Event}
 use Rattle.swap_wire.specs.declared.Event.TheVariants as event
@@ -21,8 +21,8 @@ use Rattle.swap_transcript.specs.Told.{Told, Saw, Entered, Shown, entry_of}
 use Rattle.swap_transcript.specs.Gave.{slots_of, gave_behind}
 
 -- a result of one word, and one of numbers
-abbrev pub bare : Seen → Words → Option Seen
-bare seen words = no_word words >>= λ _. Some seen
+abbrev pub bare_result : Seen → Words → Option Seen
+bare_result seen words = no_word words >>= λ _. Some seen
 
 abbrev pub last_number : Words → Option ℕ
 last_number words = small_at words >>= whole
@@ -70,7 +70,7 @@ hosted_of word words = number word >>= λ mean. hosted_behind mean words
 
 abbrev pub rounded_of : List ℕ → Words → Option Seen
 rounded_of word words = do
-  effects ← small word
+  effects ← small_number word
   behind ← word_at (codes "mapped") words
   one_number (λ mapped. seen.Rounded effects mapped) behind
 
@@ -82,20 +82,20 @@ gave_of s word words = by_row (msg_rows s) word words >>= λ m. gave_behind s m.
 
 -- the result that is printed as a dash
 abbrev pub nothing_row : Row Seen
-nothing_row = row (codes "-") (bare seen.Nothing)
+nothing_row = row (codes "-") (bare_result seen.Nothing)
 
 -- what each kind of event may have besides an entry, by the first word
 abbrev pub out_rows : List (Row Seen)
-out_rows = row (codes "room") (bare seen.Room) ∷ row (codes "busy") (bare seen.Busy) ∷ []
+out_rows = row (codes "room") (bare_result seen.Room) ∷ row (codes "busy") (bare_result seen.Busy) ∷ []
 
 abbrev pub in_rows : List (Row Seen)
-in_rows = row (codes "wait") wait_of ∷ row (codes "busy") (bare seen.Busy) ∷ []
+in_rows = row (codes "wait") wait_of ∷ row (codes "busy") (bare_result seen.Busy) ∷ []
 
 abbrev pub finish_rows : List (Row Seen)
 finish_rows =
-    row (codes "idle") (bare seen.Idle)
+    row (codes "idle") (bare_result seen.Idle)
     ∷ row (codes "wait") wait_of
-    ∷ row (codes "room") (bare seen.Room)
+    ∷ row (codes "room") (bare_result seen.Room)
     ∷ row (codes "again") again_of
     ∷ []
 
@@ -117,25 +117,25 @@ disk_rows (which.Read c) false =
     row (codes "failed") (one_number (λ p. seen.ReadFailed (record { 0 = p }))) ∷ nothing_row ∷ []
 
 abbrev pub tick_rows : List (Row Seen)
-tick_rows = row (codes "none") (bare seen.Ticked) ∷ row (codes "ask") asked_of ∷ []
+tick_rows = row (codes "none") (bare_result seen.Ticked) ∷ row (codes "ask") asked_of ∷ []
 
 abbrev pub map_rows : List (Row Seen)
-map_rows = row (codes "borrow") (bare seen.Borrowing) ∷ nothing_row ∷ []
+map_rows = row (codes "borrow") (bare_result seen.Borrowing) ∷ nothing_row ∷ []
 
 abbrev pub connect_rows : List (Row Seen)
 connect_rows = row (codes "link") (one_number (λ n. seen.Linked (record { 0 = n }))) ∷ nothing_row ∷ []
 
 abbrev pub give_rows : List (Row Seen)
-give_rows = row (codes "end") (bare seen.GaveEnd) ∷ nothing_row ∷ []
+give_rows = row (codes "end") (bare_result seen.GaveEnd) ∷ nothing_row ∷ []
 
 abbrev pub take_rows : List (Row Seen)
-take_rows = row (codes "lost") (bare seen.Lost) ∷ row (codes "lied") (bare seen.Lied) ∷ nothing_row ∷ []
+take_rows = row (codes "lost") (bare_result seen.Lost) ∷ row (codes "lied") (bare_result seen.Lied) ∷ nothing_row ∷ []
 
 abbrev pub cut_rows : List (Row Seen)
-cut_rows = row (codes "cut") (bare seen.Cut) ∷ nothing_row ∷ []
+cut_rows = row (codes "cut") (bare_result seen.Cut) ∷ nothing_row ∷ []
 
 abbrev pub crash_rows : List (Row Seen)
-crash_rows = row (codes "crashed") (bare seen.Crashed) ∷ nothing_row ∷ []
+crash_rows = row (codes "crashed") (bare_result seen.Crashed) ∷ nothing_row ∷ []
 
 abbrev pub nothing_rows : List (Row Seen)
 nothing_rows = nothing_row ∷ []

@@ -1,6 +1,6 @@
 -- What the code's steps give, line by line.
 use Rattle.std.specs.Prelude.{◌≡◌, ℕ, List, [], Result, Ok, Err}
-use Rattle.swap_record.specs.Book.{Book}
+use Rattle.swap_record.specs.RecordView.{RecordView}
 use Rattle.swap_script.specs.declared.Why.{Why}
 use Rattle.swap_script.specs.declared.ScriptRefused.{ScriptRefused}
 use Rattle.swap_transcript.specs.declared.TranscriptRefused.{TranscriptRefused}
@@ -8,7 +8,7 @@ use Rattle.swap_transcript.specs.declared.TranscriptRefused.TheVariants as refus
 use Rattle.swap_transcript.specs.declared.read.Counts.{Counts}
 use Rattle.swap_transcript.specs.declared.read.Pair.{Pair as CodePair}
 use Rattle.swap_transcript.specs.Spelled.{told_with}
-use Rattle.swap_transcript.specs.Transcripts.{Pair, Above, Judged, judged_in, counted, with_pair}
+use Rattle.swap_transcript.specs.Transcripts.{Pair, Above, Judged, judged_in, count_pair, with_pair}
 
 abbrev pub above_of : Counts → Above
 above_of counts = record { events = counts.events; entries = counts.entries }
@@ -20,7 +20,7 @@ pair_with bytes pair = record { event = pair.event; told = told_with bytes pair.
 pub record WasRead (read : Result Pair Why) (above_before above_now : Above) (before now : Judged) : Type 0 where
   pub pair : Pair
   pub is : read ≡ Ok pair
-  pub counts : above_now ≡ counted above_before pair
+  pub counts : above_now ≡ count_pair above_before pair
   pub judges : now ≡ with_pair before pair
 
 -- a line is refused: for its own fault, or for want of memory
@@ -44,7 +44,7 @@ EndGives read (Ok u) = read ≡ Ok []
 EndGives read (Err at) = read ≡ Err at
 
 -- a record of what the lines give, in pages of this size
-abbrev pub RecordGives : ℕ → Result Judged ScriptRefused → Result Book TranscriptRefused → Type 0
+abbrev pub RecordGives : ℕ → Result Judged ScriptRefused → Result RecordView TranscriptRefused → Type 0
 RecordGives size read (Ok book) = (book.page_bytes ≡ size) × (read ≡ Ok (judged_in book))
 RecordGives size read (Err (refused.Line at)) = read ≡ Err at
 RecordGives size read (Err refused.NoMemory) = Unit {0}

@@ -10,7 +10,7 @@ use Rattle.swap_io.specs.Words.{pattern, shortest}
 use Rattle.swap_record.specs.declared.Op.{Op}
 use Rattle.swap_record.specs.declared.Op.TheVariants as op
 use Rattle.swap_record.specs.History.{is_page_out}
-use Rattle.swap_script.specs.Forms.{◌>>=◌, small}
+use Rattle.swap_script.specs.Forms.{◌>>=◌, small_number}
 use Rattle.swap_script.specs.Lines.{is_word}
 use Rattle.swap_wire.specs.declared.Seen.{Seen}
 use Rattle.swap_transcript.specs.Readers.{Words, word_at, small_at, wide_at, one_of, Row, row, by_rows}
@@ -54,7 +54,7 @@ behind_first (word ∷ words) = words
 -- the entry that a page-in names, if it names one
 abbrev pub named_word : List ℕ → Option (Option EntryNo)
 named_word word =
-    if is_word (codes "none") word then Some None else (small word >>= λ n. Some (Some (record { 0 = n })))
+    if is_word (codes "none") word then Some None else (small_number word >>= λ n. Some (Some (record { 0 = n })))
 
 abbrev pub named_at : Words → Option (Option EntryNo × Words)
 named_at [] = None
@@ -78,11 +78,11 @@ pub record Did : Type 0 where
   pub op : Op
   pub bytes : List ℕ
 
-abbrev pub did : ℕ → Op → List ℕ → Did
-did page op bytes = record { page = record { 0 = page }; op = op; bytes = bytes }
+abbrev pub did_of : ℕ → Op → List ℕ → Did
+did_of page op bytes = record { page = record { 0 = page }; op = op; bytes = bytes }
 
 abbrev pub out_at : ℕ → Words → Option (Did × Words)
-out_at size words = small_at words >>= λ p. (bytes_at size p.1 >>= λ b. Some (did p.0 op.PageOut b.0, b.1))
+out_at size words = small_at words >>= λ p. (bytes_at size p.1 >>= λ b. Some (did_of p.0 op.PageOut b.0, b.1))
 
 abbrev pub in_at : ℕ → Words → Option (Did × Words)
 in_at size words = do
@@ -91,7 +91,7 @@ in_at size words = do
   named ← named_at of
   from ← by_rows origin_rows named.1
   b ← bytes_at size from.1
-  Some (did p.0 (op.PageIn named.0 from.0) b.0, b.1)
+  Some (did_of p.0 (op.PageIn named.0 from.0) b.0, b.1)
 
 abbrev pub fault_out_at : ℕ → Words → Option (Did × Words)
 fault_out_at size words = do
@@ -99,14 +99,14 @@ fault_out_at size words = do
   since ← wide_at p.1
   at ← wide_at since.1
   b ← bytes_at size at.1
-  Some (did p.0 (op.Failed kind.PageOut since.0 at.0) b.0, b.1)
+  Some (did_of p.0 (op.Failed kind.PageOut since.0 at.0) b.0, b.1)
 
 abbrev pub fault_in_at : ℕ → Words → Option (Did × Words)
 fault_in_at size words = do
   p ← small_at words
   since ← wide_at p.1
   at ← wide_at since.1
-  Some (did p.0 (op.Failed kind.PageIn since.0 at.0) (replicate size 0), at.1)
+  Some (did_of p.0 (op.Failed kind.PageIn since.0 at.0) (replicate size 0), at.1)
 
 abbrev pub fault_rows : ℕ → List (Row (Did × Words))
 fault_rows size = row (codes "out") (fault_out_at size) ∷ row (codes "in") (fault_in_at size) ∷ []
@@ -121,7 +121,8 @@ did_rows size =
 -- the lender that a page-out was sent to, if it was sent to one: the last words of a line
 abbrev pub sent_by : Words → Option (Option Lender)
 sent_by [] = Some None
-sent_by (word ∷ l ∷ []) = if is_word (codes "to") word then (small l >>= λ n. Some (Some (record { 0 = n }))) else None
+sent_by (word ∷ l ∷ []) = if is_word (codes "to") word then (small_number l >>= λ n. Some (Some (record { 0 = n })))
+    else None
 sent_by _ = None
 
 abbrev pub not_sent : Words → Option (Option Lender)

@@ -8,8 +8,8 @@ use Rattle.swap_base.specs.declared.Page.{Page}
 use Rattle.swap_base.specs.declared.Caller.{Caller}
 use Rattle.swap_base.specs.Sizes.{Sizes, pages_of, first_beyond}
 use Rattle.swap_io.specs.Words.{number}
-use Rattle.swap_record.specs.History.{History, pushed}
-use Rattle.swap_record.specs.Book.{Book, first_noted}
+use Rattle.swap_record.specs.History.{History, with_row}
+use Rattle.swap_record.specs.RecordView.{RecordView, first_noted}
 use Rattle.swap_wire.specs.declared.Event.{Event}
 use Rattle.swap_wire.specs.declared.Seen.{Seen}
 use Rattle.swap_wire.specs.declared.Seen.TheVariants as seen
@@ -19,7 +19,7 @@ use Rattle.swap_script.specs.declared.ScriptRefused.{ScriptRefused}
 use Rattle.swap_script.specs.Lines.{words_of, kept_lines, is_word}
 use Rattle.swap_script.specs.Forms.{one_word}
 use Rattle.swap_script.specs.Forms as forms
-use Rattle.swap_script.specs.Reading.{◌>>=◌, at, unless, geometry_line, front_from, end_of, caller_of, has_caller, has_page}
+use Rattle.swap_script.specs.Reading.{◌>>=◌, fault_at, value_unless, geometry_line, front_from, end_of, caller_of, has_caller, has_page}
 use Rattle.swap_transcript.specs.declared.TranscriptRefused.{TranscriptRefused}
 use Rattle.swap_transcript.specs.declared.TranscriptRefused.TheVariants as refused
 use Rattle.swap_transcript.specs.Readers.{Words, word_at}
@@ -59,8 +59,8 @@ abbrev pub entries_in : Told → ℕ
 entries_in (Saw seen) = 0
 entries_in (Entered shown) = 1
 
-abbrev pub counted : Above → Pair → Above
-counted above pair = record { events = above.events + 1; entries = above.entries + entries_in pair.told }
+abbrev pub count_pair : Above → Pair → Above
+count_pair above pair = record { events = above.events + 1; entries = above.entries + entries_in pair.told }
 
 -- the page that a result names
 abbrev pub seen_page : Seen → Option Page
@@ -85,9 +85,9 @@ tests s above pair =
     ∷ (why.Events, nat_lt above.events EVENT_LIMIT)
     ∷ []
 
-abbrev pub checked : Sizes → Above → Option Pair → Result Pair Why
-checked s above None = Err why.Form
-checked s above (Some pair) = unless (first_beyond (tests s above pair)) pair
+abbrev pub check_pair : Sizes → Above → Option Pair → Result Pair Why
+check_pair s above None = Err why.Form
+check_pair s above (Some pair) = value_unless (first_beyond (tests s above pair)) pair
 
 -- the words behind the first of an `end` line, if a line is one, and whether they count the entries
 abbrev pub end_rest : Words → Option Words
@@ -110,8 +110,8 @@ abbrev pub ended_at : ℕ → Option Why → List (ℕ × List ℕ) → Result (
 ended_at n None rest = nothing_behind rest
 ended_at n (Some w) rest = Err (record { line = n; why = w })
 
-abbrev pub before : Pair → Result (List Pair) ScriptRefused → Result (List Pair) ScriptRefused
-before pair read = read >>= λ pairs. Ok (pair ∷ pairs)
+abbrev pub pair_before : Pair → Result (List Pair) ScriptRefused → Result (List Pair) ScriptRefused
+pair_before pair read = read >>= λ pairs. Ok (pair ∷ pairs)
 
 -- the lines behind the lenders are events up to the end line; `end` is the number of a line that is missing
 abbrev pub pairs_from : Sizes → ℕ → Above → List (ℕ × List ℕ) → Result (List Pair) ScriptRefused
@@ -119,13 +119,13 @@ pairs_from s end above [] = Err (record { line = end; why = why.End })
 pairs_from s end above ((n, text) ∷ rest) =
     option_map_or (λ behind. ended_at n (counts above.entries (end_number behind)) rest)
     (end_rest (words_of text))
-    (at n (checked s above (pair_of s (words_of text)))
-    >>= λ pair. before pair (pairs_from s end (counted above pair) rest))
+    (fault_at n (check_pair s above (pair_of s (words_of text)))
+    >>= λ pair. pair_before pair (pairs_from s end (count_pair above pair) rest))
 
 abbrev pub transcript_lines : ℕ → List (ℕ × List ℕ) → Result Transcript ScriptRefused
-transcript_lines end [] = at end (Err why.Geometry)
+transcript_lines end [] = fault_at end (Err why.Geometry)
 transcript_lines end ((n, text) ∷ rest) = do
-  sizes ← at n (geometry_line (words_of text))
+  sizes ← fault_at n (geometry_line (words_of text))
   front ← front_from sizes [] rest
   pairs ← pairs_from sizes end nothing_above front.lines
   Ok (record { sizes = sizes; lenders = front.lenders; pairs = pairs })
@@ -145,10 +145,10 @@ no_entries = record { history = []; noted = None }
 abbrev pub noted_by : Option ℕ → ℕ → ℕ → Option ℕ
 noted_by noted printed place = if printed == place then noted else first_noted noted place
 
-abbrev pub entered : Judged → Caller → Shown → Judged
-entered j caller shown =
+abbrev pub enter_shown : Judged → Caller → Shown → Judged
+enter_shown j caller shown =
     record {
-      history = pushed j.history caller shown.page shown.op shown.bytes;
+      history = with_row j.history caller shown.page shown.op shown.bytes;
       noted = noted_by j.noted shown.no.0 (length j.history);
     }
 
@@ -157,7 +157,7 @@ caller_or_first e = unwrap_or (caller_of e) (record { 0 = 0 })
 
 abbrev pub with_told : Judged → Event → Told → Judged
 with_told j e (Saw seen) = j
-with_told j e (Entered shown) = entered j (caller_or_first e) shown
+with_told j e (Entered shown) = enter_shown j (caller_or_first e) shown
 
 abbrev pub with_pair : Judged → Pair → Judged
 with_pair j pair = with_told j pair.event pair.told
@@ -166,11 +166,11 @@ abbrev pub with_pairs : Judged → List Pair → Judged
 with_pairs j [] = j
 with_pairs j (pair ∷ pairs) = with_pairs (with_pair j pair) pairs
 
-abbrev pub judged : Transcript → Judged
-judged t = with_pairs no_entries t.pairs
+abbrev pub judge : Transcript → Judged
+judge t = with_pairs no_entries t.pairs
 
 -- what is judged of the entries that a record has
-abbrev pub judged_in : Book → Judged
+abbrev pub judged_in : RecordView → Judged
 judged_in book = record { history = book.history; noted = book.noted }
 
 -- what was judged so far, with the entries of these pairs, if lines give pairs
@@ -179,8 +179,8 @@ judging j read = read >>= λ pairs. Ok (with_pairs j pairs)
 
 -- what the reading of a text gives: a record of the transcript's entries, or the line at fault; want of memory tells
 -- nothing
-abbrev pub Gives : Result Transcript ScriptRefused → Result Book TranscriptRefused → Type 0
-Gives (Ok t) (Ok book) = (book.page_bytes ≡ t.sizes.page_bytes) × (judged_in book ≡ judged t)
+abbrev pub Gives : Result Transcript ScriptRefused → Result RecordView TranscriptRefused → Type 0
+Gives (Ok t) (Ok book) = (book.page_bytes ≡ t.sizes.page_bytes) × (judged_in book ≡ judge t)
 Gives (Err at) (Err (refused.Line line)) = line ≡ at
 Gives read (Err refused.NoMemory) = Unit {0}
 Gives _ _ = ⊥

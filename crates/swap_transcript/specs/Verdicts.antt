@@ -1,20 +1,20 @@
 -- What a check of a transcript answers: how many entries it has, and whether their history is legal.
 use Rattle.std.specs.Prelude.{◌≡◌, ℕ, length, Result, Ok, Err}
-use Rattle.swap_record.specs.Book.{Book}
+use Rattle.swap_record.specs.RecordView.{RecordView}
 use Rattle.swap_record.specs.Judging.{Judges}
 use Rattle.swap_script.specs.declared.ScriptRefused.{ScriptRefused}
 use Rattle.swap_transcript.specs.declared.Judgement.{Judgement}
 use Rattle.swap_transcript.specs.declared.TranscriptRefused.{TranscriptRefused}
 use Rattle.swap_transcript.specs.declared.TranscriptRefused.TheVariants as refused
-use Rattle.swap_transcript.specs.Transcripts.{Transcript, judged}
+use Rattle.swap_transcript.specs.Transcripts.{Transcript, judge}
 
 -- the entries of a transcript as a record has them
-abbrev pub book_of : Transcript → Book
+abbrev pub book_of : Transcript → RecordView
 book_of t =
-    record { page_bytes = t.sizes.page_bytes; history = (judged t).history; spare = 0; noted = (judged t).noted }
+    record { page_bytes = t.sizes.page_bytes; history = (judge t).history; spare = 0; noted = (judge t).noted }
 
 abbrev pub entries_of : Transcript → ℕ
-entries_of t = length (judged t).history
+entries_of t = length (judge t).history
 
 -- all entries are right, or this one is the first that is wrong
 abbrev pub IsJudged : Transcript → Judgement → Type 0

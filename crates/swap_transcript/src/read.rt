@@ -6,7 +6,7 @@ ghost use Rattle.swap_script.specs.Lines.{words_of};
 ghost use Rattle.swap_script.specs.Reading.{end_of, caller_of};
 ghost use Rattle.swap_transcript.specs.Spelled.{shown_with, told_with};
 ghost use Rattle.swap_transcript.specs.Steps.{above_of, pair_with, StepGives, LinesGive, EndGives, RecordGives};
-ghost use Rattle.swap_transcript.specs.Transcripts.{pair_of, nothing_above, entries_in, counted, told_page, seen_page, tells_page, tests, checked, end_rest, counts, end_number, ended_at, pairs_from, transcript, entered, with_told, no_entries, judged_in, judging, Gives};
+ghost use Rattle.swap_transcript.specs.Transcripts.{pair_of, nothing_above, entries_in, count_pair, told_page, seen_page, tells_page, tests, check_pair, end_rest, counts, end_number, ended_at, pairs_from, transcript, enter_shown, with_told, no_entries, judged_in, judging, Gives};
 
 use super::TranscriptRefused;
 use super::events::event_at;
@@ -125,7 +125,7 @@ fn put_entry(
     requires bytes { length bytes.now ≡ history.old.page_bytes }
     ensures entry { OnOk result
         (judged_in history.new
-        ≡ entered (judged_in history.old) caller (shown_with bytes.now shown.now)) }
+        ≡ enter_shown (judged_in history.old) caller (shown_with bytes.now shown.now)) }
     ensures size { history.new.page_bytes ≡ history.old.page_bytes }
 {
     if history.reserve(1).is_err() {
@@ -172,7 +172,7 @@ fn read_line(
     requires counts { above.entries ≤ above.events }
     requires within { above.events ≤ EVENT_LIMIT }
     ensures step { StepGives line
-        (checked geometry.now (above_of above) (pair_of geometry.now (words_of text.now)))
+        (check_pair geometry.now (above_of above) (pair_of geometry.now (words_of text.now)))
         (above_of above) (judged_in history.old) (judged_in history.new) result }
     ensures size { length bytes.new ≡ length bytes.old }
     ensures same { history.new.page_bytes ≡ history.old.page_bytes }

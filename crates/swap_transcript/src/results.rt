@@ -3,7 +3,7 @@ ghost use Rattle.std.specs.Prelude.{◌≡◌, ℕ, List, ◌∷◌, length, tru
 ghost use Rattle.std.specs.Option.{option_map};
 ghost use Rattle.swap_base.specs.declared.DiskWhich.TheVariants as which;
 ghost use Rattle.swap_transcript.specs.Readers.{row, by_row, by_row_or};
-ghost use Rattle.swap_transcript.specs.Results.{last_number, nothing_rows, out_rows, in_rows, finish_rows, start_rows, disk_rows, tick_rows, map_rows, connect_rows, give_rows, take_rows, bare, via_of, wait_of, again_of, second_of, asked_of, hosted_behind, hosted_of, rounded_of, took_of, gave_of, seen_of, agrees, entered_at, told_of};
+ghost use Rattle.swap_transcript.specs.Results.{last_number, nothing_rows, out_rows, in_rows, finish_rows, start_rows, disk_rows, tick_rows, map_rows, connect_rows, give_rows, take_rows, bare_result, via_of, wait_of, again_of, second_of, asked_of, hosted_behind, hosted_of, rounded_of, took_of, gave_of, seen_of, agrees, entered_at, told_of};
 ghost use Rattle.swap_transcript.specs.Spelled.{shown_with, told_with};
 
 use super::gave::{gave_behind, slots_of};
@@ -26,7 +26,7 @@ pub enum Told {
 }
 
 fn bare(seen: Seen, words: Words<'_>) -> Option<Seen>
-    ensures { result ≡ bare seen words.entry }
+    ensures { result ≡ bare_result seen words.entry }
 {
     words.none()?;
     Some(seen)
@@ -326,7 +326,7 @@ fn host_seen(first: &[u8], words: Words<'_>) -> Option<Seen>
 
 /// A result of one word, or the dash.
 fn word_or_nothing(name: &[u8], seen: Seen, first: &[u8], words: Words<'_>) -> Option<Seen>
-    ensures { result ≡ by_row (row name.now (bare seen) ∷ nothing_rows) first.now words.entry }
+    ensures { result ≡ by_row (row name.now (bare_result seen) ∷ nothing_rows) first.now words.entry }
 {
     if is_word(first, name) {
         bare(seen, words)

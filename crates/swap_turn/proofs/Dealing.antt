@@ -6,8 +6,8 @@ use Rattle.std.proofs.lemmas.List.Elements.{All-nil, All-cons}
 use Rattle.atomic_table.specs.Seated.{TableId}
 use Rattle.swap_record.specs.History.{History}
 use Rattle.swap_turn.specs.declared.view.View.{View}
-use Rattle.swap_turn.specs.Turns.{entries_of, first_view, numbers_from, fewer_left, next_given, resting}
-use Rattle.swap_turn.specs.Standing.{LockId, Standing, newcomer, IsFreeOf, standing_of, IsSeated}
+use Rattle.swap_turn.specs.Turns.{entries_of, first_view, numbers_from, fewer_left, next_given, resting_seat}
+use Rattle.swap_turn.specs.PassView.{LockId, PassView, pass_at_start, IsFreeOf, standing_of, IsSeated}
 
 -- the first seat after it gave away the numbers below i
 abbrev pub dealt : ℕ → History → ℕ → View
@@ -28,33 +28,34 @@ dealt-left seats log i lt = numbers_from-next i (seats - 1) lt
 pub dealt-fewer : (seats : ℕ) (log : History) (i : ℕ) → i < seats - 1 → fewer_left (dealt seats log i) ≡ dealt seats log (i + 1)
 dealt-fewer seats log i lt = ap (λ (l : List ℕ). fewer_left (let v : View = record (first_view seats log) { left = l } in v)) (dealt-left seats log i lt)
 
-pub dealt-given : (seats : ℕ) (log : History) (i : ℕ) → i < seats - 1 → next_given (dealt seats log i) ≡ resting i seats log (entries_of i log)
+pub dealt-given : (seats : ℕ) (log : History) (i : ℕ) → i < seats - 1 → next_given (dealt seats log i) ≡ resting_seat i seats log (entries_of i log)
 dealt-given seats log i lt = ap (λ (l : List ℕ). next_given (let v : View = record (first_view seats log) { left = l } in v)) (dealt-left seats log i lt)
 
 -- it has given all but its own
-pub dealt-last : (seats : ℕ) (log : History) (i : ℕ) → i ≡ seats - 1 → dealt seats log i ≡ resting (seats - 1) seats log (entries_of (seats - 1) log)
+pub dealt-last : (seats : ℕ) (log : History) (i : ℕ) → i ≡ seats - 1 → dealt seats log i ≡ resting_seat (seats - 1) seats log (entries_of (seats - 1) log)
 dealt-last seats log i is =
     let e : (seats - 1) - i ≡ 0 = omega arith in ap (λ (k : ℕ). let v : View = record (first_view seats log) { left = numbers_from i k } in v) e
 
-pub seated_is : (i k : ℕ) (log mine : History) (v : View) (vs : List View) → vs ≡ v ∷ [] → v ≡ resting i k log mine → IsSeated i vs
+pub seated_is : (i k : ℕ) (log mine : History) (v : View) (vs : List View) → vs ≡ v ∷ [] → v ≡ resting_seat i k log mine → IsSeated i vs
 seated_is i k log mine v vs one is =
-    let both : vs ≡ resting i k log mine ∷ [] = one ∙ ap (λ (u : View). u ∷ []) is in subst (IsSeated i) (sym both) (refl, refl)
+    let both : vs ≡ resting_seat i k log mine ∷ [] = one ∙ ap (λ (u : View). u ∷ []) is in subst (IsSeated i) (sym both) (refl, refl)
 
-pub standing_is : (z : TableId) (i k : ℕ) (log mine : History) (v : View) (vs : List View) → vs ≡ v ∷ [] → v ≡ resting i k log mine
+pub standing_is : (z : TableId) (i k : ℕ) (log mine : History) (v : View) (vs : List View) → vs ≡ v ∷ [] → v ≡ resting_seat i k log mine
     → standing_of z i vs ≡ record { lock = record { table = z; seats = k }; number = i; free = true; seen = log; mine = mine }
 standing_is z i k log mine v vs one is = ap (standing_of z i) (one ∙ ap (λ (u : View). u ∷ []) is)
 
 pub pushed :
-    (z : LockId) (log : History) (i : ℕ) (items : List Standing) (p : Standing) → items ≡ map (newcomer z log) (numbers_from 0 i) → p ≡ newcomer z log i
-    → items ++ p ∷ [] ≡ map (newcomer z log) (numbers_from 0 (i + 1))
+    (z : LockId) (log : History) (i : ℕ) (items : List PassView) (p : PassView) → items ≡ map (pass_at_start z log) (numbers_from 0 i)
+    → p ≡ pass_at_start z log i
+    → items ++ p ∷ [] ≡ map (pass_at_start z log) (numbers_from 0 (i + 1))
 pushed z log i items p so_far is =
-    let f : ℕ → Standing = newcomer z log in
+    let f : ℕ → PassView = pass_at_start z log in
     let e : i ≡ 0 + i = omega arith in
     (λ j. so_far j ++ (is ∙ ap f e) j ∷ []) ∙ (sym (map-append f (numbers_from 0 i) ((0 + i) ∷ [])) ∙ ap (map f) (sym (numbers_from-snoc 0 i)))
 
-pub newcomers_free : (z : LockId) (log : History) (ns : List ℕ) (items : List Standing) → items ≡ map (newcomer z log) ns → All (IsFreeOf z) items
+pub newcomers_free : (z : LockId) (log : History) (ns : List ℕ) (items : List PassView) → items ≡ map (pass_at_start z log) ns → All (IsFreeOf z) items
 newcomers_free z log ns items is = subst (All (IsFreeOf z)) (sym is) (each ns)
   where
-    each : (ns : List ℕ) → All (IsFreeOf z) (map (newcomer z log) ns)
+    each : (ns : List ℕ) → All (IsFreeOf z) (map (pass_at_start z log) ns)
     each [] = All-nil (IsFreeOf z)
-    each (n ∷ ns) = All-cons (IsFreeOf z) (newcomer z log n) (map (newcomer z log) ns) (refl, refl) (each ns)
+    each (n ∷ ns) = All-cons (IsFreeOf z) (pass_at_start z log n) (map (pass_at_start z log) ns) (refl, refl) (each ns)

@@ -29,4 +29,3 @@ earlier_whole xs ys p le = no_longer p.later xs ys p.whole le
 
 pub earlier_length : (xs ys : History) → IsEarlier xs ys → length xs ≤ length ys
 earlier_length xs ys p = omega (arith, sym (ap length p.whole) ∙ length-append p.later xs)
-

@@ -6,19 +6,19 @@ use Rattle.std.proofs.lemmas.List.Elements.{All-nil, All-cons, All-head, All-tai
 use Rattle.swap_record.specs.History.{History}
 use Rattle.swap_turn.specs.declared.view.Stage.TheVariants.{Idle}
 use Rattle.swap_turn.specs.declared.view.View.{View}
-use Rattle.swap_turn.specs.Turns.{entries_of, taken_in, pairs_of, resting}
-use Rattle.swap_turn.specs.Standing.{Standing, pair_of}
+use Rattle.swap_turn.specs.Turns.{entries_of, taken_in, pairs_of, resting_seat}
+use Rattle.swap_turn.specs.PassView.{PassView, pair_of}
 
 -- a seat of a lock of so many seats, which took in the passes `all` without `left`
-pub record Gathers (seats : ℕ) (v : View) (left all : List Standing) : Type 0 where
+pub record Gathers (seats : ℕ) (v : View) (left all : List PassView) : Type 0 where
   pub standing : v.spent ≡ false
   pub idle : v.stage ≡ Idle
   pub given : v.left ≡ []
   pub seats_is : v.seats ≡ seats
   pub pairs : map pair_of left ++ pairs_of v ≡ map pair_of all
 
-pub gathers_next : (seats : ℕ) (v w : View) (before left all : List Standing) (p : Standing) → Gathers seats v before all → before ≡ left ++ p ∷ []
-    → w ≡ taken_in v (resting p.number p.lock.seats p.seen p.mine) → Gathers seats w left all
+pub gathers_next : (seats : ℕ) (v w : View) (before left all : List PassView) (p : PassView) → Gathers seats v before all → before ≡ left ++ p ∷ []
+    → w ≡ taken_in v (resting_seat p.number p.lock.seats p.seen p.mine) → Gathers seats w left all
 gathers_next seats v w before left all p g split is = record {
   standing = ap (λ (x : View). x.spent) is ∙ g.standing;
   idle = ap (λ (x : View). x.stage) is ∙ g.idle;
@@ -29,23 +29,23 @@ gathers_next seats v w before left all p g split is = record {
       ∙ (ap (λ (l : List (ℕ × History)). l ++ pairs_of v) (sym (map-append pair_of left (p ∷ [])) ∙ ap (map pair_of) (sym split)) ∙ g.pairs));
 }
 
-pub gathered : (seats : ℕ) (v : View) (all : List Standing) → Gathers seats v [] all → seats ≤ length all → v.seats ≤ length (pairs_of v)
+pub gathered : (seats : ℕ) (v : View) (all : List PassView) → Gathers seats v [] all → seats ≤ length all → v.seats ≤ length (pairs_of v)
 gathered seats v all g most =
     let e : length (pairs_of v) ≡ length (map pair_of all) = ap length g.pairs in let f = length-map all pair_of in let h = g.seats_is in omega arith
 
 -- what holds of the pairs holds of the passes
-pub of_pairs : (log : History) (all : List Standing) → All (λ q. q.1 ≡ entries_of q.0 log) (map pair_of all) → All (λ p. p.mine ≡ entries_of p.number log) all
+pub of_pairs : (log : History) (all : List PassView) → All (λ q. q.1 ≡ entries_of q.0 log) (map pair_of all) → All (λ p. p.mine ≡ entries_of p.number log) all
 of_pairs log [] h = All-nil (λ p. p.mine ≡ entries_of p.number log)
 of_pairs log (p ∷ all) h = All-cons (λ p. p.mine ≡ entries_of p.number log) p all (All-head (λ q. q.1 ≡ entries_of q.0 log) (pair_of p) (map pair_of all) h)
     (of_pairs log all (All-tail (λ q. q.1 ≡ entries_of q.0 log) (pair_of p) (map pair_of all) h))
 
-pub all_front : (P : Standing → Type 0) (xs ys : List Standing) → All P (xs ++ ys) → All P xs
+pub all_front : (P : PassView → Type 0) (xs ys : List PassView) → All P (xs ++ ys) → All P xs
 all_front P [] ys h = All-nil P
 all_front P (x ∷ xs) ys h = All-cons P x xs (All-head P x (xs ++ ys) h) (all_front P xs ys (All-tail P x (xs ++ ys) h))
 
-pub emptied : (seats : ℕ) (v : View) (left all : List Standing) → left ≡ [] → Gathers seats v left all → Gathers seats v [] all
-emptied seats v left all none g = subst (λ (l : List Standing). Gathers seats v l all) none g
+pub emptied : (seats : ℕ) (v : View) (left all : List PassView) → left ≡ [] → Gathers seats v left all → Gathers seats v [] all
+emptied seats v left all none g = subst (λ (l : List PassView). Gathers seats v l all) none g
 
-pub all_last : (P : Standing → Type 0) (xs : List Standing) (x : Standing) → All P (xs ++ x ∷ []) → P x
+pub all_last : (P : PassView → Type 0) (xs : List PassView) (x : PassView) → All P (xs ++ x ∷ []) → P x
 all_last P [] x h = All-head P x [] h
 all_last P (y ∷ xs) x h = all_last P xs x (All-tail P y (xs ++ x ∷ []) h)

@@ -15,7 +15,7 @@ use Rattle.swap_record.specs.History.{History, Row}
 use Rattle.swap_turn.specs.declared.view.Stage.{Stage}
 use Rattle.swap_turn.specs.declared.view.Stage.TheVariants.{Idle, Serving}
 use Rattle.swap_turn.specs.declared.view.View.{View}
-use Rattle.swap_turn.specs.Turns.{entries_of, IsEarlier, weigh, weigh_below, numbers, numbers_from, tickets, tickets_of, IsServing, nobody, Fits, SlotFits, first_view, first_of, others_of, fewer_left, next_given, longer, taken_in, pairs_of}
+use Rattle.swap_turn.specs.Turns.{entries_of, IsEarlier, weigh, weigh_below, numbers, numbers_from, tickets, tickets_of, IsServing, joined_seat, Fits, SlotFits, first_view, first_of, others_of, fewer_left, next_given, history_longer, taken_in, pairs_of}
 use Rattle.swap_turn.proofs.Sums.{one, weigh-one, weigh-append, weigh_below-one, weigh_below-last, weigh_below-from, total_set, total_snoc, total_two, numbers_open}
 use Rattle.swap_turn.proofs.Earlier.{earlier_self, earlier_shorter, earlier_whole, earlier_length}
 use Rattle.swap_turn.proofs.Histories.{entries_of-append}
@@ -39,7 +39,7 @@ weigh_numbers : (h : ℕ → ℕ) (v : View) → v.spent ≡ false → weigh h (
 weigh_numbers h v standing = ap (weigh h) (numbers_open v standing) ∙ ap (λ (k : ℕ). h v.number + k) (weigh-append h v.left (map (λ p. p.0) v.joined))
 
 -- of two, one is the longer
-longer_is : (xs ys : History) → ((longer xs ys ≡ ys) × (length xs ≤ length ys)) ⊎ ((longer xs ys ≡ xs) × (length ys < length xs))
+longer_is : (xs ys : History) → ((history_longer xs ys ≡ ys) × (length xs ≤ length ys)) ⊎ ((history_longer xs ys ≡ xs) × (length ys < length xs))
 longer_is xs ys =
     ⊎_elim (λ t. inl (ap (λ (b : Bool). if b then ys else xs) t.0, t.1)) (λ t. inr (ap (λ (b : Bool). if b then ys else xs) t.0, t.1))
     (leb_tells (length xs) (length ys))
@@ -97,8 +97,9 @@ module _ {T : Type 0} (history : T → History) where
       }
     where
       only :
-          (v : View) → (v ≡ nobody) ⊎ Fits made 0 (history x) v → (j : ℕ) (u : View) → get_elem? (v ∷ []) j ≡ some u → (u ≡ nobody) ⊎ Fits made 0 (history x) u
-      only v f zero u e = subst (λ (y : View). (y ≡ nobody) ⊎ Fits made 0 (history x) y) (some-injective v u e) f
+          (v : View) → (v ≡ joined_seat) ⊎ Fits made 0 (history x) v → (j : ℕ) (u : View) → get_elem? (v ∷ []) j ≡ some u
+          → (u ≡ joined_seat) ⊎ Fits made 0 (history x) u
+      only v f zero u e = subst (λ (y : View). (y ≡ joined_seat) ⊎ Fits made 0 (history x) y) (some-injective v u e) f
       only v f (suc j) u e = absurd (some-ne-none u (sym e))
 
       none_served : (v : View) → v.stage ≡ Idle → (j : ℕ) (u : View) → get_elem? (v ∷ []) j ≡ some u → ¬ IsServing u
@@ -155,15 +156,16 @@ module _ {T : Type 0} (history : T → History) where
             let k : weigh h (others_of v.left) ≡ weigh h ns = ap (λ (z : List ℕ). weigh h (others_of z)) left_is in
             let m : h (first_of v.left) ≡ h n = ap (λ (z : List ℕ). h (first_of z)) left_is in omega arith;
         callers = r.callers;
-        each_seat = λ j u e. ⊎_elim (each_set (λ _ x. (x ≡ nobody) ⊎ Fits r.made r.serving r.log x) s.views id l (inr fits_l) (λ i x _. r.each_seat i x) j u)
-            (λ (t : g ≡ u). subst (λ (x : View). (x ≡ nobody) ⊎ Fits r.made r.serving r.log x) t (inr fits_g)) (at_snoc vs g u j e);
+        each_seat = λ j u e. ⊎_elim (each_set (λ _ x. (x ≡ joined_seat) ⊎ Fits r.made r.serving r.log x) s.views id l (inr fits_l) (λ i x _. r.each_seat i x) j
+            u)
+            (λ (t : g ≡ u). subst (λ (x : View). (x ≡ joined_seat) ⊎ Fits r.made r.serving r.log x) t (inr fits_g)) (at_snoc vs g u j e);
         newest = (let o = newest_set r.log s.views id v l at standing refl r.newest in (o.0, o.1, at_longer vs (g ∷ []) o.0 o.1 o.2, o.3, o.4));
         slot = slot_more r.log vs g (idle_quiet g refl) r.home (slot_quiet history r.log s.views id v l at quiet quiet r.home r.slot);
       }
 
   pub joins :
       (id other : ℕ) (v u : View) → v.spent ≡ false → u.spent ≡ false → v.stage ≡ Idle → u.stage ≡ Idle → v.left ≡ [] → u.left ≡ []
-      → Joins (Rule history) id v other u (taken_in v u) nobody
+      → Joins (Rule history) id v other u (taken_in v u) joined_seat
   joins id other v u v_stands u_stands v_idle u_idle v_left u_left s r at apart there =
       let b : View = taken_in v u in
       let vs : List View = set s.views id b in
@@ -179,7 +181,7 @@ module _ {T : Type 0} (history : T → History) where
             (λ t. subst (λ (z : History). IsEarlier z r.log) (sym t.0) f.seen_earlier) two;
         mine_is = f.mine_is;
         mine_seen = ⊎_elim
-            (λ (t : (longer v.seen u.seen ≡ u.seen) × (length v.seen ≤ length u.seen)).
+            (λ (t : (history_longer v.seen u.seen ≡ u.seen) × (length v.seen ≤ length u.seen)).
             f.mine_is
             ∙ (sym
             (between v.number v.seen u.seen r.log (earlier_shorter v.seen u.seen r.log f.seen_earlier g.seen_earlier t.1) g.seen_earlier
@@ -187,8 +189,8 @@ module _ {T : Type 0} (history : T → History) where
             ∙ ap (entries_of v.number) (sym t.0)))
             (λ t. f.mine_seen ∙ ap (entries_of v.number) (sym t.0)) two;
         left_seen =
-            subst (All (λ m. entries_of m r.log ≡ entries_of m (longer v.seen u.seen))) (sym v_left)
-            (All-nil (λ m. entries_of m r.log ≡ entries_of m (longer v.seen u.seen)));
+            subst (All (λ m. entries_of m r.log ≡ entries_of m (history_longer v.seen u.seen))) (sym v_left)
+            (All-nil (λ m. entries_of m r.log ≡ entries_of m (history_longer v.seen u.seen)));
         joined_is =
             All-cons (λ p. p.1 ≡ entries_of p.0 r.log) (u.number, u.mine) (u.joined ++ v.joined) g.mine_is
             (All-append (λ p. p.1 ≡ entries_of p.0 r.log) u.joined v.joined g.joined_is f.joined_is);
@@ -205,33 +207,34 @@ module _ {T : Type 0} (history : T → History) where
         serving_low = r.serving_low;
         made_low = r.made_low;
         tickets_are =
-            λ h. let a = total_set (λ x. weigh h (tickets x)) s.views id v b at in let c = total_set (λ x. weigh h (tickets x)) vs other u nobody there in
+            λ h. let a = total_set (λ x. weigh h (tickets x)) s.views id v b at in let c = total_set (λ x. weigh h (tickets x)) vs other u joined_seat there in
             let d = r.tickets_are h in
             let e = weigh_idle h u u_idle in omega arith;
         numbers_are =
-            λ h. let a = total_set (λ x. weigh h (numbers x)) s.views id v b at in let c = total_set (λ x. weigh h (numbers x)) vs other u nobody there in
+            λ h. let a = total_set (λ x. weigh h (numbers x)) s.views id v b at in let c = total_set (λ x. weigh h (numbers x)) vs other u joined_seat there in
             let d = r.numbers_are h in
             let e = weigh_numbers h v v_stands in let i = weigh_numbers h b v_stands in let j = weigh_numbers h u u_stands in
             let k : weigh h u.left ≡ 0 = ap (weigh h) u_left in
             let m : weigh h (map (λ p. p.0) (u.joined ++ v.joined)) ≡ weigh h (map (λ p. p.0) u.joined) + weigh h (map (λ p. p.0) v.joined) =
             ap (weigh h) (map-append (λ p. p.0) u.joined v.joined) ∙ weigh-append h (map (λ p. p.0) u.joined) (map (λ p. p.0) v.joined) in omega arith;
         callers = r.callers;
-        each_seat = each_set (λ _ x. (x ≡ nobody) ⊎ Fits r.made r.serving r.log x) vs other nobody (inl refl)
-            (λ j x _ e. each_set (λ _ y. (y ≡ nobody) ⊎ Fits r.made r.serving r.log y) s.views id b (inr fits_b) (λ i y _. r.each_seat i y) j x e);
+        each_seat = each_set (λ _ x. (x ≡ joined_seat) ⊎ Fits r.made r.serving r.log x) vs other joined_seat (inl refl)
+            (λ j x _ e. each_set (λ _ y. (y ≡ joined_seat) ⊎ Fits r.made r.serving r.log y) s.views id b (inr fits_b) (λ i y _. r.each_seat i y) j x e);
         newest = top at at_u f.seen_earlier g.seen_earlier two r.newest;
-        slot = slot_quiet history r.log vs other u nobody there (idle_quiet u u_idle) (idle_quiet nobody refl) r.home
+        slot = slot_quiet history r.log vs other u joined_seat there (idle_quiet u u_idle) (idle_quiet joined_seat refl) r.home
             (slot_quiet history r.log s.views id v b at (idle_quiet v v_idle) (idle_quiet v v_idle) r.home r.slot);
       }
     where
       top : get_elem? s.views id ≡ some v → get_elem? s.views other ≡ some u → IsEarlier v.seen r.log → IsEarlier u.seen r.log
-          → ((longer v.seen u.seen ≡ u.seen) × (length v.seen ≤ length u.seen)) ⊎ ((longer v.seen u.seen ≡ v.seen) × (length u.seen < length v.seen))
-          → Newest r.log s.views → Newest r.log (set (set s.views id (taken_in v u)) other nobody)
+          → ((history_longer v.seen u.seen ≡ u.seen) × (length v.seen ≤ length u.seen)) ⊎ ((history_longer v.seen u.seen ≡ v.seen)
+          × (length u.seen < length v.seen))
+          → Newest r.log s.views → Newest r.log (set (set s.views id (taken_in v u)) other joined_seat)
       top at at_u v_begins u_begins two n =
           let b : View = taken_in v u in
-          let here : (longer v.seen u.seen ≡ r.log) → Newest r.log (set (set s.views id b) other nobody) = λ whole. (
+          let here : (history_longer v.seen u.seen ≡ r.log) → Newest r.log (set (set s.views id b) other joined_seat) = λ whole. (
             id,
             b,
-            set_else (set s.views id b) other id nobody (λ e. apart (sym e)) ∙ set_there s.views id v b at,
+            set_else (set s.views id b) other id joined_seat (λ e. apart (sym e)) ∙ set_there s.views id v b at,
             v_stands,
             whole,
           ) in
@@ -249,7 +252,7 @@ module _ {T : Type 0} (history : T → History) where
           (λ t. let long : length u.seen ≡ length r.log = ap length all in let lt : length u.seen < length v.seen = t.1 in
           let m = earlier_length v.seen r.log v_begins in absurd (omega arith))
           two))
-          (λ not_other. (n.0, n.1, set_else (set s.views id b) other n.0 nobody not_other ∙ (set_else s.views id n.0 b not_id ∙ n.2), n.3, n.4)))
+          (λ not_other. (n.0, n.1, set_else (set s.views id b) other n.0 joined_seat not_other ∙ (set_else s.views id n.0 b not_id ∙ n.2), n.3, n.4)))
 
   -- the seat that took in all others knows the last value's history, and each number's entries in it
   pub ends :
@@ -269,7 +272,7 @@ module _ {T : Type 0} (history : T → History) where
       let b = length-map v.joined (λ p. p.0) in
       let c = length-append v.joined ((v.number, v.mine) ∷ []) in
       let d = f.seats_is in
-      let spent : (j : ℕ) (u : View) → j ≢ id → get_elem? s.views j ≡ some u → u ≡ nobody = λ j u other at_u.
+      let spent : (j : ℕ) (u : View) → j ≢ id → get_elem? s.views j ≡ some u → u ≡ joined_seat = λ j u other at_u.
       ⊎_elim (λ e. e)
       (λ (o : Fits r.made r.serving r.log u). let two = total_two g s.views id j v u at at_u (λ e. other (sym e)) in let k = weigh_numbers one u o.standing in
       absurd (omega arith))

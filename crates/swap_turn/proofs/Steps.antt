@@ -14,7 +14,7 @@ use Rattle.swap_record.specs.History.{History, Row}
 use Rattle.swap_turn.specs.declared.view.Stage.{Stage}
 use Rattle.swap_turn.specs.declared.view.Stage.TheVariants.{Idle, Drawn, Serving}
 use Rattle.swap_turn.specs.declared.view.View.{View}
-use Rattle.swap_turn.specs.Turns.{entries_of, IsEarlier, added_since, weigh, numbers, tickets, tickets_of, IsServing, nobody, Fits, SlotFits, Turns, drew, looked, noted, passed, Extends}
+use Rattle.swap_turn.specs.Turns.{entries_of, IsEarlier, added_since, weigh, numbers, tickets, tickets_of, IsServing, joined_seat, Fits, SlotFits, Turns, drew, looked, noted, passed, Extends}
 use Rattle.swap_turn.proofs.Sums.{at_only, one, at_only-same, below_once, below_some, weigh_below-one, weigh-append, total_set, total_two, total_one, total_le, numbers_open}
 use Rattle.swap_turn.proofs.Earlier.{earlier_self, earlier_trans}
 use Rattle.swap_turn.proofs.Histories.{entries_of-append, entries_of-own, entries_of-grown, added_since-is, all_apart, all_pairs_apart}
@@ -45,10 +45,10 @@ newest_set log vs id v w at standing same n = dite (ℕ_discrete n.0 id)
     (λ is. (id, w, set_there vs id v w at, standing, same ∙ (ap (λ (x : View). x.seen) (sym (same_view vs id n.0 v n.1 at n.2 is)) ∙ n.4)))
     (λ other. (n.0, n.1, set_else vs id n.0 w other ∙ n.2, n.3, n.4))
 
-pub not_spent : (v : View) → v.spent ≡ false → v ≡ nobody → ⊥
+pub not_spent : (v : View) → v.spent ≡ false → v ≡ joined_seat → ⊥
 not_spent v standing e = true≢false (sym (ap (λ (x : View). x.spent) e) ∙ standing)
 
-pub not_served : (v : View) → v ≡ nobody → IsServing v → ⊥
+pub not_served : (v : View) → v ≡ joined_seat → IsServing v → ⊥
 not_served v e s = let is : Idle ≡ Serving s.0 = sym (ap (λ (x : View). x.stage) e) ∙ s.1 in absurd cc
 
 module _ {T : Type 0} where
@@ -97,7 +97,7 @@ module _ {T : Type 0} (history : T → History) where
   tickets_few (Drawn t) = omega arith
   tickets_few (Serving t) = omega arith
 
-  few : (made serving : ℕ) (log : History) (v : View) → (v ≡ nobody) ⊎ Fits made serving log v → weigh one (tickets v) ≤ weigh one (numbers v)
+  few : (made serving : ℕ) (log : History) (v : View) → (v ≡ joined_seat) ⊎ Fits made serving log v → weigh one (tickets v) ≤ weigh one (numbers v)
   few made serving log v = ⊎_elim (λ e. let P : View → Type 0 = λ x. weigh one (tickets x) ≤ weigh one (numbers x) in subst P (sym e) (omega arith))
       (λ (f : Fits made serving log v). let a = tickets_few v.stage in
       let b : weigh one (numbers v) ≡ 1 + weigh one (v.left ++ map (λ p. p.0) v.joined) = ap (weigh one) (numbers_open v f.standing) in omega arith)
@@ -155,7 +155,7 @@ module _ {T : Type 0} (history : T → History) where
               let d : h n ≡ h r.ticket = ap h is in omega arith;
           numbers_are = λ h. let a = total_set (λ x. weigh h (numbers x)) s.views id v w at in let b = r.numbers_are h in omega arith;
           callers = r.callers;
-          each_seat = each_set (λ j u. (u ≡ nobody) ⊎ Fits r.made r.serving r.log u) s.views id w
+          each_seat = each_set (λ j u. (u ≡ joined_seat) ⊎ Fits r.made r.serving r.log u) s.views id w
               (inr record {
                 standing = standing;
                 seats_is = f.seats_is;
@@ -212,7 +212,7 @@ module _ {T : Type 0} (history : T → History) where
               let c : weigh h (tickets v) ≡ h t + 0 = ap (λ (st : Stage). weigh h (tickets_of st)) drawn in omega arith;
           numbers_are = λ h. let a = total_set (λ u. weigh h (numbers u)) s.views id v w at in let b = r.numbers_are h in omega arith;
           callers = r.callers;
-          each_seat = each_set (λ j u. (u ≡ nobody) ⊎ Fits r.made r.serving r.log u) s.views id w
+          each_seat = each_set (λ j u. (u ≡ joined_seat) ⊎ Fits r.made r.serving r.log u) s.views id w
               (inr record {
                 standing = standing;
                 seats_is = f.seats_is;
@@ -277,7 +277,7 @@ module _ {T : Type 0} (history : T → History) where
   -- what fits one history fits it with another's entries added
   grown :
       (made serving c : ℕ) (log added : History) (u : View) → All (λ (e : Row). e.entry.caller.0 ≡ c) added → weigh (at_only c) (numbers u) ≡ 0 → ¬ IsServing u
-      → (u ≡ nobody) ⊎ Fits made serving log u → (u ≡ nobody) ⊎ Fits made serving (added ++ log) u
+      → (u ≡ joined_seat) ⊎ Fits made serving log u → (u ≡ joined_seat) ⊎ Fits made serving (added ++ log) u
   grown made serving c log added u own apart quiet = ⊎_elim inl (λ (f : Fits made serving log u).
       let mine : weigh (at_only c) (numbers u) ≡ at_only c u.number + weigh (at_only c) (u.left ++ map (λ p. p.0) u.joined) =
       ap (weigh (at_only c)) (numbers_open u f.standing) in
@@ -345,7 +345,7 @@ module _ {T : Type 0} (history : T → History) where
               (All-weaker (λ (e : Row). e.entry.caller.0 ≡ c) (λ (e : Row). e.entry.caller.0 < r.made)
               (λ e is. subst (λ (z : ℕ). z < r.made) (sym is) once.0) added own)
               r.callers);
-          each_seat = each_set (λ j u. (u ≡ nobody) ⊎ Fits r.made r.serving now u) s.views id w
+          each_seat = each_set (λ j u. (u ≡ joined_seat) ⊎ Fits r.made r.serving now u) s.views id w
               (inr record {
                 standing = standing;
                 seats_is = f.seats_is;
@@ -359,7 +359,7 @@ module _ {T : Type 0} (history : T → History) where
                     (λ p ne e. e ∙ (sym (entries_of-grown p.0 c added r.log ne own) ∙ ap (entries_of p.0) whole)) v.joined once.2 f.joined_is;
                 served = λ t' e. let q : t ≡ t' = cc in let p = f.served t' e in (p.0, refl, p.2);
               })
-              (λ j u other at_u. subst (λ (l : History). (u ≡ nobody) ⊎ Fits r.made r.serving l u) whole
+              (λ j u other at_u. subst (λ (l : History). (u ≡ joined_seat) ⊎ Fits r.made r.serving l u) whole
               (grown r.made r.serving c r.log added u own (once.3 j u other at_u)
               (λ sv. other (served_alone s r id t v at (ap tickets_of serves) g.0 j u at_u sv)) (r.each_seat j u at_u)));
           newest = (id, w, set_there s.views id v w at, standing, refl);
@@ -405,7 +405,7 @@ module _ {T : Type 0} (history : T → History) where
               let d : h t ≡ h r.serving = ap h is in omega arith;
           numbers_are = λ h. let a = total_set (λ u. weigh h (numbers u)) s.views id v w at in let b = r.numbers_are h in omega arith;
           callers = r.callers;
-          each_seat = each_set (λ j u. (u ≡ nobody) ⊎ Fits r.made (suc r.serving) r.log u) s.views id w
+          each_seat = each_set (λ j u. (u ≡ joined_seat) ⊎ Fits r.made (suc r.serving) r.log u) s.views id w
               (inr record {
                 standing = standing;
                 seats_is = f.seats_is;

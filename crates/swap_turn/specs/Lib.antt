@@ -1,4 +1,4 @@
 pub mod Turns
-pub mod Standing
+pub mod PassView
 pub mod Holding
 pub mod Laws

@@ -60,12 +60,12 @@ abbrev pub IsServing : View → Type 0
 IsServing v = (t : ℕ) × (v.stage ≡ Serving t)
 
 -- a seat that was joined into another
-abbrev pub nobody : View
-nobody = record { spent = true; number = 0; seats = 0; seen = []; mine = []; stage = Idle; left = []; joined = [] }
+abbrev pub joined_seat : View
+joined_seat = record { spent = true; number = 0; seats = 0; seen = []; mine = []; stage = Idle; left = []; joined = [] }
 
 -- a seat between two turns
-abbrev pub resting : ℕ → ℕ → History → History → View
-resting number seats seen mine =
+abbrev pub resting_seat : ℕ → ℕ → History → History → View
+resting_seat number seats seen mine =
     record {
       spent = false;
       number = number;
@@ -78,8 +78,8 @@ resting number seats seen mine =
     }
 
 -- a seat at this stage, with nothing to give and nothing taken in
-abbrev pub posed : Stage → View → View
-posed st v = record (resting v.number v.seats v.seen v.mine) { stage = st }
+abbrev pub posed_seat : Stage → View → View
+posed_seat st v = record (resting_seat v.number v.seats v.seen v.mine) { stage = st }
 
 abbrev pub ticket_of : Stage → ℕ
 ticket_of Idle = 0
@@ -126,7 +126,7 @@ module _ {T : Type 0} (history : T → History) where
     -- each number below `made` stands in one seat, once
     pub numbers_are : (h : ℕ → ℕ) → total (λ v. weigh h (numbers v)) s.views ≡ weigh_below h made
     pub callers : All (λ (row : Row). row.entry.caller.0 < made) log
-    pub each_seat : (j : ℕ) (v : View) → get_elem? s.views j ≡ some v → (v ≡ nobody) ⊎ Fits made serving log v
+    pub each_seat : (j : ℕ) (v : View) → get_elem? s.views j ≡ some v → (v ≡ joined_seat) ⊎ Fits made serving log v
     pub newest : (j : ℕ) × (v : View) × (get_elem? s.views j ≡ some v) × (v.spent ≡ false) × (v.seen ≡ log)
     pub slot : SlotFits log s.views home
 
@@ -157,14 +157,14 @@ abbrev pub fewer_left : View → View
 fewer_left v = record v { left = others_of v.left }
 
 abbrev pub next_given : View → View
-next_given v = resting (first_of v.left) v.seats v.seen (entries_of (first_of v.left) v.seen)
+next_given v = resting_seat (first_of v.left) v.seats v.seen (entries_of (first_of v.left) v.seen)
 
-abbrev pub longer : History → History → History
-longer xs ys = (if nat_le (length xs) (length ys) then ys else xs)
+abbrev pub history_longer : History → History → History
+history_longer xs ys = (if nat_le (length xs) (length ys) then ys else xs)
 
 -- a join takes in the other's number, entries and pairs
 abbrev pub taken_in : View → View → View
-taken_in v w = record v { seen = longer v.seen w.seen; joined = (w.number, w.mine) ∷ (w.joined ++ v.joined) }
+taken_in v w = record v { seen = history_longer v.seen w.seen; joined = (w.number, w.mine) ∷ (w.joined ++ v.joined) }
 
 -- the numbers of a seat with their entries, its own last
 abbrev pub pairs_of : View → List (ℕ × History)

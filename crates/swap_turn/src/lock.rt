@@ -1,8 +1,8 @@
 // The lock, its passes and a turn.
 ghost use Rattle.std.specs.Prelude.{◌≡◌, ◌<◌, ◌≤◌, ◌↔◌, ◌++◌, ◌∷◌, [], true, false, length, vec_len, vec_capacity, map, All, IfOk, IfErr, IsErr, None};
 ghost use Rattle.swap_record.specs.History.{Row};
-ghost use Rattle.swap_turn.specs.Turns.{entries_of, IsEarlier, resting, posed, ticket_of, Extends, first_view, numbers_from};
-ghost use Rattle.swap_turn.specs.Standing.{newcomer, IsFreeOf, StandsFor, after_turn};
+ghost use Rattle.swap_turn.specs.Turns.{entries_of, IsEarlier, resting_seat, posed_seat, ticket_of, Extends, first_view, numbers_from};
+ghost use Rattle.swap_turn.specs.PassView.{pass_at_start, IsFreeOf, StandsFor, after_turn};
 ghost use Rattle.swap_turn.specs.declared.view.Stage.TheVariants.{Drawn, Serving};
 
 use crate::bells::{Bells, NEAR};
@@ -31,7 +31,7 @@ pub struct TurnLock<T: Told + Drop, A: Allocator = Global> {
 
 impl<T: Told + Drop, A: Allocator> Model for TurnLock<T, A> {
     ghost use Rattle.std.specs.Prelude.{◌≡◌, ◌≤◌};
-    ghost use Rattle.swap_turn.specs.Standing.{LockId};
+    ghost use Rattle.swap_turn.specs.PassView.{LockId};
 
     ghost Value = { LockId };
 
@@ -49,9 +49,9 @@ pub struct Pass {
 }
 
 impl Model for Pass {
-    ghost use Rattle.swap_turn.specs.Standing.{Standing, standing_of, IsSeated};
+    ghost use Rattle.swap_turn.specs.PassView.{PassView, standing_of, IsSeated};
 
-    ghost Value = { Standing };
+    ghost Value = { PassView };
 
     ghost view = { λ p. standing_of p.badge.table_id p.number p.badge.views };
 
@@ -62,7 +62,7 @@ impl Model for Pass {
 pub struct Turn<T> {
     seat: Seat<Option<T>, View>,
     pub(crate) value: T,
-    ghost held: { (seat.me.0 ≡ posed (Serving (ticket_of seat.me.0.stage)) seat.me.0)
+    ghost held: { (seat.me.0 ≡ posed_seat (Serving (ticket_of seat.me.0.stage)) seat.me.0)
         × (seat.me.1 ≡ (0, None) ∷ []) },
 }
 
@@ -76,7 +76,7 @@ impl Pass {
     fn into_seat<T>(self) -> Seat<Option<T>, View>
         requires { self.free ≡ true }
         ensures { (result.table_id ≡ self.lock.table)
-            × (result.me ≡ (resting self.number self.lock.seats self.seen self.mine, [])) }
+            × (result.me ≡ (resting_seat self.number self.lock.seats self.seen self.mine, [])) }
     {
         let Pass { badge, number: _ } = self;
         badge.into_seat()
@@ -87,7 +87,7 @@ impl Pass {
         requires { self.old.free ≡ true }
         ensures seat { (result.table_id ≡ self.old.lock.table)
             × (result.me
-            ≡ (resting self.old.number self.old.lock.seats self.old.seen self.old.mine, [])) }
+            ≡ (resting_seat self.old.number self.old.lock.seats self.old.seen self.old.mine, [])) }
         ensures pass { (self.new.number ≡ self.old.number) × (self.new.free ≡ false) }
     {
         mem::replace(&mut self.badge, Badge::blank()).into_seat()
@@ -110,7 +110,7 @@ impl<T: Told + Drop, A: Allocator> TurnLock<T, A> {
         requires callers { All (λ (row : Row). row.entry.caller.0 < seats) (T.history value) }
         ensures seats { IfOk result (λ r. r.0.seats ≡ seats) }
         ensures passes { IfOk result
-            (λ r. r.1.items ≡ map (newcomer r.0 (T.history value)) (numbers_from 0 seats)) }
+            (λ r. r.1.items ≡ map (pass_at_start r.0 (T.history value)) (numbers_from 0 seats)) }
         ensures free { IfOk result (λ r. All (IsFreeOf r.0) r.1.items) }
     {
         let mut passes = Vec::with_capacity(alloc.clone()?, seats as usize)?;
@@ -156,7 +156,7 @@ impl<T: Told + Drop, A: Allocator> TurnLock<T, A> {
     // between isn't lost.
     fn wait<R: Wait>(&self, rt: &R, mut seat: Seat<Option<T>, View>, ticket: u64) -> Turn<T>
         requires lock { seat.table_id ≡ self.now.table }
-        requires drawn { seat.me ≡ (posed (Drawn ticket) seat.me.0, []) }
+        requires drawn { seat.me ≡ (posed_seat (Drawn ticket) seat.me.0, []) }
         ensures seen { IsEarlier seat.me.0.seen (T.history (value_of result)) }
         ensures turn { holder result
             ≡ record {
@@ -247,7 +247,7 @@ fn deal<T: Told + Drop, A: Allocator>(
     requires room { (passes.old.items ≡ []) × (seats ≤ vec_capacity passes.old) }
     ensures passes { passes.new.items
         ≡ map
-        (newcomer (record { table = table.now.shared.table_id; seats = seats }) seat.me.0.seen)
+        (pass_at_start (record { table = table.now.shared.table_id; seats = seats }) seat.me.0.seen)
         (numbers_from 0 seats) }
     ensures free { All
         (IsFreeOf (record { table = table.now.shared.table_id; seats = seats })) passes.new.items }

@@ -9,20 +9,20 @@ use Rattle.swap_wire.specs.declared.frames.Judged.TheVariants.{Whole, Partial, H
 use Rattle.swap_wire.specs.declared.decoder.Next.{Next}
 use Rattle.swap_wire.specs.declared.decoder.Next.TheVariants as next
 use Rattle.swap_wire.specs.Frames.{form, form_of, frame, IsBytes, IsFrame, IsWhole, IsPartial, IsHopeless}
-use Rattle.swap_wire.specs.Heads.{whole_length, judged, message, fields_in, page_of}
-use Rattle.swap_wire.specs.Decoding.{Decoding, stopping, answered, page_in, Gives, Waits, Fails, Answers}
-use Rattle.swap_wire.specs.Verdicts.{told_by, told, left_by, left, shown_by, shown}
+use Rattle.swap_wire.specs.Heads.{whole_length, judge_head, message, fields_in, page_of}
+use Rattle.swap_wire.specs.Decoding.{DecoderView, count_up, answered_after, page_in, Gives, Waits, Fails, Answers}
+use Rattle.swap_wire.specs.Verdicts.{told_by, next_told, left_by, left_after, shown_by, bytes_shown}
 use Rattle.swap_wire.proofs.Unique.{no_front, one_message}
 use Rattle.swap_wire.proofs.Judging.{whole_is, partial_is, hopeless_is}
 
 -- an answer with its page, and the decoder after it
-pub record Comes (d : Decoding) (answer : Next) (after : Decoding) (page : List ℕ) : Type 0 where
+pub record Comes (d : DecoderView) (answer : Next) (after : DecoderView) (page : List ℕ) : Type 0 where
   pub answers : Answers d answer page
-  pub after_is : after ≡ answered d answer page
+  pub after_is : after ≡ answered_after d answer page
   pub in_front : (buffer : List ℕ) → page_in d answer (page ++ buffer) ≡ page
 
 comes_whole :
-    (d : Decoding) (k : Kind) → judged d.side d.page_bytes d.rest ≡ Whole k → d.bad ≡ false → d.page_bytes ≤ 4096 → IsBytes d.rest
+    (d : DecoderView) (k : Kind) → judge_head d.side d.page_bytes d.rest ≡ Whole k → d.bad ≡ false → d.page_bytes ≤ 4096 → IsBytes d.rest
     → Comes d (told_by d (Whole k)) (left_by d (Whole k)) (shown_by d (Whole k))
 comes_whole d k e alive most fits =
     let n = whole_length d.page_bytes (form k) in
@@ -39,12 +39,12 @@ comes_whole d k e alive most fits =
         is_frame = subst (λ (x : List ℕ). IsFrame d.side d.page_bytes m p x) spelled f.is_frame;
         front = parts ∙ ap (λ (i : ℕ). frame m p ++ drop i d.rest) (sym size);
       };
-      after_is = ap (λ (i : ℕ). record d { rest = drop i d.rest; before = stopping (d.before + i) }) (sym size);
+      after_is = ap (λ (i : ℕ). record d { rest = drop i d.rest; before = count_up (d.before + i) }) (sym size);
       in_front = λ buffer. take_at p buffer ((form_of m).pages * d.page_bytes) f.is_frame.pages;
     }
 
 pub comes_by :
-    (d : Decoding) (j : Judged) → judged d.side d.page_bytes d.rest ≡ j → d.bad ≡ false → d.page_bytes ≤ 4096 → IsBytes d.rest
+    (d : DecoderView) (j : Judged) → judge_head d.side d.page_bytes d.rest ≡ j → d.bad ≡ false → d.page_bytes ≤ 4096 → IsBytes d.rest
     → Comes d (told_by d j) (left_by d j) (shown_by d j)
 comes_by d (Whole k) e alive most fits = comes_whole d k e alive most fits
 comes_by d Partial e alive most fits =
@@ -52,24 +52,24 @@ comes_by d Partial e alive most fits =
 comes_by d Hopeless e alive most fits =
     record { answers = record { hopeless = hopeless_is d.side d.page_bytes d.rest e; place = refl }; after_is = refl; in_front = λ buffer. refl }
 
-stays_bad : (d : Decoding) → d.bad ≡ true → d ≡ record d { bad = true }
+stays_bad : (d : DecoderView) → d.bad ≡ true → d ≡ record d { bad = true }
 stays_bad d e = ap (λ (b : Bool). record d { bad = b }) e
 
-comes_bad : (d : Decoding) → d.bad ≡ true → judged d.side d.page_bytes d.rest ≡ Hopeless → Comes d (next.Bad d.before) d []
+comes_bad : (d : DecoderView) → d.bad ≡ true → judge_head d.side d.page_bytes d.rest ≡ Hopeless → Comes d (next.Bad d.before) d []
 comes_bad d bad e =
     record { answers = record { hopeless = hopeless_is d.side d.page_bytes d.rest e; place = refl }; after_is = stays_bad d bad; in_front = λ buffer. refl }
 
 either :
-    (d : Decoding) (b : Bool) (x y : Next) (v w : Decoding) (p q : List ℕ) → (b ≡ true → Comes d x v p) → (b ≡ false → Comes d y w q)
+    (d : DecoderView) (b : Bool) (x y : Next) (v w : DecoderView) (p q : List ℕ) → (b ≡ true → Comes d x v p) → (b ≡ false → Comes d y w q)
     → Comes d (cond b x y) (cond b v w) (cond b p q)
 either d true x y v w p q h g = h refl
 either d false x y v w p q h g = g refl
 
 pub comes :
-    (d : Decoding) → d.page_bytes ≤ 4096 → (d.bad ≡ false → IsBytes d.rest) → (d.bad ≡ true → judged d.side d.page_bytes d.rest ≡ Hopeless)
-    → Comes d (told d) (left d) (shown d)
+    (d : DecoderView) → d.page_bytes ≤ 4096 → (d.bad ≡ false → IsBytes d.rest) → (d.bad ≡ true → judge_head d.side d.page_bytes d.rest ≡ Hopeless)
+    → Comes d (next_told d) (left_after d) (bytes_shown d)
 comes d most fits bad =
-    let j = judged d.side d.page_bytes d.rest in
+    let j = judge_head d.side d.page_bytes d.rest in
     either d d.bad (next.Bad d.before) (told_by d j) d (left_by d j) [] (shown_by d j) (λ b. comes_bad d b (bad b)) (λ b. comes_by d j refl b most (fits b))
 
 -- ---- exactly where each answer comes
@@ -92,10 +92,10 @@ excludes side page_bytes bytes = (
   λ p h. h.none_beyond p.m p.page p.more p.is_frame,
 )
 
-pub whole_from : (d : Decoding) (m : Msg) (page : List ℕ) → Gives d m page → IsWhole d.side d.page_bytes d.rest
+pub whole_from : (d : DecoderView) (m : Msg) (page : List ℕ) → Gives d m page → IsWhole d.side d.page_bytes d.rest
 whole_from d m page g = record { m = m; page = page; front = frame m page; rest = drop (length (frame m page)) d.rest; is_frame = g.is_frame; parts = g.front }
 
-pub must_give : (d : Decoding) (m : Msg) (front : List ℕ) (answer : Next) (page : List ℕ) → Answers d answer page → Gives d m front → answer ≡ next.Got m
+pub must_give : (d : DecoderView) (m : Msg) (front : List ℕ) (answer : Next) (page : List ℕ) → Answers d answer page → Gives d m front → answer ≡ next.Got m
 must_give d m front (next.Got n) page a g =
     let f = frame n page in
     let h = frame m front in
@@ -107,41 +107,41 @@ must_give d m front (next.Got n) page a g =
 must_give d m front next.More page a g = absurd ((excludes d.side d.page_bytes d.rest).0 (whole_from d m front g) a.partial)
 must_give d m front (next.Bad at) page a g = absurd ((excludes d.side d.page_bytes d.rest).1 (whole_from d m front g) a.hopeless)
 
-pub must_wait : (d : Decoding) (answer : Next) (page : List ℕ) → Answers d answer page → Waits d → answer ≡ next.More
+pub must_wait : (d : DecoderView) (answer : Next) (page : List ℕ) → Answers d answer page → Waits d → answer ≡ next.More
 must_wait d (next.Got m) page a w = absurd ((excludes d.side d.page_bytes d.rest).0 (whole_from d m page a) w.partial)
 must_wait d next.More page a w = refl
 must_wait d (next.Bad at) page a w = absurd ((excludes d.side d.page_bytes d.rest).2 w.partial a.hopeless)
 
-pub must_fail : (d : Decoding) (at : ℕ) (answer : Next) (page : List ℕ) → Answers d answer page → Fails d at → answer ≡ next.Bad at
+pub must_fail : (d : DecoderView) (at : ℕ) (answer : Next) (page : List ℕ) → Answers d answer page → Fails d at → answer ≡ next.Bad at
 must_fail d at (next.Got m) page a f = absurd ((excludes d.side d.page_bytes d.rest).1 (whole_from d m page a) f.hopeless)
 must_fail d at next.More page a f = absurd ((excludes d.side d.page_bytes d.rest).2 a.partial f.hopeless)
 must_fail d at (next.Bad other) page a f = ap (λ (n : ℕ). next.Bad n) (a.place ∙ sym f.place)
 
 -- ---- what a call of `next` says
 
-pub record Called (d : Decoding) (answer : Next) (after : Decoding) (buffer new : List ℕ) : Type 0 where
+pub record Called (d : DecoderView) (answer : Next) (after : DecoderView) (buffer new : List ℕ) : Type 0 where
   pub answers : Answers d answer (page_in d answer new)
-  pub after_is : after ≡ answered d answer (page_in d answer new)
+  pub after_is : after ≡ answered_after d answer (page_in d answer new)
   pub page : new ≡ page_in d answer new ++ drop (length (page_in d answer new)) buffer
 
 pub called :
-    (d : Decoding) (answer : Next) (after : Decoding) (buffer new : List ℕ) → d.page_bytes ≤ 4096 → (d.bad ≡ false → IsBytes d.rest)
-    → (d.bad ≡ true → judged d.side d.page_bytes d.rest ≡ Hopeless) → answer ≡ told d → after ≡ left d
-    → new ≡ shown d ++ drop (length (shown d)) buffer
+    (d : DecoderView) (answer : Next) (after : DecoderView) (buffer new : List ℕ) → d.page_bytes ≤ 4096 → (d.bad ≡ false → IsBytes d.rest)
+    → (d.bad ≡ true → judge_head d.side d.page_bytes d.rest ≡ Hopeless) → answer ≡ next_told d → after ≡ left_after d
+    → new ≡ bytes_shown d ++ drop (length (bytes_shown d)) buffer
     → Called d answer after buffer new
 called d answer after buffer new most fits bad is left_is shown_is =
     let c = comes d most fits bad in
-    let page : page_in d answer new ≡ shown d =
-    ap (λ (a : Next). page_in d a new) is ∙ ap (page_in d (told d)) shown_is ∙ c.in_front (drop (length (shown d)) buffer) in
-    let answers : Answers d answer (shown d) = subst (λ (a : Next). Answers d a (shown d)) (sym is) c.answers in
+    let page : page_in d answer new ≡ bytes_shown d =
+    ap (λ (a : Next). page_in d a new) is ∙ ap (page_in d (next_told d)) shown_is ∙ c.in_front (drop (length (bytes_shown d)) buffer) in
+    let answers : Answers d answer (bytes_shown d) = subst (λ (a : Next). Answers d a (bytes_shown d)) (sym is) c.answers in
     record {
       answers = subst (λ (p : List ℕ). Answers d answer p) (sym page) answers;
-      after_is = left_is ∙ c.after_is ∙ ap (λ (a : Next). answered d a (shown d)) (sym is) ∙ ap (answered d answer) (sym page);
+      after_is = left_is ∙ c.after_is ∙ ap (λ (a : Next). answered_after d a (bytes_shown d)) (sym is) ∙ ap (answered_after d answer) (sym page);
       page = shown_is ∙ ap (λ (p : List ℕ). p ++ drop (length p) buffer) (sym page);
     }
 
 -- no answer changes how many bytes a page has
-pub same_pages : (d : Decoding) (answer : Next) (page : List ℕ) → (answered d answer page).page_bytes ≡ d.page_bytes
+pub same_pages : (d : DecoderView) (answer : Next) (page : List ℕ) → (answered_after d answer page).page_bytes ≡ d.page_bytes
 same_pages d (next.Got m) page = refl
 same_pages d next.More page = refl
 same_pages d (next.Bad at) page = refl

@@ -11,7 +11,7 @@ use Rattle.swap_wire.specs.declared.side.Side.TheVariants.{Device, Lender}
 use Rattle.swap_wire.specs.declared.kind.Kind.{Kind}
 use Rattle.swap_wire.specs.declared.frames.Judged.TheVariants.{Whole, Partial, Hopeless}
 use Rattle.swap_wire.specs.Frames.{form, form_of, kind, fields, IsBytes, IsFrame, IsPartial, IsHopeless}
-use Rattle.swap_wire.specs.Heads.{all_kinds, whole_length, head, same_side, agree, may_begin, judged_as, judged, message, fields_in, page_of}
+use Rattle.swap_wire.specs.Heads.{all_kinds, whole_length, head, same_side, agree, may_begin, judged_as, judge_head, message, fields_in, page_of}
 use Rattle.swap_wire.proofs.Bytes.{IsBytes-drop, IsBytes-take, IsBytes-append, IsBytes-zeros}
 use Rattle.swap_wire.proofs.Fields.{find_some, none_passes, fields_message, numbers_message, kind_message, pages_below, fields_short}
 use Rattle.swap_wire.proofs.Unique.{counted_is, frame_by_head, begins}
@@ -131,7 +131,7 @@ pub record Front (side : Side) (page_bytes : ℕ) (bytes : List ℕ) (k : Kind) 
       (page_of k (take (whole_length page_bytes (form k)) bytes)) (take (whole_length page_bytes (form k)) bytes)
 
 pub whole_is :
-    (side : Side) (page_bytes : ℕ) (bytes : List ℕ) (k : Kind) → judged side page_bytes bytes ≡ Whole k → page_bytes ≤ 4096 → IsBytes bytes
+    (side : Side) (page_bytes : ℕ) (bytes : List ℕ) (k : Kind) → judge_head side page_bytes bytes ≡ Whole k → page_bytes ≤ 4096 → IsBytes bytes
     → Front side page_bytes bytes k
 whole_is side page_bytes bytes k e most fits =
     let n = whole_length page_bytes (form k) in
@@ -186,7 +186,7 @@ partial_short side page_bytes bytes k f most lt =
     }
 
 pub partial_is :
-    (side : Side) (page_bytes : ℕ) (bytes : List ℕ) → judged side page_bytes bytes ≡ Partial → page_bytes ≤ 4096 → IsBytes bytes
+    (side : Side) (page_bytes : ℕ) (bytes : List ℕ) → judge_head side page_bytes bytes ≡ Partial → page_bytes ≤ 4096 → IsBytes bytes
     → IsPartial side page_bytes bytes
 partial_is side page_bytes bytes e most fits =
     let p = partial_found page_bytes bytes (find (may_begin side page_bytes bytes) all_kinds) e in
@@ -209,7 +209,7 @@ refuted side page_bytes bytes m page front x y none f e =
     both_ways (may_begin side page_bytes bytes (kind m)) (none_passes (may_begin side page_bytes bytes) (kind m) none)
     (and_from (same_side side (form_of m).from) (agree h bytes) sides agrees)
 
-pub hopeless_is : (side : Side) (page_bytes : ℕ) (bytes : List ℕ) → judged side page_bytes bytes ≡ Hopeless → IsHopeless side page_bytes bytes
+pub hopeless_is : (side : Side) (page_bytes : ℕ) (bytes : List ℕ) → judge_head side page_bytes bytes ≡ Hopeless → IsHopeless side page_bytes bytes
 hopeless_is side page_bytes bytes e =
     let none = none_found page_bytes bytes (find (may_begin side page_bytes bytes) all_kinds) e in
     record {

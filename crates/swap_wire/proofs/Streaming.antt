@@ -11,9 +11,9 @@ use Rattle.swap_wire.specs.declared.kind.Kind.{Kind}
 use Rattle.swap_wire.specs.declared.frames.Judged.{Judged}
 use Rattle.swap_wire.specs.declared.frames.Judged.TheVariants.{Whole, Partial, Hopeless}
 use Rattle.swap_wire.specs.Frames.{form, form_of, kind, frame, NumbersFit, IsBytes, IsFrame, IsWhole, IsPartial, IsHopeless, longest}
-use Rattle.swap_wire.specs.Heads.{whole_length, judged, message, fields_in, page_of}
-use Rattle.swap_wire.specs.Decoding.{Decoding, room, taken, fed, stopping, answered, Waits}
-use Rattle.swap_wire.specs.Streams.{Step, Fed, Asked, after, Happens, Runs, end_of, stream, given, frames_of, AreSent, Splits, SaysBad}
+use Rattle.swap_wire.specs.Heads.{whole_length, judge_head, message, fields_in, page_of}
+use Rattle.swap_wire.specs.Decoding.{DecoderView, room, bytes_taken, feed_after, count_up, answered_after, Waits}
+use Rattle.swap_wire.specs.Streams.{Step, Fed, Asked, decoder_after, Happens, Runs, end_of, stream, messages_given, frames_of, AreSent, Splits, SaysBad}
 use Rattle.swap_wire.specs.Laws.{BadStays}
 use Rattle.swap_wire.proofs.Bytes.{IsBytes-zeros}
 use Rattle.swap_wire.proofs.Fields.{pages_below, fields_short}
@@ -22,51 +22,51 @@ use Rattle.swap_wire.proofs.Judging.{whole_is, partial_is, hopeless_is, Front}
 
 -- ---- once bad, always bad
 
-fed_bad : (d : Decoding) (bytes : List ℕ) → d.bad ≡ true → fed d bytes ≡ d
+fed_bad : (d : DecoderView) (bytes : List ℕ) → d.bad ≡ true → feed_after d bytes ≡ d
 fed_bad d bytes e = cond-true d.bad d (record d { rest = d.rest ++ take (room d) bytes }) e
 
-fed_alive : (d : Decoding) (bytes : List ℕ) → d.bad ≡ false → fed d bytes ≡ record d { rest = d.rest ++ take (room d) bytes }
+fed_alive : (d : DecoderView) (bytes : List ℕ) → d.bad ≡ false → feed_after d bytes ≡ record d { rest = d.rest ++ take (room d) bytes }
 fed_alive d bytes e = cond-false d.bad d (record d { rest = d.rest ++ take (room d) bytes }) e
 
-bad_again : (d : Decoding) → d.bad ≡ true → record d { bad = true } ≡ d
+bad_again : (d : DecoderView) → d.bad ≡ true → record d { bad = true } ≡ d
 bad_again d e = ap (λ (b : Bool). record d { bad = b }) (sym e)
 
-step_bad : (d : Decoding) (step : Step) → d.bad ≡ true → Happens d step → after d step ≡ d
+step_bad : (d : DecoderView) (step : Step) → d.bad ≡ true → Happens d step → decoder_after d step ≡ d
 step_bad d (Fed bytes) e h = fed_bad d bytes e
 step_bad d (Asked (next.Got m) page) e h = absurd (both_ways d.bad h.alive e)
 step_bad d (Asked next.More page) e h = refl
 step_bad d (Asked (next.Bad at) page) e h = bad_again d e
 
-end_bad : (d : Decoding) (steps : List Step) → d.bad ≡ true → Runs d steps → end_of d steps ≡ d
+end_bad : (d : DecoderView) (steps : List Step) → d.bad ≡ true → Runs d steps → end_of d steps ≡ d
 end_bad d [] e r = refl
 end_bad d (step ∷ steps) e r =
     let same = step_bad d step e r.0 in
-    let later : Runs d steps = subst (λ (x : Decoding). Runs x steps) same r.1 in
-    ap (λ (x : Decoding). end_of x steps) same ∙ end_bad d steps e later
+    let later : Runs d steps = subst (λ (x : DecoderView). Runs x steps) same r.1 in
+    ap (λ (x : DecoderView). end_of x steps) same ∙ end_bad d steps e later
 
 -- so a decoder that isn't bad at the end wasn't before
-was_alive : (d : Decoding) (steps : List Step) → Runs d steps → (end_of d steps).bad ≡ false → d.bad ≡ false
+was_alive : (d : DecoderView) (steps : List Step) → Runs d steps → (end_of d steps).bad ≡ false → d.bad ≡ false
 was_alive d steps r e =
     elim (cases_Bool d.bad) [
-      | inl bad ↦ absurd (both_ways (end_of d steps).bad e (ap (λ (x : Decoding). x.bad) (end_bad d steps bad r) ∙ bad))
+      | inl bad ↦ absurd (both_ways (end_of d steps).bad e (ap (λ (x : DecoderView). x.bad) (end_bad d steps bad r) ∙ bad))
       | inr alive ↦ alive
     ]
 
-taken_bad : (d : Decoding) (bytes : List ℕ) → d.bad ≡ true → take (taken d bytes) bytes ≡ bytes
+taken_bad : (d : DecoderView) (bytes : List ℕ) → d.bad ≡ true → take (bytes_taken d bytes) bytes ≡ bytes
 taken_bad d bytes e =
     ap (λ (n : ℕ). take n bytes) (cond-true d.bad (length bytes) (min (length bytes) (room d)) e) ∙ take_all (length bytes) bytes (omega arith)
 
-pub bad_stays : (d : Decoding) (steps : List Step) → d.bad ≡ true → Runs d steps → BadStays d.before d steps
+pub bad_stays : (d : DecoderView) (steps : List Step) → d.bad ≡ true → Runs d steps → BadStays d.before d steps
 bad_stays d [] e r = record { says = tt; stays = refl; takes = refl; gives = refl }
 bad_stays d (Fed bytes ∷ steps) e r =
     let same = fed_bad d bytes e in
-    let later : Runs d steps = subst (λ (x : Decoding). Runs x steps) same r.1 in
+    let later : Runs d steps = subst (λ (x : DecoderView). Runs x steps) same r.1 in
     let b = bad_stays d steps e later in
-    let one : take (taken d bytes) bytes ++ stream (fed d bytes) steps ≡ bytes ++ stream d steps =
-    ap (λ (x : Decoding). take (taken d bytes) bytes ++ stream x steps) same ∙ ap (λ (x : List ℕ). x ++ stream d steps) (taken_bad d bytes e) in
+    let one : take (bytes_taken d bytes) bytes ++ stream (feed_after d bytes) steps ≡ bytes ++ stream d steps =
+    ap (λ (x : DecoderView). take (bytes_taken d bytes) bytes ++ stream x steps) same ∙ ap (λ (x : List ℕ). x ++ stream d steps) (taken_bad d bytes e) in
     record {
       says = (tt, b.says);
-      stays = ap (λ (x : Decoding). end_of x steps) same ∙ b.stays;
+      stays = ap (λ (x : DecoderView). end_of x steps) same ∙ b.stays;
       takes = one ∙ ap (λ (x : List ℕ). bytes ++ x) b.takes;
       gives = b.gives;
     }
@@ -74,30 +74,30 @@ bad_stays d (Asked (next.Got m) page ∷ steps) e r = absurd (both_ways d.bad r.
 bad_stays d (Asked next.More page ∷ steps) e r = absurd (both_ways d.bad r.0.alive e)
 bad_stays d (Asked (next.Bad at) page ∷ steps) e r =
     let same = bad_again d e in
-    let later : Runs d steps = subst (λ (x : Decoding). Runs x steps) same r.1 in
+    let later : Runs d steps = subst (λ (x : DecoderView). Runs x steps) same r.1 in
     let b = bad_stays d steps e later in
     record {
       says = (ap (λ (n : ℕ). next.Bad n) r.0.place, b.says);
-      stays = ap (λ (x : Decoding). end_of x steps) same ∙ b.stays;
-      takes = ap (λ (x : Decoding). stream x steps) same ∙ b.takes;
+      stays = ap (λ (x : DecoderView). end_of x steps) same ∙ b.stays;
+      takes = ap (λ (x : DecoderView). stream x steps) same ∙ b.takes;
       gives = b.gives;
     }
 
 pub stays_bad :
-    (d : Decoding) (at : ℕ) (page : List ℕ) (steps : List Step) → Runs d (Asked (next.Bad at) page ∷ steps) → BadStays at (record d { bad = true }) steps
+    (d : DecoderView) (at : ℕ) (page : List ℕ) (steps : List Step) → Runs d (Asked (next.Bad at) page ∷ steps) → BadStays at (record d { bad = true }) steps
 stays_bad d at page steps r =
     subst (λ (n : ℕ). BadStays n (record d { bad = true }) steps) (sym r.0.place) (bad_stays (record d { bad = true }) steps refl r.1)
 
-taken_alive : (d : Decoding) (bytes : List ℕ) → d.bad ≡ false → take (taken d bytes) bytes ≡ take (room d) bytes
+taken_alive : (d : DecoderView) (bytes : List ℕ) → d.bad ≡ false → take (bytes_taken d bytes) bytes ≡ take (room d) bytes
 taken_alive d bytes e =
-    let n : taken d bytes ≡ min (room d) (length bytes) = cond-false d.bad (length bytes) (min (length bytes) (room d)) e ∙ omega arith in
+    let n : bytes_taken d bytes ≡ min (room d) (length bytes) = cond-false d.bad (length bytes) (min (length bytes) (room d)) e ∙ omega arith in
     ap (λ (i : ℕ). take i bytes) n ∙ take_min (room d) bytes
 
-before_by : (b : Bool) (d e : Decoding) (n : ℕ) → d.before ≡ n → e.before ≡ n → (cond b d e).before ≡ n
+before_by : (b : Bool) (d e : DecoderView) (n : ℕ) → d.before ≡ n → e.before ≡ n → (cond b d e).before ≡ n
 before_by true d e n p q = p
 before_by false d e n p q = q
 
-before_fed : (d : Decoding) (bytes : List ℕ) → (fed d bytes).before ≡ d.before
+before_fed : (d : DecoderView) (bytes : List ℕ) → (feed_after d bytes).before ≡ d.before
 before_fed d bytes = before_by d.bad d (record d { rest = d.rest ++ take (room d) bytes }) d.before refl refl
 
 pair_is : (g h : Msg × List ℕ) → g.0 ≡ h.0 → g.1 ≡ h.1 → g ≡ h
@@ -106,7 +106,7 @@ pair_is g h p q = ap (λ (m : Msg). (m, g.1)) p ∙ ap (λ (page : List ℕ). (h
 cons_is : {A : Type 0} (x y : A) (xs ys : List A) → x ≡ y → xs ≡ ys → x ∷ xs ≡ y ∷ ys
 cons_is x y xs ys p q = cc
 
-again : (n f : ℕ) → stopping (stopping n + f) ≡ stopping (n + f)
+again : (n f : ℕ) → count_up (count_up n + f) ≡ count_up (n + f)
 again n f = omega arith
 
 whole_front : (side : Side) (page_bytes : ℕ) (bytes : List ℕ) (k : Kind) → Front side page_bytes bytes k → IsWhole side page_bytes bytes
@@ -124,50 +124,50 @@ whole_front side page_bytes bytes k f =
 -- ---- what was fed is what was given, and the rest
 
 pub reads :
-    (d : Decoding) (steps : List Step) → Runs d steps → (end_of d steps).bad ≡ false
-    → Splits d.side d.page_bytes (d.rest ++ stream d steps) (given steps) (end_of d steps).rest
+    (d : DecoderView) (steps : List Step) → Runs d steps → (end_of d steps).bad ≡ false
+    → Splits d.side d.page_bytes (d.rest ++ stream d steps) (messages_given steps) (end_of d steps).rest
 reads d [] r e = record { whole = append-nil d.rest; each = tt }
 reads d (Fed bytes ∷ steps) r e =
     let alive = was_alive d (Fed bytes ∷ steps) r e in
-    let now : Decoding = record d { rest = d.rest ++ take (room d) bytes } in
-    let same : fed d bytes ≡ now = fed_alive d bytes alive in
-    let kept : take (taken d bytes) bytes ≡ take (room d) bytes = taken_alive d bytes alive in
-    let s : Splits d.side d.page_bytes (now.rest ++ stream now steps) (given steps) (end_of now steps).rest =
-    reads now steps (subst (λ (x : Decoding). Runs x steps) same r.1) (ap (λ (x : Decoding). (end_of x steps).bad) (sym same) ∙ e) in
-    let fed-is : d.rest ++ (take (taken d bytes) bytes ++ stream (fed d bytes) steps) ≡ now.rest ++ stream now steps =
-    ap (λ (x : Decoding). d.rest ++ (take (taken d bytes) bytes ++ stream x steps)) same ∙ ap (λ (x : List ℕ). d.rest ++ (x ++ stream now steps)) kept
+    let now : DecoderView = record d { rest = d.rest ++ take (room d) bytes } in
+    let same : feed_after d bytes ≡ now = fed_alive d bytes alive in
+    let kept : take (bytes_taken d bytes) bytes ≡ take (room d) bytes = taken_alive d bytes alive in
+    let s : Splits d.side d.page_bytes (now.rest ++ stream now steps) (messages_given steps) (end_of now steps).rest =
+    reads now steps (subst (λ (x : DecoderView). Runs x steps) same r.1) (ap (λ (x : DecoderView). (end_of x steps).bad) (sym same) ∙ e) in
+    let fed-is : d.rest ++ (take (bytes_taken d bytes) bytes ++ stream (feed_after d bytes) steps) ≡ now.rest ++ stream now steps =
+    ap (λ (x : DecoderView). d.rest ++ (take (bytes_taken d bytes) bytes ++ stream x steps)) same ∙ ap (λ (x : List ℕ). d.rest ++ (x ++ stream now steps)) kept
     ∙ sym (append_assoc d.rest (take (room d) bytes) (stream now steps)) in
-    let rest-is : frames_of (given steps) ++ (end_of now steps).rest ≡ frames_of (given steps) ++ (end_of (fed d bytes) steps).rest =
-    ap (λ (x : Decoding). frames_of (given steps) ++ (end_of x steps).rest) (sym same) in
+    let rest-is : frames_of (messages_given steps) ++ (end_of now steps).rest ≡ frames_of (messages_given steps) ++ (end_of (feed_after d bytes) steps).rest =
+    ap (λ (x : DecoderView). frames_of (messages_given steps) ++ (end_of x steps).rest) (sym same) in
     record { whole = fed-is ∙ s.whole ∙ rest-is; each = s.each }
 reads d (Asked (next.Got m) page ∷ steps) r e =
-    let now = answered d (next.Got m) page in
+    let now = answered_after d (next.Got m) page in
     let s = reads now steps r.1 e in
     let f = frame m page in
     let one : d.rest ++ stream now steps ≡ f ++ (now.rest ++ stream now steps) =
     ap (λ (x : List ℕ). x ++ stream now steps) r.0.front ∙ append_assoc f now.rest (stream now steps) in
     record {
-      whole = one ∙ ap (λ (x : List ℕ). f ++ x) s.whole ∙ sym (append_assoc f (frames_of (given steps)) (end_of now steps).rest);
+      whole = one ∙ ap (λ (x : List ℕ). f ++ x) s.whole ∙ sym (append_assoc f (frames_of (messages_given steps)) (end_of now steps).rest);
       each = (r.0.is_frame, s.each);
     }
 reads d (Asked next.More page ∷ steps) r e = reads d steps r.1 e
 reads d (Asked (next.Bad at) page ∷ steps) r e =
-    let now : Decoding = record d { bad = true } in
-    absurd (both_ways true (sym (ap (λ (x : Decoding). x.bad) (end_bad now steps refl r.1)) ∙ e) refl)
+    let now : DecoderView = record d { bad = true } in
+    absurd (both_ways true (sym (ap (λ (x : DecoderView). x.bad) (end_bad now steps refl r.1)) ∙ e) refl)
 
 -- ---- the place
 
 pub counts :
-    (d : Decoding) (n : ℕ) (steps : List Step) → d.before ≡ stopping n → Runs d steps
-    → (end_of d steps).before ≡ stopping (n + length (frames_of (given steps)))
-counts d n [] e r = e ∙ ap stopping (omega arith)
+    (d : DecoderView) (n : ℕ) (steps : List Step) → d.before ≡ count_up n → Runs d steps
+    → (end_of d steps).before ≡ count_up (n + length (frames_of (messages_given steps)))
+counts d n [] e r = e ∙ ap count_up (omega arith)
 counts d n (Fed bytes ∷ steps) e r =
-    counts (fed d bytes) n steps (before_fed d bytes ∙ e) r.1
+    counts (feed_after d bytes) n steps (before_fed d bytes ∙ e) r.1
 counts d n (Asked (next.Got m) page ∷ steps) e r =
     let f = length (frame m page) in
-    let now = answered d (next.Got m) page in
-    let next-is : now.before ≡ stopping (n + f) = ap (λ (k : ℕ). stopping (k + f)) e ∙ again n f in
-    counts now (n + f) steps next-is r.1 ∙ ap stopping (omega (arith, length-append (frame m page) (frames_of (given steps))))
+    let now = answered_after d (next.Got m) page in
+    let next-is : now.before ≡ count_up (n + f) = ap (λ (k : ℕ). count_up (k + f)) e ∙ again n f in
+    counts now (n + f) steps next-is r.1 ∙ ap count_up (omega (arith, length-append (frame m page) (frames_of (messages_given steps))))
 counts d n (Asked next.More page ∷ steps) e r = counts d n steps e r.1
 counts d n (Asked (next.Bad at) page ∷ steps) e r = counts (record d { bad = true }) n steps e r.1
 
@@ -217,7 +217,7 @@ one_reading side page_bytes x y rest other (g ∷ gs) (h ∷ hs) s t e absent mi
 -- ---- one of three
 
 three_by :
-    (side : Side) (page_bytes : ℕ) (bytes : List ℕ) (j : Judged) → judged side page_bytes bytes ≡ j → page_bytes ≤ 4096 → IsBytes bytes
+    (side : Side) (page_bytes : ℕ) (bytes : List ℕ) (j : Judged) → judge_head side page_bytes bytes ≡ j → page_bytes ≤ 4096 → IsBytes bytes
     → IsWhole side page_bytes bytes ⊎ (IsPartial side page_bytes bytes ⊎ IsHopeless side page_bytes bytes)
 three_by side page_bytes bytes (Whole k) e most fits = inl (whole_front side page_bytes bytes k (whole_is side page_bytes bytes k e most fits))
 three_by side page_bytes bytes Partial e most fits = inr (inl (partial_is side page_bytes bytes e most fits))
@@ -226,9 +226,9 @@ three_by side page_bytes bytes Hopeless e most fits = inr (inr (hopeless_is side
 pub one_of_three :
     (side : Side) (page_bytes : ℕ) (bytes : List ℕ) → page_bytes ≤ 4096 → IsBytes bytes
     → IsWhole side page_bytes bytes ⊎ (IsPartial side page_bytes bytes ⊎ IsHopeless side page_bytes bytes)
-one_of_three side page_bytes bytes most fits = three_by side page_bytes bytes (judged side page_bytes bytes) refl most fits
+one_of_three side page_bytes bytes most fits = three_by side page_bytes bytes (judge_head side page_bytes bytes) refl most fits
 
-pub has_room : (d : Decoding) → 8 ≤ d.page_bytes → Waits d → 0 < room d
+pub has_room : (d : DecoderView) → 8 ≤ d.page_bytes → Waits d → 0 < room d
 has_room d least w =
     omega (
       arith,
@@ -312,20 +312,20 @@ given_first side page_bytes m page x (g ∷ gs) f sent e =
     (gs, sent.1, (no_front side side page_bytes page_bytes m g.0 page g.1 (frame m page) (frame g.0 g.1) x (frames_of gs) f sent.0 e).1)
 
 pub refuses_none :
-    (d : Decoding) (steps : List Step) (gs : List (Msg × List ℕ)) (more : List ℕ) → d.page_bytes ≤ 4096 → d.bad ≡ false → Runs d steps
+    (d : DecoderView) (steps : List Step) (gs : List (Msg × List ℕ)) (more : List ℕ) → d.page_bytes ≤ 4096 → d.bad ≡ false → Runs d steps
     → AreSent d.side d.page_bytes gs → (d.rest ++ stream d steps) ++ more ≡ frames_of gs → (end_of d steps).bad ≡ false
 refuses_none d [] gs more most alive r sent e = alive
 refuses_none d (Fed bytes ∷ steps) gs more most alive r sent e =
-    let now : Decoding = record d { rest = d.rest ++ take (room d) bytes } in
-    let same : fed d bytes ≡ now = fed_alive d bytes alive in
-    let kept : take (taken d bytes) bytes ≡ take (room d) bytes = taken_alive d bytes alive in
-    let fed-is : d.rest ++ (take (taken d bytes) bytes ++ stream (fed d bytes) steps) ≡ now.rest ++ stream now steps =
-    ap (λ (x : Decoding). d.rest ++ (take (taken d bytes) bytes ++ stream x steps)) same ∙ ap (λ (x : List ℕ). d.rest ++ (x ++ stream now steps)) kept
+    let now : DecoderView = record d { rest = d.rest ++ take (room d) bytes } in
+    let same : feed_after d bytes ≡ now = fed_alive d bytes alive in
+    let kept : take (bytes_taken d bytes) bytes ≡ take (room d) bytes = taken_alive d bytes alive in
+    let fed-is : d.rest ++ (take (bytes_taken d bytes) bytes ++ stream (feed_after d bytes) steps) ≡ now.rest ++ stream now steps =
+    ap (λ (x : DecoderView). d.rest ++ (take (bytes_taken d bytes) bytes ++ stream x steps)) same ∙ ap (λ (x : List ℕ). d.rest ++ (x ++ stream now steps)) kept
     ∙ sym (append_assoc d.rest (take (room d) bytes) (stream now steps)) in
-    ap (λ (x : Decoding). (end_of x steps).bad) same
-    ∙ refuses_none now steps gs more most alive (subst (λ (x : Decoding). Runs x steps) same r.1) sent (ap (λ (x : List ℕ). x ++ more) (sym fed-is) ∙ e)
+    ap (λ (x : DecoderView). (end_of x steps).bad) same
+    ∙ refuses_none now steps gs more most alive (subst (λ (x : DecoderView). Runs x steps) same r.1) sent (ap (λ (x : List ℕ). x ++ more) (sym fed-is) ∙ e)
 refuses_none d (Asked (next.Got m) page ∷ steps) gs more most alive r sent e =
-    let now = answered d (next.Got m) page in
+    let now = answered_after d (next.Got m) page in
     let f = frame m page in
     let one : d.rest ++ stream now steps ≡ f ++ (now.rest ++ stream now steps) =
     ap (λ (x : List ℕ). x ++ stream now steps) r.0.front ∙ append_assoc f now.rest (stream now steps) in
@@ -335,7 +335,7 @@ refuses_none d (Asked (next.Got m) page ∷ steps) gs more most alive r sent e =
     refuses_none now steps later.0 more most alive r.1 later.1 later.2
 refuses_none d (Asked next.More page ∷ steps) gs more most alive r sent e = refuses_none d steps gs more most alive r.1 sent e
 refuses_none d (Asked (next.Bad at) page ∷ steps) gs more most alive r sent e =
-    let now : Decoding = record d { bad = true } in
+    let now : DecoderView = record d { bad = true } in
     absurd
     (hopeless_begins_none d.side d.page_bytes d.rest (stream now steps ++ more) gs most r.0.hopeless sent
     (sym (append_assoc d.rest (stream now steps) more) ∙ e))

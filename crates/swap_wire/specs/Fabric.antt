@@ -41,10 +41,10 @@ pub data Handed : Type 0 where
   LinkLost : Handed
 
 -- from the answer and the buffer after the call
-abbrev pub handed : Took → List ℕ → Handed
-handed (took.Got m) page = Brought (parcel_of m page)
-handed took.Nothing page = NothingCame
-handed took.Lost page = LinkLost
+abbrev pub handed_of : Took → List ℕ → Handed
+handed_of (took.Got m) page = Brought (parcel_of m page)
+handed_of took.Nothing page = NothingCame
+handed_of took.Lost page = LinkLost
 
 -- what is asked of a fabric
 pub data FabricCall : Type 0 where

@@ -5,7 +5,7 @@ use Rattle.swap_wire.specs.declared.side.Side.TheVariants.{Device, Lender}
 use Rattle.swap_wire.specs.declared.kind.Kind.TheVariants as kinds
 use Rattle.swap_wire.specs.declared.frames.Judged.TheVariants.{Whole, Partial, Hopeless}
 use Rattle.swap_wire.specs.Frames.{frame}
-use Rattle.swap_wire.specs.Heads.{judged}
+use Rattle.swap_wire.specs.Heads.{judge_head}
 
 -- messages and their frames
 abbrev pub VectorRows : Type 0
@@ -27,14 +27,14 @@ read_row = 0 ∷ 0 ∷ 0 ∷ 9 ∷ 5 ∷ 0 ∷ 0 ∷ 0 ∷ 0 ∷ 0 ∷ 0 ∷ 0 �
 -- short or over, the other side's kind
 abbrev pub JudgedRows : Type 0
 JudgedRows =
-    (judged Device 8 read_row ≡ Whole kinds.Read) × (judged Device 8 (read_row ++ (1 ∷ [])) ≡ Whole kinds.Read)
-    × (judged Device 8 [] ≡ Partial) × (judged Device 8 (take 3 read_row) ≡ Partial)
-    × (judged Device 8 (take 4 read_row) ≡ Partial)
-    × (judged Device 8 (take 12 read_row) ≡ Partial)
-    × (judged Device 8 (1 ∷ []) ≡ Hopeless)
-    × (judged Device 8 (0 ∷ 0 ∷ 0 ∷ 0 ∷ []) ≡ Hopeless)
-    × (judged Device 8 (0 ∷ 0 ∷ 0 ∷ 9 ∷ 15 ∷ []) ≡ Hopeless)
-    × (judged Device 8 (0 ∷ 0 ∷ 0 ∷ 16 ∷ []) ≡ Hopeless)
-    × (judged Device 8 (0 ∷ 0 ∷ 0 ∷ 18 ∷ []) ≡ Hopeless)
-    × (judged Device 8 (0 ∷ 0 ∷ 0 ∷ 9 ∷ 8 ∷ []) ≡ Hopeless)
-    × (judged Lender 8 (0 ∷ 0 ∷ 0 ∷ 9 ∷ 8 ∷ []) ≡ Partial)
+    (judge_head Device 8 read_row ≡ Whole kinds.Read) × (judge_head Device 8 (read_row ++ (1 ∷ [])) ≡ Whole kinds.Read)
+    × (judge_head Device 8 [] ≡ Partial) × (judge_head Device 8 (take 3 read_row) ≡ Partial)
+    × (judge_head Device 8 (take 4 read_row) ≡ Partial)
+    × (judge_head Device 8 (take 12 read_row) ≡ Partial)
+    × (judge_head Device 8 (1 ∷ []) ≡ Hopeless)
+    × (judge_head Device 8 (0 ∷ 0 ∷ 0 ∷ 0 ∷ []) ≡ Hopeless)
+    × (judge_head Device 8 (0 ∷ 0 ∷ 0 ∷ 9 ∷ 15 ∷ []) ≡ Hopeless)
+    × (judge_head Device 8 (0 ∷ 0 ∷ 0 ∷ 16 ∷ []) ≡ Hopeless)
+    × (judge_head Device 8 (0 ∷ 0 ∷ 0 ∷ 18 ∷ []) ≡ Hopeless)
+    × (judge_head Device 8 (0 ∷ 0 ∷ 0 ∷ 9 ∷ 8 ∷ []) ≡ Hopeless)
+    × (judge_head Lender 8 (0 ∷ 0 ∷ 0 ∷ 9 ∷ 8 ∷ []) ≡ Partial)

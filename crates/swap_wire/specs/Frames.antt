@@ -96,12 +96,12 @@ abbrev pub IsBytes : List ℕ → Type 0
 IsBytes bytes = (i : ℕ) → slice_index bytes i < 256
 
 -- what a frame's length counts: the kind byte, the fields and the page
-abbrev pub counted : Msg → List ℕ → List ℕ
-counted m page = (form_of m).number ∷ (fields m ++ page)
+abbrev pub counted_bytes : Msg → List ℕ → List ℕ
+counted_bytes m page = (form_of m).number ∷ (fields m ++ page)
 
 -- the frame of a message with this page, which is empty where the kind has none
 abbrev pub frame : Msg → List ℕ → List ℕ
-frame m page = word (length (counted m page)) ++ counted m page
+frame m page = word (length (counted_bytes m page)) ++ counted_bytes m page
 
 -- the bytes are the frame of this message and page, as the side sends it with pages of so many bytes
 pub record IsFrame (side : Side) (page_bytes : ℕ) (m : Msg) (page bytes : List ℕ) : Type 0 where
@@ -109,7 +109,7 @@ pub record IsFrame (side : Side) (page_bytes : ℕ) (m : Msg) (page bytes : List
   pub numbers : NumbersFit m
   pub pages : length page ≡ (form_of m).pages * page_bytes
   pub each : IsBytes page
-  pub short : length (counted m page) < 2 ^ 32
+  pub short : length (counted_bytes m page) < 2 ^ 32
   pub spelled : bytes ≡ frame m page
 
 -- the page that goes with a message: none where its kind has none

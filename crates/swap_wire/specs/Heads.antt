@@ -66,8 +66,8 @@ judged_as page_bytes bytes (Some k) =
     if nat_lt (length bytes) (whole_length page_bytes (form k)) then Partial else Whole k
 
 -- by the first kind of the side whose head agrees with the bytes
-abbrev pub judged : Side → ℕ → List ℕ → Judged
-judged side page_bytes bytes = judged_as page_bytes bytes (find (may_begin side page_bytes bytes) all_kinds)
+abbrev pub judge_head : Side → ℕ → List ℕ → Judged
+judge_head side page_bytes bytes = judged_as page_bytes bytes (find (may_begin side page_bytes bytes) all_kinds)
 
 -- where they begin with a whole frame of a kind, they go as far
 abbrev pub GoesAsFar : ℕ → List ℕ → Judged → Type 0

@@ -5,8 +5,8 @@ use Rattle.swap_wire.specs.declared.Msg.{Msg}
 use Rattle.swap_wire.specs.declared.side.Side.{Side}
 use Rattle.swap_wire.specs.declared.decoder.Next.TheVariants as next
 use Rattle.swap_wire.specs.Frames.{form_of, frame, NumbersFit, IsBytes, IsFrame, IsWhole, IsPartial, IsHopeless, longest}
-use Rattle.swap_wire.specs.Decoding.{Decoding, fresh, room, stopping, Waits}
-use Rattle.swap_wire.specs.Streams.{Step, Asked, Runs, end_of, stream, offered, given, frames_of, AreSent, Splits, SaysBad}
+use Rattle.swap_wire.specs.Decoding.{DecoderView, decoder_at_start, room, count_up, Waits}
+use Rattle.swap_wire.specs.Streams.{Step, Asked, Runs, end_of, stream, bytes_offered, messages_given, frames_of, AreSent, Splits, SaysBad}
 
 -- a message whose numbers fit has a frame with each page of the right length
 abbrev pub HasFrame : Type 0
@@ -63,49 +63,50 @@ NoTwoOfThree =
 -- it keeps
 abbrev pub ReadsExactly : Type 0
 ReadsExactly =
-    (side : Side) (page_bytes : ℕ) (steps : List Step) → Runs (fresh side page_bytes) steps
-    → (end_of (fresh side page_bytes) steps).bad ≡ false
-    → Splits side page_bytes (stream (fresh side page_bytes) steps) (given steps)
-    (end_of (fresh side page_bytes) steps).rest
+    (side : Side) (page_bytes : ℕ) (steps : List Step) → Runs (decoder_at_start side page_bytes) steps
+    → (end_of (decoder_at_start side page_bytes) steps).bad ≡ false
+    → Splits side page_bytes (stream (decoder_at_start side page_bytes) steps) (messages_given steps)
+    (end_of (decoder_at_start side page_bytes) steps).rest
 
 -- and as long as the bytes fed begin a list of the side's frames, it doesn't answer Bad
 abbrev pub RefusesNoFrames : Type 0
 RefusesNoFrames =
     (side : Side) (page_bytes : ℕ) (steps : List Step) (gs : List (Msg × List ℕ)) (more : List ℕ) → page_bytes ≤ 4096
-    → Runs (fresh side page_bytes) steps → AreSent side page_bytes gs
-    → stream (fresh side page_bytes) steps ++ more ≡ frames_of gs
-    → (end_of (fresh side page_bytes) steps).bad ≡ false
+    → Runs (decoder_at_start side page_bytes) steps → AreSent side page_bytes gs
+    → stream (decoder_at_start side page_bytes) steps ++ more ≡ frames_of gs
+    → (end_of (decoder_at_start side page_bytes) steps).bad ≡ false
 
 -- however the same bytes are cut, the same messages are given by the time that no whole frame is kept
 abbrev pub HoweverCut : Type 0
 HoweverCut =
-    (side : Side) (page_bytes : ℕ) (steps others : List Step) → Runs (fresh side page_bytes) steps
-    → Runs (fresh side page_bytes) others → stream (fresh side page_bytes) steps ≡ stream (fresh side page_bytes) others
-    → (end_of (fresh side page_bytes) steps).bad ≡ false
-    → (end_of (fresh side page_bytes) others).bad ≡ false
-    → (IsWhole side page_bytes (end_of (fresh side page_bytes) steps).rest → ⊥)
-    → (IsWhole side page_bytes (end_of (fresh side page_bytes) others).rest → ⊥)
-    → (given steps ≡ given others)
-    × ((end_of (fresh side page_bytes) steps).rest ≡ (end_of (fresh side page_bytes) others).rest)
+    (side : Side) (page_bytes : ℕ) (steps others : List Step) → Runs (decoder_at_start side page_bytes) steps
+    → Runs (decoder_at_start side page_bytes) others
+    → stream (decoder_at_start side page_bytes) steps ≡ stream (decoder_at_start side page_bytes) others
+    → (end_of (decoder_at_start side page_bytes) steps).bad ≡ false
+    → (end_of (decoder_at_start side page_bytes) others).bad ≡ false
+    → (IsWhole side page_bytes (end_of (decoder_at_start side page_bytes) steps).rest → ⊥)
+    → (IsWhole side page_bytes (end_of (decoder_at_start side page_bytes) others).rest → ⊥)
+    → (messages_given steps ≡ messages_given others)
+    × ((end_of (decoder_at_start side page_bytes) steps).rest ≡ (end_of (decoder_at_start side page_bytes) others).rest)
 
 -- `at` counts the bytes of the frames that were given
 abbrev pub CountsPlaces : Type 0
 CountsPlaces =
-    (side : Side) (page_bytes : ℕ) (steps : List Step) → Runs (fresh side page_bytes) steps
-    → (end_of (fresh side page_bytes) steps).before ≡ stopping (length (frames_of (given steps)))
+    (side : Side) (page_bytes : ℕ) (steps : List Step) → Runs (decoder_at_start side page_bytes) steps
+    → (end_of (decoder_at_start side page_bytes) steps).before ≡ count_up (length (frames_of (messages_given steps)))
 
 -- after Bad the answer is the same Bad, all bytes are taken, and nothing is kept or given
-pub record BadStays (at : ℕ) (d : Decoding) (steps : List Step) : Type 0 where
+pub record BadStays (at : ℕ) (d : DecoderView) (steps : List Step) : Type 0 where
   pub says : AllByRecursion (SaysBad at) steps
   pub stays : end_of d steps ≡ d
-  pub takes : stream d steps ≡ offered steps
-  pub gives : given steps ≡ []
+  pub takes : stream d steps ≡ bytes_offered steps
+  pub gives : messages_given steps ≡ []
 
 abbrev pub StaysBad : Type 0
 StaysBad =
-    (d : Decoding) (at : ℕ) (page : List ℕ) (steps : List Step) → Runs d (Asked (next.Bad at) page ∷ steps)
+    (d : DecoderView) (at : ℕ) (page : List ℕ) (steps : List Step) → Runs d (Asked (next.Bad at) page ∷ steps)
     → BadStays at (record d { bad = true }) steps
 
 -- a decoder that wants bytes has room for some
 abbrev pub HasRoom : Type 0
-HasRoom = (d : Decoding) → 8 ≤ d.page_bytes → Waits d → 0 < room d
+HasRoom = (d : DecoderView) → 8 ≤ d.page_bytes → Waits d → 0 < room d

@@ -6,7 +6,7 @@ use Rattle.swap_wire.specs.declared.side.Side.{Side}
 use Rattle.swap_wire.specs.declared.decoder.Next.{Next}
 use Rattle.swap_wire.specs.declared.decoder.Next.TheVariants as next
 use Rattle.swap_wire.specs.Frames.{frame, IsFrame}
-use Rattle.swap_wire.specs.Decoding.{Decoding, taken, fed, answered, Answers}
+use Rattle.swap_wire.specs.Decoding.{DecoderView, bytes_taken, feed_after, answered_after, Answers}
 
 -- bytes are offered, or the next message is asked for, and this answer comes with this page
 pub data Step : Type 0 where
@@ -14,42 +14,42 @@ pub data Step : Type 0 where
   Asked : Next → List ℕ → Step
 
 -- the decoder after a step
-abbrev pub after : Decoding → Step → Decoding
-after d (Fed bytes) = fed d bytes
-after d (Asked answer page) = answered d answer page
+abbrev pub decoder_after : DecoderView → Step → DecoderView
+decoder_after d (Fed bytes) = feed_after d bytes
+decoder_after d (Asked answer page) = answered_after d answer page
 
 -- a step may happen where the answer is the one that comes
-abbrev pub Happens : Decoding → Step → Type 0
+abbrev pub Happens : DecoderView → Step → Type 0
 Happens d (Fed bytes) = Unit {0}
 Happens d (Asked answer page) = Answers d answer page
 
 -- so may each of the steps, one after another
-abbrev pub Runs : Decoding → List Step → Type 0
+abbrev pub Runs : DecoderView → List Step → Type 0
 Runs d [] = Unit {0}
-Runs d (step ∷ steps) = Happens d step × Runs (after d step) steps
+Runs d (step ∷ steps) = Happens d step × Runs (decoder_after d step) steps
 
 -- the decoder after all of them
-abbrev pub end_of : Decoding → List Step → Decoding
+abbrev pub end_of : DecoderView → List Step → DecoderView
 end_of d [] = d
-end_of d (step ∷ steps) = end_of (after d step) steps
+end_of d (step ∷ steps) = end_of (decoder_after d step) steps
 
 -- the bytes fed: of those offered, the ones that were taken
-abbrev pub taken_in : Decoding → Step → List ℕ
-taken_in d (Fed bytes) = take (taken d bytes) bytes
+abbrev pub taken_in : DecoderView → Step → List ℕ
+taken_in d (Fed bytes) = take (bytes_taken d bytes) bytes
 taken_in d (Asked answer page) = []
 
-abbrev pub stream : Decoding → List Step → List ℕ
+abbrev pub stream : DecoderView → List Step → List ℕ
 stream d [] = []
-stream d (step ∷ steps) = taken_in d step ++ stream (after d step) steps
+stream d (step ∷ steps) = taken_in d step ++ stream (decoder_after d step) steps
 
 -- the bytes offered
 abbrev pub offered_in : Step → List ℕ
 offered_in (Fed bytes) = bytes
 offered_in (Asked answer page) = []
 
-abbrev pub offered : List Step → List ℕ
-offered [] = []
-offered (step ∷ steps) = offered_in step ++ offered steps
+abbrev pub bytes_offered : List Step → List ℕ
+bytes_offered [] = []
+bytes_offered (step ∷ steps) = offered_in step ++ bytes_offered steps
 
 -- the messages given, each with its page
 abbrev pub given_in : Step → List (Msg × List ℕ)
@@ -58,9 +58,9 @@ given_in (Asked (next.Got m) page) = (m, page) ∷ []
 given_in (Asked next.More page) = []
 given_in (Asked (next.Bad at) page) = []
 
-abbrev pub given : List Step → List (Msg × List ℕ)
-given [] = []
-given (step ∷ steps) = given_in step ++ given steps
+abbrev pub messages_given : List Step → List (Msg × List ℕ)
+messages_given [] = []
+messages_given (step ∷ steps) = given_in step ++ messages_given steps
 
 -- their frames, one after another
 abbrev pub frames_of : List (Msg × List ℕ) → List ℕ

@@ -1,5 +1,5 @@
 ghost use Rattle.std.specs.Prelude.{◌≡◌, ℕ, ◌+◌, ◌-◌, ◌≤◌, [], length, drop, vec_capacity, IfOk};
-ghost use Rattle.swap_wire.specs.Buffer.{free, appended, dropped};
+ghost use Rattle.swap_wire.specs.Buffer.{free_bytes, append_after, drop_after};
 
 use std::alloc::Global;
 use std::marker::Model;
@@ -19,9 +19,9 @@ pub struct FrameBuf {
 
 impl Model for FrameBuf {
     ghost use Rattle.std.specs.Prelude.{◌≤◌, drop, vec_len, vec_capacity};
-    ghost use Rattle.swap_wire.specs.Buffer.{Held};
+    ghost use Rattle.swap_wire.specs.Buffer.{BufferView};
 
-    ghost Value = { Held };
+    ghost Value = { BufferView };
 
     ghost view = { λ f. record { bytes = drop f.start f.bytes.items; capacity = f.capacity } };
 
@@ -55,14 +55,14 @@ impl FrameBuf {
     /// Drops the first `n` bytes.
     pub fn drop_front(&mut self, n: usize)
         requires { n ≤ length self.old.bytes }
-        ensures { self.new ≡ dropped self.old n }
+        ensures { self.new ≡ drop_after self.old n }
     {
         self.start += n;
     }
 
     /// How many bytes are free.
     pub(crate) fn free(&self) -> usize
-        ensures free { result ≡ free self.now }
+        ensures free { result ≡ free_bytes self.now }
         ensures within { length self.now.bytes ≤ self.now.capacity }
     {
         self.capacity - (self.bytes.len() - self.start)
@@ -70,8 +70,8 @@ impl FrameBuf {
 
     /// Appends bytes that have room.
     pub(crate) fn append(&mut self, bytes: &[u8])
-        requires { length bytes.now ≤ free self.old }
-        ensures { self.new ≡ appended self.old bytes.now }
+        requires { length bytes.now ≤ free_bytes self.old }
+        ensures { self.new ≡ append_after self.old bytes.now }
     {
         if self.capacity - self.bytes.len() < bytes.len() {
             self.start = slide(&mut self.bytes, self.start);

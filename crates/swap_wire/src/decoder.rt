@@ -1,8 +1,8 @@
 ghost use Rattle.std.specs.Prelude.{◌≡◌, ℕ, ◌+◌, ◌≤◌, ◌<◌, ◌++◌, ◌↔◌, length, drop, IfOk, true, false};
 ghost use Rattle.swap_wire.specs.Frames.{form, IsBytes};
-ghost use Rattle.swap_wire.specs.Heads.{whole_length, judged};
-ghost use Rattle.swap_wire.specs.Decoding.{fresh, taken, fed, answered, Answers, page_in, Waits, Fails, GivesTheOneInFront};
-ghost use Rattle.swap_wire.specs.Verdicts.{told, told_by, left, left_by, shown, shown_by};
+ghost use Rattle.swap_wire.specs.Heads.{whole_length, judge_head};
+ghost use Rattle.swap_wire.specs.Decoding.{decoder_at_start, bytes_taken, feed_after, answered_after, Answers, page_in, Waits, Fails, GivesTheOneInFront};
+ghost use Rattle.swap_wire.specs.Verdicts.{next_told, told_by, left_after, left_by, bytes_shown, shown_by};
 
 use crate::buffer::FrameBuf;
 use crate::frames::{Judged, judge, read_frame};
@@ -36,10 +36,10 @@ impl Model for Decoder {
     ghost use Rattle.std.specs.Prelude.{◌≡◌, ◌≤◌, true};
     ghost use Rattle.swap_wire.specs.declared.frames.Judged.TheVariants.{Hopeless};
     ghost use Rattle.swap_wire.specs.Frames.{longest};
-    ghost use Rattle.swap_wire.specs.Heads.{whole_length, judged};
-    ghost use Rattle.swap_wire.specs.Decoding.{Decoding};
+    ghost use Rattle.swap_wire.specs.Heads.{whole_length, judge_head};
+    ghost use Rattle.swap_wire.specs.Decoding.{DecoderView};
 
-    ghost Value = { Decoding };
+    ghost Value = { DecoderView };
 
     ghost view = { λ d.
         record {
@@ -52,7 +52,7 @@ impl Model for Decoder {
 
     ghost invariant = { λ d. (8 ≤ d.page_bytes) × (d.page_bytes ≤ 4096)
         × (d.buffer.capacity ≡ longest d.page_bytes)
-        × (d.bad ≡ true → judged d.side d.page_bytes d.buffer.bytes ≡ Hopeless) };
+        × (d.bad ≡ true → judge_head d.side d.page_bytes d.buffer.bytes ≡ Hopeless) };
 }
 
 impl Decoder {
@@ -61,7 +61,7 @@ impl Decoder {
     pub fn make(alloc: Global, side: Side, page_bytes: u32) -> Result<Decoder, NoMemory>
         requires least { 8 ≤ page_bytes }
         requires most { page_bytes ≤ 4096 }
-        ensures { IfOk result (λ d. d ≡ fresh side page_bytes) }
+        ensures { IfOk result (λ d. d ≡ decoder_at_start side page_bytes) }
     {
         let buffer = FrameBuf::make(alloc, 13 + page_bytes as usize)?;
         Ok(Decoder {
@@ -76,8 +76,8 @@ impl Decoder {
     /// Takes as many of the bytes as the buffer has free, and says how many. Once the decoder has
     /// answered `Bad` it takes all and keeps none.
     pub fn feed(&mut self, bytes: &[u8]) -> usize
-        ensures taken { result ≡ taken self.old bytes.now }
-        ensures kept { self.new ≡ fed self.old bytes.now }
+        ensures taken { result ≡ bytes_taken self.old bytes.now }
+        ensures kept { self.new ≡ feed_after self.old bytes.now }
         ensures page_bytes { self.new.page_bytes ≡ self.old.page_bytes }
     {
         if self.bad {
@@ -98,7 +98,7 @@ impl Decoder {
     pub fn next(&mut self, page: &mut [u8]) -> Next
         requires { length page.old ≡ self.old.page_bytes }
         ensures answer { Answers self.old result (page_in self.old result page.new) }
-        ensures after { self.new ≡ answered self.old result (page_in self.old result page.new) }
+        ensures after { self.new ≡ answered_after self.old result (page_in self.old result page.new) }
         ensures page { page.new ≡ page_in self.old result page.new
             ++ drop (length (page_in self.old result page.new)) page.old }
         ensures got { GivesTheOneInFront self.old result }
@@ -112,13 +112,13 @@ impl Decoder {
     /// What `next` does, by what the rest is judged to be.
     fn step(&mut self, page: &mut [u8]) -> Next
         requires { length page.old ≡ self.old.page_bytes }
-        ensures told { result ≡ told self.old }
-        ensures left { self.new ≡ left self.old }
-        ensures page { page.new ≡ shown self.old ++ drop (length (shown self.old)) page.old }
+        ensures told { result ≡ next_told self.old }
+        ensures left { self.new ≡ left_after self.old }
+        ensures page { page.new ≡ bytes_shown self.old ++ drop (length (bytes_shown self.old)) page.old }
         ensures page_bytes { self.old.page_bytes ≤ 4096 }
         ensures bytes { self.old.bad ≡ false → IsBytes self.old.rest }
         ensures bad { self.old.bad ≡ true
-            → judged self.old.side self.old.page_bytes self.old.rest ≡ Judged.Hopeless }
+            → judge_head self.old.side self.old.page_bytes self.old.rest ≡ Judged.Hopeless }
     {
         if self.bad {
             return Next::Bad { at: self.before };

@@ -51,7 +51,7 @@ pub trait Fabric {
     ghost use Rattle.swap_base.specs.declared.Lender.{Lender};
     ghost use Rattle.swap_base.specs.declared.Lease.{Lease};
     ghost use Rattle.swap_base.specs.declared.Link.{Link};
-    ghost use Rattle.swap_wire.specs.Fabric.{Parcel, carries_page, parcel_of, write_parcel, read_parcel, Handed, Brought, handed, FabricCall, Connect, Send, Take, End, Give, Cut, Crash, Host, FabricAnswer, FabricOf, is_page, ends_keeping, changes_owing};
+    ghost use Rattle.swap_wire.specs.Fabric.{Parcel, carries_page, parcel_of, write_parcel, read_parcel, Handed, Brought, handed_of, FabricCall, Connect, Send, Take, End, Give, Cut, Crash, Host, FabricAnswer, FabricOf, is_page, ends_keeping, changes_owing};
     ghost use Rattle.swap_wire.specs.declared.fabric.Sent.TheVariants as sent_is;
 
     /// What the fabric is of.
@@ -88,7 +88,7 @@ pub trait Fabric {
     fn take(&mut self, lender: Lender, page: &mut [u8]) -> Took
         requires lender { lender.0 < (of self.old).lenders }
         requires page { length page.old ≡ (of self.old).sizes.page_bytes }
-        ensures { moves self.old (Take lender) (handed result page.new) self.new };
+        ensures { moves self.old (Take lender) (handed_of result page.new) self.new };
 
     /// Closes the device's end of a link.
     fn end(&mut self, lender: Lender)

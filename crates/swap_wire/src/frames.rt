@@ -1,8 +1,8 @@
 ghost use Rattle.std.specs.Prelude.{◌≡◌, ℕ, ◌+◌, ◌≤◌, ◌<◌, ◌^◌, ◌++◌, length, take, drop, find, OnOk, OnErr};
 ghost use Rattle.std.specs.Int.{w32, w64, from_be_bytes};
 ghost use Rattle.swap_wire.specs.Frames.{form, form_of, word, long, fields, frame, page_with, NumbersFit, IsBytes, IsFrame};
-ghost use Rattle.swap_wire.specs.Heads.{whole_length, same_side, agree, all_kinds, may_begin, judged, GoesAsFar, word_at, long_at, message, fields_in, page_of};
-ghost use Rattle.swap_wire.specs.Buffer.{free, appended};
+ghost use Rattle.swap_wire.specs.Heads.{whole_length, same_side, agree, all_kinds, may_begin, judge_head, GoesAsFar, word_at, long_at, message, fields_in, page_of};
+ghost use Rattle.swap_wire.specs.Buffer.{free_bytes, append_after};
 
 use crate::buffer::{FrameBuf, NoPlace};
 use crate::kind::{KINDS, Kind};
@@ -17,11 +17,11 @@ use swap_base::{Lease, Slab};
 pub fn encode(msg: &Msg, page: &[u8], out: &mut FrameBuf) -> Result<(), NoPlace>
     requires { length (page_with msg.now page.now) ≤ 4096 }
     ensures ok { OnOk result
-        (out.new ≡ appended out.old (frame msg.now (page_with msg.now page.now))) }
+        (out.new ≡ append_after out.old (frame msg.now (page_with msg.now page.now))) }
     ensures placed { OnOk result
-        (length (frame msg.now (page_with msg.now page.now)) ≤ free out.old) }
+        (length (frame msg.now (page_with msg.now page.now)) ≤ free_bytes out.old) }
     ensures no_place { OnErr result
-        (free out.old < length (frame msg.now (page_with msg.now page.now))) }
+        (free_bytes out.old < length (frame msg.now (page_with msg.now page.now))) }
     ensures is_frame { OnOk result
         (IsFrame (form_of msg.now).from (length page.now) msg.now (page_with msg.now page.now)
         (frame msg.now (page_with msg.now page.now))) }
@@ -42,8 +42,8 @@ pub fn encode(msg: &Msg, page: &[u8], out: &mut FrameBuf) -> Result<(), NoPlace>
 
 /// Appends a message's fields, which have room.
 fn put_fields(msg: &Msg, out: &mut FrameBuf)
-    requires { length (fields msg.now) ≤ free out.old }
-    ensures fields { out.new ≡ appended out.old (fields msg.now) }
+    requires { length (fields msg.now) ≤ free_bytes out.old }
+    ensures fields { out.new ≡ append_after out.old (fields msg.now) }
     ensures numbers { NumbersFit msg.now }
 {
     match *msg {
@@ -69,16 +69,16 @@ fn put_fields(msg: &Msg, out: &mut FrameBuf)
 }
 
 fn put_one(first: u32, out: &mut FrameBuf)
-    requires { 4 ≤ free out.old }
-    ensures word { out.new ≡ appended out.old (word first) }
+    requires { 4 ≤ free_bytes out.old }
+    ensures word { out.new ≡ append_after out.old (word first) }
     ensures fits { first < 2 ^ 32 }
 {
     out.append(&first.to_be_bytes());
 }
 
 fn put_two(first: u32, second: u32, out: &mut FrameBuf)
-    requires { 8 ≤ free out.old }
-    ensures words { out.new ≡ appended out.old (word first ++ word second) }
+    requires { 8 ≤ free_bytes out.old }
+    ensures words { out.new ≡ append_after out.old (word first ++ word second) }
     ensures fits { (first < 2 ^ 32) × (second < 2 ^ 32) }
 {
     put_one(first, out);
@@ -86,8 +86,8 @@ fn put_two(first: u32, second: u32, out: &mut FrameBuf)
 }
 
 fn put_three(first: u32, second: u32, third: u32, out: &mut FrameBuf)
-    requires { 12 ≤ free out.old }
-    ensures words { out.new ≡ appended out.old (word first ++ word second ++ word third) }
+    requires { 12 ≤ free_bytes out.old }
+    ensures words { out.new ≡ append_after out.old (word first ++ word second ++ word third) }
     ensures fits { (first < 2 ^ 32) × (second < 2 ^ 32) × (third < 2 ^ 32) }
 {
     put_one(first, out);
@@ -96,8 +96,8 @@ fn put_three(first: u32, second: u32, third: u32, out: &mut FrameBuf)
 }
 
 fn put_rate(first: u32, second: u64, out: &mut FrameBuf)
-    requires { 12 ≤ free out.old }
-    ensures words { out.new ≡ appended out.old (word first ++ long second) }
+    requires { 12 ≤ free_bytes out.old }
+    ensures words { out.new ≡ append_after out.old (word first ++ long second) }
     ensures fits { (first < 2 ^ 32) × (second < 2 ^ 64) }
 {
     put_one(first, out);
@@ -116,7 +116,7 @@ pub(crate) enum Judged {
 /// What the bytes are, by their first five.
 pub(crate) fn judge(side: Side, page_bytes: u32, bytes: &[u8]) -> Judged
     requires { page_bytes ≤ 4096 }
-    ensures judged { result ≡ judged side page_bytes bytes.now }
+    ensures judged { result ≡ judge_head side page_bytes bytes.now }
     ensures whole { GoesAsFar page_bytes bytes.now result }
     ensures bytes { IsBytes bytes.now }
 {

@@ -20,7 +20,7 @@ use Rattle.swap_wire.specs.declared.Seen.{Seen}
 use Rattle.swap_wire.specs.declared.fabric.Sent.TheVariants as sent
 use Rattle.swap_wire.specs.Fabric.{Parcel, LinkLost, FabricCall, FabricAnswer, Send, Take, End}
 use Rattle.swap_calls.specs.Calls as calls
-use Rattle.swap_calls.specs.Calls.{Call, Calls, state_of, call_of, idle}
+use Rattle.swap_calls.specs.Calls.{Call, Calls, state_of, call_of, idle_call}
 use Rattle.swap_calls.specs.declared.Arrived.{Arrived}
 use Rattle.swap_calls.specs.declared.Arrived.TheVariants as arrived
 use Rattle.swap_calls.specs.declared.CallState.{CallState}
@@ -31,10 +31,10 @@ use Rattle.swap_table.specs.Ports.{Prog, Ret, AskDisk, AskFabric, answering, and
 use Rattle.swap_wire.specs.declared.Event.TheVariants as event
 use Rattle.swap_table.specs.declared.TheConstants.{MOST_LINKS}
 use Rattle.swap_table.specs.Device as device
-use Rattle.swap_table.specs.Device.{Device, Heard, enter, lost, wrote, took, took_back}
+use Rattle.swap_table.specs.Device.{Device, Heard, enter_entry, lost_after, wrote_after, took_after, took_back}
 use Rattle.swap_table.specs.Happens.{happens, seen_by, see_link}
 use Rattle.swap_table.specs.Goes.{Asked, Nothing, OfDisk, OfFabric, Goes, ends, first, asks_disk, asks_fabric, After, by}
-use Rattle.swap_table.specs.Moves.{Within, anything, Speaker, quiet, Sends, write, read, borrow, query, query_too, Hears, roomy, lent, refused, written, brought, asked_rate, told_to_go, Move, enters, gives, faults, waits_for_room, rates_change, lets_go, gives_up, starts, waits_for_disk, takes, lets_finish, sends, finds_down, raises, speaks, speaks_to_nobody, hears, hears_nothing, loses, misunderstands, breaks_off, far}
+use Rattle.swap_table.specs.Moves.{Within, within_any, Speaker, quiet_speaker, Sends, write, read, borrow, query, query_too, Hears, roomy, lent, refused, written, brought, asked_rate, told_to_go, Move, enters, gives, faults, waits_for_room, rates_change, lets_go, gives_up, starts, waits_for_disk, takes, lets_finish, sends, finds_down, raises, speaks, speaks_to_nobody, hears, hears_nothing, loses, misunderstands, breaks_off, far}
 use Rattle.swap_table.specs.Comes.{Linked, Comes, ComesTo, refuses, rests, accepts, gives_page, fails, keeps_page, reads, starts_write, takes_back, links, brings}
 use Rattle.swap_table.proofs.Comings.{linked_keep, names_anything, happens_comes}
 use Rattle.swap_table.proofs.Programs.{Leads-Along}
@@ -53,7 +53,7 @@ module _ (N : CallState → Type 0) (idle_not : N Idle → ⊥) (c : Caller) whe
   set_back :
       (cs : Calls) (a : Caller) (call : Call) → (a.0 ≡ c.0 → N call.state → N (state_of cs c)) → N (state_of (calls.with_call cs a call) c) → N (state_of cs c)
   set_back cs a call own =
-      set_either (λ (x : Call). N x.state → N (state_of cs c)) cs a.0 c.0 call idle (λ n. absurd (idle_not n)) (λ other n. n) (λ same. own (sym same))
+      set_either (λ (x : Call). N x.state → N (state_of cs c)) cs a.0 c.0 call idle_call (λ n. absurd (idle_not n)) (λ other n. n) (λ same. own (sym same))
 
   map_back : (cs : Calls) (g : CallState → CallState) → g Idle ≡ Idle → N (state_of (map (calls.with_state g) cs) c) → N (g (state_of cs c))
   map_back cs g is n =
@@ -162,7 +162,7 @@ then_ends l (AskFabric call more) next must = inr (λ r. then_ends l (more r) ne
 
 -- what callers may name, where the links that may be made anew are these
 abbrev pub making : (ℕ → Type 0) → Within
-making made = record anything { lender = λ l. made l.0 }
+making made = record within_any { lender = λ l. made l.0 }
 
 names_making : (d : Device) (page : List ℕ) (e : Event) → Names (making (made_anew e)) d page e
 names_making d page (event.PageOut c p) = (tt, tt)
@@ -187,16 +187,16 @@ module _ (made : ℕ → Type 0) (d0 : Device) (c : Caller) where
   set_call_back : (cs : Calls) (a : Caller) (call : Call) → ((l : Lender) → IsLostBy l call.state → ⊥) → Back cs (calls.with_call cs a call)
   set_call_back cs a call none l = set_back (IsLostBy l) (λ x. x) c cs a call (λ same n. absurd (none l n))
 
-  entered_back : (d : Device) (a : Caller) (p : Page) (bytes : List ℕ) → Back d.calls (enter d a p bytes).calls
+  entered_back : (d : Device) (a : Caller) (p : Page) (bytes : List ℕ) → Back d.calls (enter_entry d a p bytes).calls
   entered_back d a p bytes l is =
       lost_newer l p (state_of d.calls c)
-      (map_back (IsLostBy l) (λ x. x) c d.calls (calls.newer_if_reads p) refl (set_call_back (calls.paged_out d.calls p) a idle (λ m n. n) l is))
+      (map_back (IsLostBy l) (λ x. x) c d.calls (calls.newer_if_reads p) refl (set_call_back (calls.paged_out d.calls p) a idle_call (λ m n. n) l is))
 
-  came_back : (cs : Calls) (a : Caller) (bytes : List ℕ) → Back cs (calls.came cs a bytes)
+  came_back : (cs : Calls) (a : Caller) (bytes : List ℕ) → Back cs (calls.came_after cs a bytes)
   came_back cs a bytes l =
       set_back (IsLostBy l) (λ x. x) c cs a _ (λ same n. subst (λ i. IsLostBy l (state_of cs (record { 0 = i }))) same (lost_came l bytes (call_of cs a) n))
 
-  failed_back : (cs : Calls) (a : Caller) → Back cs (calls.failed cs a)
+  failed_back : (cs : Calls) (a : Caller) → Back cs (calls.failed_after cs a)
   failed_back cs a l =
       set_back (IsLostBy l) (λ x. x) c cs a _ (λ same n. subst (λ i. IsLostBy l (state_of cs (record { 0 = i }))) same (lost_failed l (call_of cs a) n))
 
@@ -204,12 +204,12 @@ module _ (made : ℕ → Type 0) (d0 : Device) (c : Caller) where
   took_back_back d None l is = is
   took_back_back d (Some t) l is = by t.done.which t.done.ok l is
     where
-      wrote_one : (p : Page) (copy : Option Copy) (ok : Bool) → Back d.calls (wrote d p copy ok).0.calls
+      wrote_one : (p : Page) (copy : Option Copy) (ok : Bool) → Back d.calls (wrote_after d p copy ok).0.calls
       wrote_one p None ok l is = is
       wrote_one p (Some copy) true l is = is
       wrote_one p (Some copy) false l is = is
 
-      by : (w : DiskWhich) (ok : Bool) → Back d.calls (took d w t.done.page ok t.bytes).0.calls
+      by : (w : DiskWhich) (ok : Bool) → Back d.calls (took_after d w t.done.page ok t.bytes).0.calls
       by (which.Write p) ok = wrote_one t.done.page (queue.flying d.queue t.done.page) ok
       by (which.Read a) true = came_back d.calls a t.bytes
       by (which.Read a) false = failed_back d.calls a
@@ -222,7 +222,7 @@ module _ (made : ℕ → Type 0) (d0 : Device) (c : Caller) where
 
   loses_link :
       (before : List Asked) (call : FabricCall) (r : FabricAnswer call) (d : Device) (m : Lender) → ((l : Lender) → m.0 ≡ l.0 → ends_by l call r ≡ true)
-      → LossIsAsked before d → LossIsAsked (before ++ OfFabric call r ∷ []) (lost d m)
+      → LossIsAsked before d → LossIsAsked (before ++ OfFabric call r ∷ []) (lost_after d m)
   loses_link before call r d m ends_it was l is =
       elim (lost_through l m (state_of d.calls c) (map_back (IsLostBy l) (λ x. x) c d.calls (calls.lost_if_through m) refl is)) [
         | inl n ↦ elim (was l n) [ inl x ↦ inl x | inr x ↦ inr (ends_more l before (OfFabric call r) x) ]
@@ -248,9 +248,10 @@ module _ (made : ℕ → Type 0) (d0 : Device) (c : Caller) where
   each :
       (before : List Asked) (x : Speaker) (asked : Asked) (y : Speaker) → Move (making made) x asked y → LossIsAsked before x.device
       → LossIsAsked (with_asked before asked) y.device
-  each before x asked y (enters {d = d} {c = a} {p = p} {bytes = bytes} outs) was = stays before asked d (enter d a p bytes) (entered_back d a p bytes) was
-  each before x asked y (gives {d = d} {c = a} given) was = stays before asked d y.device (set_call_back d.calls a idle (λ m n. n)) was
-  each before x asked y (faults {d = d} {c = a} why) was = stays before asked d y.device (set_call_back d.calls a idle (λ m n. n)) was
+  each before x asked y (enters {d = d} {c = a} {p = p} {bytes = bytes} outs) was =
+      stays before asked d (enter_entry d a p bytes) (entered_back d a p bytes) was
+  each before x asked y (gives {d = d} {c = a} given) was = stays before asked d y.device (set_call_back d.calls a idle_call (λ m n. n)) was
+  each before x asked y (faults {d = d} {c = a} why) was = stays before asked d y.device (set_call_back d.calls a idle_call (λ m n. n)) was
   each before x asked y (waits_for_room {d = d} a p bytes e within hands) was = stays before asked d y.device (set_call_back d.calls a _ (λ m n. n)) was
   each before x asked y (rates_change {d = d} rates) was = stays before asked d y.device (λ m n. n) was
   each before x asked y (lets_go {d = d} m within up) was = λ l is.
@@ -347,12 +348,12 @@ module _ (c : Caller) (p : Page) where
   took_newer d None is = is
   took_newer d (Some t) is = by t.done.which t.done.ok is
     where
-      wrote_one : (q : Page) (copy : Option Copy) (ok : Bool) → NewerBack d.calls (wrote d q copy ok).0.calls
+      wrote_one : (q : Page) (copy : Option Copy) (ok : Bool) → NewerBack d.calls (wrote_after d q copy ok).0.calls
       wrote_one q None ok is = is
       wrote_one q (Some copy) true is = is
       wrote_one q (Some copy) false is = is
 
-      by : (w : DiskWhich) (ok : Bool) → NewerBack d.calls (took d w t.done.page ok t.bytes).0.calls
+      by : (w : DiskWhich) (ok : Bool) → NewerBack d.calls (took_after d w t.done.page ok t.bytes).0.calls
       by (which.Write q) ok = wrote_one t.done.page (queue.flying d.queue t.done.page) ok
       by (which.Read a) true = arrived_newer d.calls a arrived.Came t.bytes
       by (which.Read a) false = arrived_newer d.calls a arrived.Failed []
@@ -369,17 +370,17 @@ module _ (c : Caller) (p : Page) where
   newer_step d d' page e s (refuses new) n = inl n
   newer_step d d' page e s (rests new rest) n = inl n
   newer_step d d' page e s (accepts {c = a} {p = q} {bytes = bytes} step used) n =
-      let x : Device = enter d a q bytes in
+      let x : Device = enter_entry d a q bytes in
       let history : d'.history ≡ x.history = linked_keep (λ z. z.history ≡ x.history) (λ z r made k. k) (λ z l k. k) x d' used refl in
       let marked =
       map_back (IsNewerOf p) (λ x. x) c d.calls (calls.newer_if_reads q) refl
-      (set_newer (calls.paged_out d.calls q) a idle (λ x. x) (linked_newer x d' used n)) in
+      (set_newer (calls.paged_out d.calls q) a idle_call (λ x. x) (linked_newer x d' used n)) in
       elim (newer_marked p q (state_of d.calls c) marked) [
         | inl was ↦ inl was
         | inr same ↦ inr (ap (λ H. last H p) history ∙ ap (λ b. cond b (Some (next_name d.history)) (last d.history p)) (eq-eqb q.0 p.0 same))
       ]
-  newer_step d d' page e s (gives_page {c = a} step) n = inl (set_newer d.calls a idle (λ x. x) n)
-  newer_step d d' page e s (fails {c = a} why) n = inl (set_newer d.calls a idle (λ x. x) n)
+  newer_step d d' page e s (gives_page {c = a} step) n = inl (set_newer d.calls a idle_call (λ x. x) n)
+  newer_step d d' page e s (fails {c = a} why) n = inl (set_newer d.calls a idle_call (λ x. x) n)
   newer_step d d' page e s (keeps_page {c = a} is) n = inl (set_newer d.calls a _ (λ x. x) n)
   newer_step d d' page e s (reads {c = a} {d' = x} v step newest used) n = inl (linked_newer d x used (set_newer x.calls a _ (λ r. not r.1) n))
     where
@@ -389,7 +390,7 @@ module _ (c : Caller) (p : Page) where
   newer_step d d' page e s (takes_back taken) n = inl (took_newer d taken n)
   newer_step d d' page e s (links new of_link used) n = inl (linked_newer d d' used n)
   newer_step d d' page e s (brings a bytes r used) n =
-      inl (arrived_newer d.calls a arrived.Came bytes (linked_newer (record d { remote = r; calls = calls.came d.calls a bytes }) d' used n))
+      inl (arrived_newer d.calls a arrived.Came bytes (linked_newer (record d { remote = r; calls = calls.came_after d.calls a bytes }) d' used n))
 
 -- no call that waits for the disk loses a link
 abbrev pub IsLostAtDisk : CallState → Type 0
@@ -453,11 +454,11 @@ module _ (c : Caller) where
   set_disk : (cs : Calls) (a : Caller) (call : Call) → (IsLostAtDisk call.state → ⊥) → DiskBack cs (calls.with_call cs a call)
   set_disk cs a call none = set_back IsLostAtDisk (λ x. x) c cs a call (λ same n. absurd (none n))
 
-  came_disk : (cs : Calls) (a : Caller) (bytes : List ℕ) → DiskBack cs (calls.came cs a bytes)
+  came_disk : (cs : Calls) (a : Caller) (bytes : List ℕ) → DiskBack cs (calls.came_after cs a bytes)
   came_disk cs a bytes =
       set_back IsLostAtDisk (λ x. x) c cs a _ (λ same n. subst (λ i. IsLostAtDisk (state_of cs (record { 0 = i }))) same (disk_came bytes (call_of cs a) n))
 
-  failed_disk : (cs : Calls) (a : Caller) → DiskBack cs (calls.failed cs a)
+  failed_disk : (cs : Calls) (a : Caller) → DiskBack cs (calls.failed_after cs a)
   failed_disk cs a =
       set_back IsLostAtDisk (λ x. x) c cs a _ (λ same n. subst (λ i. IsLostAtDisk (state_of cs (record { 0 = i }))) same (disk_failed (call_of cs a) n))
 
@@ -465,12 +466,12 @@ module _ (c : Caller) where
   took_disk d None is = is
   took_disk d (Some t) is = by t.done.which t.done.ok is
     where
-      wrote_one : (q : Page) (copy : Option Copy) (ok : Bool) → DiskBack d.calls (wrote d q copy ok).0.calls
+      wrote_one : (q : Page) (copy : Option Copy) (ok : Bool) → DiskBack d.calls (wrote_after d q copy ok).0.calls
       wrote_one q None ok is = is
       wrote_one q (Some copy) true is = is
       wrote_one q (Some copy) false is = is
 
-      by : (w : DiskWhich) (ok : Bool) → DiskBack d.calls (took d w t.done.page ok t.bytes).0.calls
+      by : (w : DiskWhich) (ok : Bool) → DiskBack d.calls (took_after d w t.done.page ok t.bytes).0.calls
       by (which.Write q) ok = wrote_one t.done.page (queue.flying d.queue t.done.page) ok
       by (which.Read a) true = came_disk d.calls a t.bytes
       by (which.Read a) false = failed_disk d.calls a
@@ -486,9 +487,9 @@ module _ (c : Caller) where
   disk_step d d' page e s (accepts {c = a} {p = q} {bytes = bytes} step used) n =
       disk_marked q (state_of d.calls c)
       (map_back IsLostAtDisk (λ x. x) c d.calls (calls.newer_if_reads q) refl
-      (set_disk (calls.paged_out d.calls q) a idle (λ x. x) (linked_disk (enter d a q bytes) d' used n)))
-  disk_step d d' page e s (gives_page {c = a} step) n = set_disk d.calls a idle (λ x. x) n
-  disk_step d d' page e s (fails {c = a} why) n = set_disk d.calls a idle (λ x. x) n
+      (set_disk (calls.paged_out d.calls q) a idle_call (λ x. x) (linked_disk (enter_entry d a q bytes) d' used n)))
+  disk_step d d' page e s (gives_page {c = a} step) n = set_disk d.calls a idle_call (λ x. x) n
+  disk_step d d' page e s (fails {c = a} why) n = set_disk d.calls a idle_call (λ x. x) n
   disk_step d d' page e s (keeps_page {c = a} is) n = set_disk d.calls a _ (λ x. x) n
   disk_step d d' page e s (reads {c = a} {d' = x} via.Disk step newest used) n = linked_disk d x used (set_disk x.calls a _ (λ x. x) n)
   disk_step d d' page e s (reads {c = a} {d' = x} (via.Lender m) step newest used) n = linked_disk d x used (set_disk x.calls a _ (λ x. x) n)
@@ -496,7 +497,7 @@ module _ (c : Caller) where
   disk_step d d' page e s (takes_back taken) n = took_disk d taken n
   disk_step d d' page e s (links new of_link used) n = linked_disk d d' used n
   disk_step d d' page e s (brings a bytes r used) n =
-      came_disk d.calls a bytes (linked_disk (record d { remote = r; calls = calls.came d.calls a bytes }) d' used n)
+      came_disk d.calls a bytes (linked_disk (record d { remote = r; calls = calls.came_after d.calls a bytes }) d' used n)
 
 -- so after every run
 module _ {D F : Type 0} (disk_moves : D → (call : DiskCall) → DiskAnswer call → D → Type 0)
@@ -573,7 +574,7 @@ module _ {D F : Type 0} (disk_moves : D → (call : DiskCall) → DiskAnswer cal
       asked : IsLostBy l (state_of d.calls c) ⊎ EndsIn l (asked_along disk_moves moves (happens d i.page i.event) k f k' f' (d', s) step)
       asked =
           let r =
-          along_asked (made_anew i.event) d c disk_moves moves _ [] k f k' f' (d', s) (quiet d) (happens d i.page i.event)
+          along_asked (made_anew i.event) d c disk_moves moves _ [] k f k' f' (d', s) (quiet_speaker d) (happens d i.page i.event)
           (happens_fares (making (made_anew i.event)) d i.page i.event (names_making d i.page i.event)) step (λ m x. inl (inl x)) in
           elim (r.2 l (subst (λ (x : Speaker). IsLostBy l (state_of x.device.calls c)) (sym r.1.0) n)) [
             | inl (inl was) ↦ inl was

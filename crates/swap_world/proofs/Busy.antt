@@ -11,11 +11,11 @@ use Rattle.swap_wire.specs.declared.Event.{Event}
 use Rattle.swap_wire.specs.declared.Seen.{Seen}
 use Rattle.swap_queue.specs.Queue.{Copy}
 use Rattle.swap_disk.specs.Disk.{Taken}
-use Rattle.swap_calls.specs.Calls.{Call, Calls, state_of, call_of, idle, is_idle}
+use Rattle.swap_calls.specs.Calls.{Call, Calls, state_of, call_of, idle_call, is_idle}
 use Rattle.swap_calls.specs.declared.Arrived.{Arrived}
 use Rattle.swap_calls.specs.declared.CallState.{CallState}
 use Rattle.swap_calls.specs.declared.CallState.TheVariants.{Idle, Room, Reading}
-use Rattle.swap_table.specs.Device.{Device, enter, give, fault, took, took_back, wrote}
+use Rattle.swap_table.specs.Device.{Device, enter_entry, give, fault, took_after, took_back, wrote_after}
 use Rattle.swap_table.proofs.Lists.{one_if, count_by-cons}
 use Rattle.swap_world.specs.Runs.{GrowsByCalls, busy_callers, is_busy_call}
 use Rattle.swap_table.specs.Moves.{full, unread}
@@ -30,7 +30,7 @@ use Rattle.swap_calls.specs.declared.Arrived.TheVariants as arrived
 -- one caller's call is replaced
 busy-set :
     (cs : Calls) (i : ℕ) (call : Call)
-    → count_by is_busy_call (set cs i call) + one_if (is_busy_call (get_or cs i idle)) ≤ count_by is_busy_call cs + one_if (is_busy_call call)
+    → count_by is_busy_call (set cs i call) + one_if (is_busy_call (get_or cs i idle_call)) ≤ count_by is_busy_call cs + one_if (is_busy_call call)
 busy-set [] i call = omega arith
 busy-set (x ∷ cs) zero call =
     let a = count_by-cons is_busy_call call cs in let b = count_by-cons is_busy_call x cs in omega (arith, a, b)
@@ -42,12 +42,12 @@ busy-set (x ∷ cs) (suc i) call =
 -- a call is changed and stays as busy as it was
 busy-kept :
     (f : Call → Call) (cs : Calls) (i : ℕ) → ((x : Call) → is_busy_call (f x) ≡ is_busy_call x)
-    → count_by is_busy_call (set cs i (f (get_or cs i idle))) ≡ count_by is_busy_call cs
+    → count_by is_busy_call (set cs i (f (get_or cs i idle_call))) ≡ count_by is_busy_call cs
 busy-kept f [] i same = refl
 busy-kept f (x ∷ cs) zero same =
     count_by-cons is_busy_call (f x) cs ∙ ap (λ b. one_if b + count_by is_busy_call cs) (same x) ∙ sym (count_by-cons is_busy_call x cs)
 busy-kept f (x ∷ cs) (suc i) same =
-    count_by-cons is_busy_call x (set cs i (f (get_or cs i idle))) ∙ ap (λ n. one_if (is_busy_call x) + n) (busy-kept f cs i same)
+    count_by-cons is_busy_call x (set cs i (f (get_or cs i idle_call))) ∙ ap (λ n. one_if (is_busy_call x) + n) (busy-kept f cs i same)
     ∙ sym (count_by-cons is_busy_call x cs)
 
 busy-map : (f : Call → Call) (cs : Calls) → ((x : Call) → is_busy_call (f x) ≡ is_busy_call x) → count_by is_busy_call (map f cs) ≡ count_by is_busy_call cs
@@ -65,7 +65,7 @@ paged_out_busy : (cs : Calls) (p : Page) → count_by is_busy_call (calls.paged_
 paged_out_busy cs p =
     busy-map (λ (call : Call). record { state = calls.newer_if_reads p call.state; bytes = call.bytes }) cs (λ x. ap not (newer_busy p x.state))
 
-get_or-map_idle : (f : Call → Call) (cs : Calls) (i : ℕ) → f idle ≡ idle → get_or (map f cs) i idle ≡ f (get_or cs i idle)
+get_or-map_idle : (f : Call → Call) (cs : Calls) (i : ℕ) → f idle_call ≡ idle_call → get_or (map f cs) i idle_call ≡ f (get_or cs i idle_call)
 get_or-map_idle f [] i e = sym e
 get_or-map_idle f (x ∷ cs) zero e = refl
 get_or-map_idle f (x ∷ cs) (suc i) e = get_or-map_idle f cs i e
@@ -95,32 +95,32 @@ one_le true = lit≤ tt
 one_le false = lit≤ tt
 
 -- a call that began is answered at once or is under way; one that was under way ends
-enter_grows : (d : Device) (c : Caller) (p : Page) (bytes : List ℕ) → Grows 1 d (enter d c p bytes)
+enter_grows : (d : Device) (c : Caller) (p : Page) (bytes : List ℕ) → Grows 1 d (enter_entry d c p bytes)
 enter_grows d c p bytes =
-    let a = busy-set (calls.paged_out d.calls p) c.0 idle in
+    let a = busy-set (calls.paged_out d.calls p) c.0 idle_call in
     let b = paged_out_busy d.calls p in omega (arith, a, b)
 
-enter_ends : (d : Device) (c : Caller) (p : Page) (bytes : List ℕ) → is_busy_call (call_of d.calls c) ≡ true → Grows 0 d (enter d c p bytes)
+enter_ends : (d : Device) (c : Caller) (p : Page) (bytes : List ℕ) → is_busy_call (call_of d.calls c) ≡ true → Grows 0 d (enter_entry d c p bytes)
 enter_ends d c p bytes busy =
-    let a = busy-set (calls.paged_out d.calls p) c.0 idle in
+    let a = busy-set (calls.paged_out d.calls p) c.0 idle_call in
     let b = paged_out_busy d.calls p in
     let one : one_if (is_busy_call (call_of (calls.paged_out d.calls p) c)) ≡ one_if true = ap one_if (paged_out_call d.calls p c ∙ busy) in
     omega (arith, a, b, one)
 
 give_grows : (d : Device) (c : Caller) (p : Page) (named : Option EntryNo) (from : Origin) (bytes : List ℕ) → Grows 1 d (give d c p named from bytes)
-give_grows d c p named from bytes = let a = busy-set d.calls c.0 idle in omega (arith, a)
+give_grows d c p named from bytes = let a = busy-set d.calls c.0 idle_call in omega (arith, a)
 
 give_ends :
     (d : Device) (c : Caller) (p : Page) (named : Option EntryNo) (from : Origin) (bytes : List ℕ) → is_busy_call (call_of d.calls c) ≡ true
     → Grows 0 d (give d c p named from bytes)
 give_ends d c p named from bytes busy =
-    let a = busy-set d.calls c.0 idle in let one : one_if (is_busy_call (call_of d.calls c)) ≡ one_if true = ap one_if busy in omega (arith, a, one)
+    let a = busy-set d.calls c.0 idle_call in let one : one_if (is_busy_call (call_of d.calls c)) ≡ one_if true = ap one_if busy in omega (arith, a, one)
 
 fault_ends :
     (d : Device) (c : Caller) (p : Page) (kind : CallKind) (since at : ℕ) (bytes : List ℕ) → is_busy_call (call_of d.calls c) ≡ true
     → Grows 0 d (fault d c p kind since at bytes)
 fault_ends d c p kind since at bytes busy =
-    let a = busy-set d.calls c.0 idle in let one : one_if (is_busy_call (call_of d.calls c)) ≡ one_if true = ap one_if busy in omega (arith, a, one)
+    let a = busy-set d.calls c.0 idle_call in let one : one_if (is_busy_call (call_of d.calls c)) ≡ one_if true = ap one_if busy in omega (arith, a, one)
 
 begins : (d : Device) (c : Caller) (call : Call) → Grows 1 d (record d { calls = set d.calls c.0 call })
 begins d c call = let a = busy-set d.calls c.0 call in let b = one_le (is_busy_call call) in omega (arith, a, b)
@@ -140,24 +140,24 @@ lost_idle l (Reading p n (via.Lender m) arrived.Came newer since) = refl
 lost_idle l (Reading p n (via.Lender m) arrived.Failed newer since) = refl
 lost_idle l (Reading p n (via.Lender m) arrived.Lost newer since) = refl
 
-lost_busy : (cs : Calls) (l : Lender) → count_by is_busy_call (calls.lost cs l) ≡ count_by is_busy_call cs
+lost_busy : (cs : Calls) (l : Lender) → count_by is_busy_call (calls.lost_after cs l) ≡ count_by is_busy_call cs
 lost_busy cs l = busy-map (calls.with_state (calls.lost_if_through l)) cs (λ x. ap not (lost_idle l x.state))
 
-lost_call : (cs : Calls) (l : Lender) (c : Caller) → is_busy_call (call_of (calls.lost cs l) c) ≡ is_busy_call (call_of cs c)
+lost_call : (cs : Calls) (l : Lender) (c : Caller) → is_busy_call (call_of (calls.lost_after cs l) c) ≡ is_busy_call (call_of cs c)
 lost_call cs l c = ap is_busy_call (get_or-map_idle (calls.with_state (calls.lost_if_through l)) cs c.0 refl) ∙ ap not (lost_idle l (call_of cs c).state)
 
 stays : (d : Device) → Grows 0 d d
 stays d = omega arith
 
-came_grows : (d : Device) (c : Caller) (bytes : List ℕ) → Grows 0 d (record d { calls = calls.came d.calls c bytes })
+came_grows : (d : Device) (c : Caller) (bytes : List ℕ) → Grows 0 d (record d { calls = calls.came_after d.calls c bytes })
 came_grows d c bytes = let a = busy-kept (λ x. calls.arrives arrived.Came bytes x x.state) d.calls c.0 (arrives_busy arrived.Came bytes) in omega (arith, a)
 
-wrote_grows : (d : Device) (p : Page) (copy : Option Copy) (ok : Bool) → Grows 0 d (wrote d p copy ok).0
+wrote_grows : (d : Device) (p : Page) (copy : Option Copy) (ok : Bool) → Grows 0 d (wrote_after d p copy ok).0
 wrote_grows d p None ok = omega arith
 wrote_grows d p (Some copy) true = omega arith
 wrote_grows d p (Some copy) false = omega arith
 
-took_grows : (d : Device) (w : DiskWhich) (p : Page) (ok : Bool) (bytes : List ℕ) → Grows 0 d (took d w p ok bytes).0
+took_grows : (d : Device) (w : DiskWhich) (p : Page) (ok : Bool) (bytes : List ℕ) → Grows 0 d (took_after d w p ok bytes).0
 took_grows d (which.Write q) p ok bytes = wrote_grows d p (queue.flying d.queue p) ok
 took_grows d (which.Read c) p true bytes =
     let a = busy-kept (λ x. calls.arrives arrived.Came bytes x x.state) d.calls c.0 (arrives_busy arrived.Came bytes) in omega (arith, a)
@@ -183,18 +183,18 @@ is_under_way d c state is busy_ = ap (λ x. not (is_idle x)) is ∙ ap not busy_
 pub comes_grows : (d d' : Device) (page : List ℕ) (e : Event) (s : Seen) → Comes d page e d' s → GrowsByCalls e d d'
 comes_grows d d' page e s (refuses new) = omega arith
 comes_grows d d' page e s (rests new rest) = omega arith
-comes_grows d d' page e s (accepts {c = c} {p = p} {bytes = bytes} (begins_out idle) linked) = linked_grows 1 d _ d' linked (enter_grows d c p bytes)
+comes_grows d d' page e s (accepts {c = c} {p = p} {bytes = bytes} (begins_out idle_call) linked) = linked_grows 1 d _ d' linked (enter_grows d c p bytes)
 comes_grows d d' page e s (accepts {c = c} {p = p} (goes_on_out is) linked) =
     linked_grows 0 d _ d' linked (enter_ends d c p (call_of d.calls c).bytes (is_under_way d c _ is refl))
-comes_grows d d' page e s (gives_page {c = c} {p = p} {named = named} {from = from} {bytes = bytes} (begins_in idle)) = give_grows d c p named from bytes
+comes_grows d d' page e s (gives_page {c = c} {p = p} {named = named} {from = from} {bytes = bytes} (begins_in idle_call)) = give_grows d c p named from bytes
 comes_grows d d' page e s (gives_page {c = c} {p = p} {named = named} {from = from} {bytes = bytes} (goes_on_in is)) =
     give_ends d c p named from bytes (is_under_way d c _ is refl)
 comes_grows d d' page e s (fails {c = c} {p = p} {k = k} {since = since} {at = at} {bytes = bytes} (full is less)) =
     fault_ends d c p k since at bytes (is_under_way d c _ is refl)
 comes_grows d d' page e s (fails {c = c} {p = p} {k = k} {since = since} {at = at} {bytes = bytes} (unread is)) =
     fault_ends d c p k since at bytes (is_under_way d c _ is refl)
-comes_grows d d' page e s (keeps_page {c = c} idle) = begins d c _
-comes_grows d d' page e s (reads {c = c} {p = p} {n = n} {d' = x} v (begins_in idle) is linked) =
+comes_grows d d' page e s (keeps_page {c = c} idle_call) = begins d c _
+comes_grows d d' page e s (reads {c = c} {p = p} {n = n} {d' = x} v (begins_in idle_call) is linked) =
     let a = begins x c (record { state = Reading p n v arrived.Waiting false x.failed_reads; bytes = [] }) in let b = linked_grows 0 d d x linked (stays d) in
     omega (arith, a, b)
 comes_grows d d' page e s (reads {c = c} {p = p} {n = n} {d' = x} v (goes_on_in state) is linked) =
@@ -206,12 +206,12 @@ comes_grows d d' page e s starts_write = omega arith
 comes_grows d d' page e s (takes_back taken) = took_back_grows d taken
 comes_grows d d' page e s (links new of_link linked) = let a = linked_grows 0 d d d' linked (stays d) in omega (arith, a)
 comes_grows d d' page e s (brings c bytes r linked) =
-    let a = came_grows d c bytes in let b = linked_grows 0 d (record d { remote = r; calls = calls.came d.calls c bytes }) d' linked a in omega (arith, b)
+    let a = came_grows d c bytes in let b = linked_grows 0 d (record d { remote = r; calls = calls.came_after d.calls c bytes }) d' linked a in omega (arith, b)
 
 -- what comes back from the disk leaves each caller as busy as it was
 idle-kept :
     (f : Call → Call) (cs : Calls) (i j : ℕ) → ((x : Call) → is_idle (f x).state ≡ is_idle x.state)
-    → is_idle (get_or (set cs i (f (get_or cs i idle))) j idle).state ≡ is_idle (get_or cs j idle).state
+    → is_idle (get_or (set cs i (f (get_or cs i idle_call))) j idle_call).state ≡ is_idle (get_or cs j idle_call).state
 idle-kept f [] i j same = refl
 idle-kept f (x ∷ cs) zero zero same = same x
 idle-kept f (x ∷ cs) zero (suc j) same = refl
@@ -230,14 +230,15 @@ arrives_idle how bytes x = go x.state refl
     go (Reading p n v arrived.Lost newer since) e = refl
 
 wrote_idle :
-    (d : Device) (p : Page) (copy : Option Copy) (ok : Bool) (c : Caller) → is_idle (state_of (wrote d p copy ok).0.calls c) ≡ is_idle (state_of d.calls c)
+    (d : Device) (p : Page) (copy : Option Copy) (ok : Bool) (c : Caller)
+    → is_idle (state_of (wrote_after d p copy ok).0.calls c) ≡ is_idle (state_of d.calls c)
 wrote_idle d p None ok c = refl
 wrote_idle d p (Some copy) true c = refl
 wrote_idle d p (Some copy) false c = refl
 
 took_idle :
     (d : Device) (w : DiskWhich) (p : Page) (ok : Bool) (bytes : List ℕ) (c : Caller)
-    → is_idle (state_of (took d w p ok bytes).0.calls c) ≡ is_idle (state_of d.calls c)
+    → is_idle (state_of (took_after d w p ok bytes).0.calls c) ≡ is_idle (state_of d.calls c)
 took_idle d (which.Write q) p ok bytes c = wrote_idle d p (queue.flying d.queue p) ok c
 took_idle d (which.Read e) p true bytes c = idle-kept (λ x. calls.arrives arrived.Came bytes x x.state) d.calls e.0 c.0 (arrives_idle arrived.Came bytes)
 took_idle d (which.Read e) p false bytes c = idle-kept (λ x. calls.arrives arrived.Failed [] x x.state) d.calls e.0 c.0 (arrives_idle arrived.Failed [])

@@ -14,10 +14,10 @@ use Rattle.swap_wire.specs.declared.Event.{Event}
 use Rattle.swap_wire.specs.declared.Seen.{Seen}
 use Rattle.swap_record.specs.History.{last}
 use Rattle.swap_disk.specs.Disk.{Taken}
-use Rattle.swap_calls.specs.Calls.{Call, Calls, state_of, call_of, idle, is_idle}
+use Rattle.swap_calls.specs.Calls.{Call, Calls, state_of, call_of, idle_call, is_idle}
 use Rattle.swap_calls.specs.declared.CallState.{CallState}
 use Rattle.swap_calls.specs.declared.CallState.TheVariants.{Idle, Room, Reading}
-use Rattle.swap_table.specs.Device.{Device, enter, took_back, new, took, wrote}
+use Rattle.swap_table.specs.Device.{Device, enter_entry, took_back, device_at_start, took_after, wrote_after}
 use Rattle.swap_table.proofs.Lists.{by_caller, not_eqb}
 use Rattle.swap_table.proofs.Agree.{get_or-map_idle, state-paged_out}
 use Rattle.swap_world.specs.Failures.{is_of, is_start, is_start_of, before_start, failed_writes_in, failed_reads_in}
@@ -50,18 +50,18 @@ pub record Carries (d : Device) (Q : Bool → CallState → Type 0) : Type 0 whe
 -- of one caller's call
 module _ (P : CallState → Type 0) (cs : Calls) (c : Caller) where
   pub set_own : (call : Call) → c.0 < length cs → P call.state → P (state_of (set cs c.0 call) c)
-  set_own call within h = subst P (sym (ap (λ (x : Call). x.state) (get_or-set_same cs c.0 call idle within))) h
+  set_own call within h = subst P (sym (ap (λ (x : Call). x.state) (get_or-set_same cs c.0 call idle_call within))) h
 
   pub set_other : (e : Caller) (call : Call) → (c.0 ≡ e.0 → ⊥) → P (state_of cs c) → P (state_of (set cs e.0 call) c)
-  set_other e call ne h = subst P (sym (ap (λ (x : Call). x.state) (get_or-set_other cs e.0 c.0 call idle ne))) h
+  set_other e call ne h = subst P (sym (ap (λ (x : Call). x.state) (get_or-set_other cs e.0 c.0 call idle_call ne))) h
 
-  ended_own : P Idle → P (state_of (calls.ended cs c) c)
+  ended_own : P Idle → P (state_of (calls.end_after cs c) c)
   ended_own h = subst P (sym (ap (λ (x : Call). x.state) (set-idle cs c.0))) h
 
   marked : (p : Page) → P (calls.newer_if_reads p (state_of cs c)) → P (state_of (calls.paged_out cs p) c)
   marked p h = subst P (sym (state-paged_out cs p c)) h
 
-  let_go : (l : Lender) → P (calls.lost_if_through l (state_of cs c)) → P (state_of (calls.lost cs l) c)
+  let_go : (l : Lender) → P (calls.lost_if_through l (state_of cs c)) → P (state_of (calls.lost_after cs l) c)
   let_go l h = subst P (sym (ap (λ (x : Call). x.state) (get_or-map_idle (calls.with_state (calls.lost_if_through l)) cs c.0 refl))) h
 
 -- what starts nothing
@@ -108,17 +108,17 @@ module _ (Q : Bool → CallState → Type 0) (d : Device) (c : Caller) (k : Carr
       linked_keep (λ z. c.0 < length z.calls) (λ z r made h. h)
       (λ z l h. subst (λ n. c.0 < n) (sym (length-map z.calls (calls.with_state (calls.lost_if_through l)))) h) d x used within
 
-  entered : (a : Caller) (p : Page) (bytes : List ℕ) → Q false (state_of (enter d a p bytes).calls c)
+  entered : (a : Caller) (p : Page) (bytes : List ℕ) → Q false (state_of (enter_entry d a p bytes).calls c)
   entered a p bytes =
-      by_caller (λ a. Q false (state_of (enter d a p bytes).calls c)) c a (ended_own (Q false) (calls.paged_out d.calls p) c (k.idle false))
+      by_caller (λ a. Q false (state_of (enter_entry d a p bytes).calls c)) c a (ended_own (Q false) (calls.paged_out d.calls p) c (k.idle false))
       (λ ne.
-      set_other (Q false) (calls.paged_out d.calls p) c a idle (λ same. ne (sym same))
+      set_other (Q false) (calls.paged_out d.calls p) c a idle_call (λ same. ne (sym same))
       (marked (Q false) d.calls c p (k.newer false p (state_of d.calls c) was)))
 
-  ended : (a : Caller) → Q false (state_of (calls.ended d.calls a) c)
+  ended : (a : Caller) → Q false (state_of (calls.end_after d.calls a) c)
   ended a =
-      by_caller (λ a. Q false (state_of (calls.ended d.calls a) c)) c a (ended_own (Q false) d.calls c (k.idle false))
-      (λ ne. set_other (Q false) d.calls c a idle (λ same. ne (sym same)) was)
+      by_caller (λ a. Q false (state_of (calls.end_after d.calls a) c)) c a (ended_own (Q false) d.calls c (k.idle false))
+      (λ ne. set_other (Q false) d.calls c a idle_call (λ same. ne (sym same)) was)
 
   -- a call that starts, its caller's or another's
   started :
@@ -136,10 +136,10 @@ module _ (Q : Bool → CallState → Type 0) (d : Device) (c : Caller) (k : Carr
   reading x used p n v newest =
       linked_keep (λ z. Q true (Reading p n v arrived.Waiting false z.failed_reads)) (λ z r made h. h) (λ z l h. h) d x used (k.reading p n v newest)
 
-  came_to : (x : Device) → Linked d x → (a : Caller) (bytes : List ℕ) → Q false (state_of (calls.came x.calls a bytes) c)
+  came_to : (x : Device) → Linked d x → (a : Caller) (bytes : List ℕ) → Q false (state_of (calls.came_after x.calls a bytes) c)
   came_to x used a bytes =
       let h : Q false (state_of x.calls c) = linked false d x used was in
-      by_caller (λ a. Q false (state_of (calls.came x.calls a bytes) c)) c a
+      by_caller (λ a. Q false (state_of (calls.came_after x.calls a bytes) c)) c a
       (set_own (Q false) x.calls c _ (linked_within x used) (k.came false bytes (call_of x.calls c) (state_of x.calls c) h h))
       (λ ne. set_other (Q false) x.calls c a _ (λ same. ne (sym same)) h)
 
@@ -147,12 +147,12 @@ module _ (Q : Bool → CallState → Type 0) (d : Device) (c : Caller) (k : Carr
       (page : List ℕ) (e : Event) (d' : Device) (s : Seen)
       → ((w : DiskWhich) (ok : Bool) (taken : Option Taken) → e ≡ event.Disk w ok → Q false (state_of (took_back d taken).0.calls c)) → Comes d page e d' s
       → Q (is_start_of c e s) (state_of d'.calls c)
-  comes_carries page e d' s back (refuses new) = quiet e s d.calls (busy_starts e) was
-  comes_carries page e d' s back (rests new rest) = quiet e s d.calls (rest_starts e s new rest) was
+  comes_carries page e d' s back (refuses device_at_start) = quiet e s d.calls (busy_starts e) was
+  comes_carries page e d' s back (rests device_at_start rest) = quiet e s d.calls (rest_starts e s device_at_start rest) was
   comes_carries page e d' s back (accepts {c = a} {p = p} {bytes = bytes} {to = to} step used) =
-      quiet e s d'.calls (done_starts e _ to) (linked false (enter d a p bytes) d' used (entered a p bytes))
-  comes_carries page e d' s back (gives_page {c = a} step) = quiet e s (calls.ended d.calls a) (done_starts e _ None) (ended a)
-  comes_carries page e d' s back (fails {c = a} why) = quiet e s (calls.ended d.calls a) refl (ended a)
+      quiet e s d'.calls (done_starts e _ to) (linked false (enter_entry d a p bytes) d' used (entered a p bytes))
+  comes_carries page e d' s back (gives_page {c = a} step) = quiet e s (calls.end_after d.calls a) (done_starts e _ None) (ended a)
+  comes_carries page e d' s back (fails {c = a} why) = quiet e s (calls.end_after d.calls a) refl (ended a)
   comes_carries page e d' s back (keeps_page {c = a} {p = p} is) = started a d.calls _ within (k.room p) was
   comes_carries page e d' s back (reads {c = a} {p = p} {n = n} {d' = x} v (begins_in is) newest used) =
       started a x.calls _ (linked_within x used) (reading x used p n v newest) (linked false d x used was)
@@ -160,9 +160,10 @@ module _ (Q : Bool → CallState → Type 0) (d : Device) (c : Caller) (k : Carr
       started a x.calls _ (linked_within x used) (reading x used p n v newest) (linked false d x used was)
   comes_carries page e d' s back starts_write = was
   comes_carries page e d' s back (takes_back {w = w} {ok = ok} taken) = back w ok taken refl
-  comes_carries page e d' s back (links new of_link used) = quiet e s d'.calls (link_starts e s new of_link) (linked false d d' used was)
+  comes_carries page e d' s back (links device_at_start of_link used) =
+      quiet e s d'.calls (link_starts e s device_at_start of_link) (linked false d d' used was)
   comes_carries page e d' s back (brings a bytes r used) =
-      linked false (record d { remote = r; calls = calls.came d.calls a bytes }) d' used (came_to d as_was a bytes)
+      linked false (record d { remote = r; calls = calls.came_after d.calls a bytes }) d' used (came_to d as_was a bytes)
 
 -- a call's count is of what was made before its start
 abbrev pub Since : List (Input × Seen) → CallState → Type 0
@@ -178,11 +179,11 @@ since_as before state state' e h = let P : CallState → Type 0 = λ x. Since be
 
 since_own :
     (c : Caller) (before : List (Input × Seen)) (cs : Calls) (call : Call) → c.0 < length cs → Since before call.state → SinceIn c before (set cs c.0 call)
-since_own c before cs call within h = since_as before call.state _ (ap (λ (x : Call). x.state) (get_or-set_same cs c.0 call idle within)) h
+since_own c before cs call within h = since_as before call.state _ (ap (λ (x : Call). x.state) (get_or-set_same cs c.0 call idle_call within)) h
 
 since_other :
     (c e : Caller) (before : List (Input × Seen)) (cs : Calls) (call : Call) → (c.0 ≡ e.0 → ⊥) → SinceIn c before cs → SinceIn c before (set cs e.0 call)
-since_other c e before cs call ne h = since_as before (state_of cs c) _ (ap (λ (x : Call). x.state) (get_or-set_other cs e.0 c.0 call idle ne)) h
+since_other c e before cs call ne h = since_as before (state_of cs c) _ (ap (λ (x : Call). x.state) (get_or-set_other cs e.0 c.0 call idle_call ne)) h
 
 arrives_since :
     (before : List (Input × Seen)) (how : Arrived) (bytes : List ℕ) (call : Call) (state : CallState) → Since before state → Since before call.state
@@ -204,14 +205,14 @@ arrived_since c e before cs how bytes within h =
 
 wrote_since :
     (c : Caller) (before : List (Input × Seen)) (d : Device) (p : Page) (copy : Option Copy) (ok : Bool) → SinceIn c before d.calls
-    → SinceIn c before (wrote d p copy ok).0.calls
+    → SinceIn c before (wrote_after d p copy ok).0.calls
 wrote_since c before d p None ok h = h
 wrote_since c before d p (Some copy) true h = h
 wrote_since c before d p (Some copy) false h = h
 
 took_since :
     (c : Caller) (before : List (Input × Seen)) (d : Device) (w : DiskWhich) (p : Page) (ok : Bool) (bytes : List ℕ) → c.0 < length d.calls
-    → SinceIn c before d.calls → SinceIn c before (took d w p ok bytes).0.calls
+    → SinceIn c before d.calls → SinceIn c before (took_after d w p ok bytes).0.calls
 took_since c before d (which.Write q) p ok bytes within h = wrote_since c before d p (queue.flying d.queue p) ok h
 took_since c before d (which.Read e) p true bytes within h = arrived_since c e before d.calls arrived.Came bytes within h
 took_since c before d (which.Read e) p false bytes within h = arrived_since c e before d.calls arrived.Failed [] within h
@@ -240,28 +241,28 @@ counts_since c made d writes reads_ = record {
         → Since (cond b made (before_start c made)) (calls.newer_if_reads p state)
     newer b p Idle h = h
     newer b p (Room q since) h = h
-    newer b p (Reading q n v how new since) h = h
+    newer b p (Reading q n v how device_at_start since) h = h
 
     loses :
         (b : Bool) (l : Lender) (state : CallState) → Since (cond b made (before_start c made)) state
         → Since (cond b made (before_start c made)) (calls.lost_if_through l state)
     loses b l Idle h = h
     loses b l (Room q since) h = h
-    loses b l (Reading q n via.Disk how new since) h = h
-    loses b l (Reading q n (via.Lender m) arrived.Waiting new since) h = h
-    loses b l (Reading q n (via.Lender m) arrived.Came new since) h = h
-    loses b l (Reading q n (via.Lender m) arrived.Failed new since) h = h
-    loses b l (Reading q n (via.Lender m) arrived.Lost new since) h = h
+    loses b l (Reading q n via.Disk how device_at_start since) h = h
+    loses b l (Reading q n (via.Lender m) arrived.Waiting device_at_start since) h = h
+    loses b l (Reading q n (via.Lender m) arrived.Came device_at_start since) h = h
+    loses b l (Reading q n (via.Lender m) arrived.Failed device_at_start since) h = h
+    loses b l (Reading q n (via.Lender m) arrived.Lost device_at_start since) h = h
 
     arrives :
         (b : Bool) (bytes : List ℕ) (call : Call) (state : CallState) → Since (cond b made (before_start c made)) call.state
         → Since (cond b made (before_start c made)) state → Since (cond b made (before_start c made)) (calls.arrives arrived.Came bytes call state).state
     arrives b bytes call Idle same h = same
     arrives b bytes call (Room q since) same h = same
-    arrives b bytes call (Reading q n v arrived.Waiting new since) same h = h
-    arrives b bytes call (Reading q n v arrived.Came new since) same h = same
-    arrives b bytes call (Reading q n v arrived.Failed new since) same h = same
-    arrives b bytes call (Reading q n v arrived.Lost new since) same h = same
+    arrives b bytes call (Reading q n v arrived.Waiting device_at_start since) same h = h
+    arrives b bytes call (Reading q n v arrived.Came device_at_start since) same h = same
+    arrives b bytes call (Reading q n v arrived.Failed device_at_start since) same h = same
+    arrives b bytes call (Reading q n v arrived.Lost device_at_start since) same h = same
 
 pub comes_since :
     (c : Caller) (made : List (Input × Seen)) (d d' : Device) (i : Input) (s : Seen) → d.failed_writes ≡ failed_writes_in made
@@ -271,7 +272,7 @@ comes_since c made d d' i s writes reads_ within was comes =
     comes_carries (λ b state. Since (cond b made (before_start c made)) state) d c (counts_since c made d writes reads_) within was i.page i.event d' s
     (λ w ok taken is. took_back_since c (before_start c made) d taken within was) comes
 
-pub since_new : (s : Sizes) (n : ℕ) (c : Caller) → SinceIn c [] (new s n).calls
+pub since_new : (s : Sizes) (n : ℕ) (c : Caller) → SinceIn c [] (device_at_start s n).calls
 since_new s n c = since_as [] Idle _ (ap (λ (x : Call). x.state) (idle_at s.callers c.0)) tt
 
 -- a caller that is idle stays so, but by a call of its own
@@ -323,6 +324,6 @@ idle_carries d = record {
 pub comes_idle :
     (d d' : Device) (page : List ℕ) (e : Event) (s : Seen) (c : Caller) → c.0 < length d.calls → is_idle (state_of d.calls c) ≡ true → is_call_of c e ≡ false
     → Comes d page e d' s → is_idle (state_of d'.calls c) ≡ true
-comes_idle d d' page e s c within idle other comes =
-    comes_carries (λ b state. b ≡ false → is_idle state ≡ true) d c (idle_carries d) within (λ same. idle) page e d' s
-    (λ w ok taken is same. took_back_idle d taken c ∙ idle) comes (not_started c d d' page e s idle other comes)
+comes_idle d d' page e s c within idle_call other comes =
+    comes_carries (λ b state. b ≡ false → is_idle state ≡ true) d c (idle_carries d) within (λ same. idle_call) page e d' s
+    (λ w ok taken is same. took_back_idle d taken c ∙ idle_call) comes (not_started c d d' page e s idle_call other comes)

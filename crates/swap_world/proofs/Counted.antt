@@ -10,7 +10,7 @@ use Rattle.swap_record.specs.History.{row_of, History}
 use Rattle.swap_queue.specs.Queue.{Copy}
 use Rattle.swap_disk.specs.Disk.{Taken}
 use Rattle.swap_table.specs.declared.DiskStep.{DiskStep}
-use Rattle.swap_table.specs.Device.{Device, wrote, took, took_back, new}
+use Rattle.swap_table.specs.Device.{Device, wrote_after, took_after, took_back, device_at_start}
 use Rattle.swap_table.proofs.Lists.{one_if, count_by-cons}
 use Rattle.swap_table.specs.Happens.{see_disk}
 use Rattle.swap_world.specs.Failures.{is_write_failed, is_read_failed, failed_writes_in, failed_reads_in}
@@ -21,7 +21,7 @@ use Rattle.swap_base.specs.declared.Caller.{Caller}
 use Rattle.swap_base.specs.declared.Via.{Via}
 use Rattle.swap_base.specs.Sizes.{zeros}
 use Rattle.swap_wire.specs.Input.{Input}
-use Rattle.swap_calls.specs.Calls.{call_of, idle}
+use Rattle.swap_calls.specs.Calls.{call_of, idle_call}
 use Rattle.swap_calls.specs.declared.CallState.{CallState}
 use Rattle.swap_table.specs.Moves.{full, unread, Faults}
 use Rattle.swap_record.specs.declared.Op.{Op}
@@ -95,15 +95,15 @@ by_history :
 by_history d d' s w r nw nr =
     record { writes = w ∙ sym (ap (λ b. d.failed_writes + one_if b) nw ∙ add-zero _); reads = r ∙ sym (ap (λ b. d.failed_reads + one_if b) nr ∙ add-zero _) }
 
-wrote_counts : (d : Device) (p : Page) (copy : Option Copy) (ok : Bool) → let a : Device × DiskStep = wrote d p copy ok in Counts d (a.0, see_disk a.1)
+wrote_counts : (d : Device) (p : Page) (copy : Option Copy) (ok : Bool) → let a : Device × DiskStep = wrote_after d p copy ok in Counts d (a.0, see_disk a.1)
 wrote_counts d p None ok = same d d seen.Nothing (itself d) refl refl
 wrote_counts d p (Some copy) true = by_history d _ (seen.Written copy.entry) refl refl refl refl
-wrote_counts d p (Some copy) false = by_next (queue.next d.queue p)
+wrote_counts d p (Some copy) false = by_next (queue.next_copy d.queue p)
   where
     by_next :
         (o : Option Copy)
         → Counts d (
-          record d { queue = queue.failed d.queue p; failed_writes = d.failed_writes + 1 },
+          record d { queue = queue.failed_after d.queue p; failed_writes = d.failed_writes + 1 },
           see_disk (cond (is_none o) (DiskStep.Kept p copy.entry) (DiskStep.Dropped p copy.entry)),
         )
     by_next None = record { writes = refl; reads = sym (add-zero _) }
@@ -113,7 +113,7 @@ pub took_counts : (d : Device) (taken : Option Taken) → let a : Device × Disk
 took_counts d None = same d d seen.Nothing (itself d) refl refl
 took_counts d (Some t) = go t.done.which t.done.page t.done.ok t.bytes
   where
-    go : (w : DiskWhich) (p : Page) (ok : Bool) (bytes : List ℕ) → let a : Device × DiskStep = took d w p ok bytes in Counts d (a.0, see_disk a.1)
+    go : (w : DiskWhich) (p : Page) (ok : Bool) (bytes : List ℕ) → let a : Device × DiskStep = took_after d w p ok bytes in Counts d (a.0, see_disk a.1)
     go (which.Write q) p ok bytes = wrote_counts d p (queue.flying d.queue p) ok
     go (which.Read c) p true bytes = by_history d _ (seen.ReadCame p) refl refl refl refl
     go (which.Read c) p false bytes = record { writes = sym (add-zero _); reads = refl }
@@ -138,11 +138,11 @@ seen_nothing : (d : Device) (taken : Option Taken) → let a : Device × DiskSte
 seen_nothing d None = (refl, refl)
 seen_nothing d (Some t) = go t.done.which t.done.page t.done.ok t.bytes
   where
-    back : (p : Page) (copy : Option Copy) (ok : Bool) → let a : Device × DiskStep = wrote d p copy ok in
+    back : (p : Page) (copy : Option Copy) (ok : Bool) → let a : Device × DiskStep = wrote_after d p copy ok in
         (entry_seen (see_disk a.1) ≡ None) × (a.0.history ≡ d.history)
     back p None ok = (refl, refl)
     back p (Some copy) true = (refl, refl)
-    back p (Some copy) false = by_next (queue.next d.queue p)
+    back p (Some copy) false = by_next (queue.next_copy d.queue p)
       where
         by_next :
             (o : Option Copy)
@@ -150,7 +150,7 @@ seen_nothing d (Some t) = go t.done.which t.done.page t.done.ok t.bytes
         by_next None = (refl, refl)
         by_next (Some x) = (refl, refl)
 
-    go : (w : DiskWhich) (p : Page) (ok : Bool) (bytes : List ℕ) → let a : Device × DiskStep = took d w p ok bytes in
+    go : (w : DiskWhich) (p : Page) (ok : Bool) (bytes : List ℕ) → let a : Device × DiskStep = took_after d w p ok bytes in
         (entry_seen (see_disk a.1) ≡ None) × (a.0.history ≡ d.history)
     go (which.Write q) p ok bytes = back p (queue.flying d.queue p) ok
     go (which.Read c) p true bytes = (refl, refl)
@@ -242,4 +242,3 @@ polled_counts made d d' (DiskStep.Kept p e) was now = counted_after made d d' _ 
 polled_counts made d d' (DiskStep.Dropped p e) was now = counted_after made d d' _ (seen.WriteDropped e) was now
 polled_counts made d d' (DiskStep.Came c p) was now = counted_after made d d' _ (seen.ReadCame p) was now
 polled_counts made d d' (DiskStep.Failed c p) was now = counted_after made d d' _ (seen.ReadFailed p) was now
-

@@ -10,7 +10,7 @@ use Rattle.swap_record.specs.History.{next_name}
 use Rattle.swap_queue.specs.Queue.{Copy}
 use Rattle.swap_disk.specs.Disk.{Taken}
 use Rattle.swap_table.specs.declared.DiskStep.{DiskStep}
-use Rattle.swap_table.specs.Device.{Device, wrote, took, took_back}
+use Rattle.swap_table.specs.Device.{Device, wrote_after, took_after, took_back}
 use Rattle.swap_table.specs.Happens.{see_disk}
 use Rattle.swap_world.specs.Runs.{has_effect}
 use Rattle.swap_table.specs.Comes.{is_of_link, begins_in, goes_on_in, Comes, rates_slabs, is_of_rates, ComesTo, refuses, rests, accepts, gives_page, fails, keeps_page, reads, starts_write, takes_back, links, brings}
@@ -40,11 +40,11 @@ took_stays : (d : Device) (taken : Option Taken) (w : DiskWhich) (ok : Bool) →
 took_stays d None w ok none = refl
 took_stays d (Some t) w ok none = go t.done.which t.done.page t.done.ok t.bytes none
   where
-    back : (p : Page) (copy : Option Copy) (good : Bool) → let a : Device × DiskStep = wrote d p copy good in
+    back : (p : Page) (copy : Option Copy) (good : Bool) → let a : Device × DiskStep = wrote_after d p copy good in
         has_effect (event.Disk w ok) (see_disk a.1) ≡ false → a.0 ≡ d
     back p None good none = refl
     back p (Some copy) true none = cc
-    back p (Some copy) false none = absurd (kept (queue.next d.queue p) none)
+    back p (Some copy) false none = absurd (kept (queue.next_copy d.queue p) none)
       where
         kept :
             (o : Option Copy) → has_effect (event.Disk w ok) (see_disk (cond (is_none o) (DiskStep.Kept p copy.entry) (DiskStep.Dropped p copy.entry))) ≡ false
@@ -52,7 +52,7 @@ took_stays d (Some t) w ok none = go t.done.which t.done.page t.done.ok t.bytes 
         kept None h = cc
         kept (Some x) h = cc
 
-    go : (v : DiskWhich) (p : Page) (good : Bool) (bytes : List ℕ) → let a : Device × DiskStep = took d v p good bytes in
+    go : (v : DiskWhich) (p : Page) (good : Bool) (bytes : List ℕ) → let a : Device × DiskStep = took_after d v p good bytes in
         has_effect (event.Disk w ok) (see_disk a.1) ≡ false → a.0 ≡ d
     go (which.Write q) p good bytes none = back p (queue.flying d.queue p) good none
     go (which.Read c) p true bytes none = cc

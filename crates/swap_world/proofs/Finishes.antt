@@ -31,9 +31,9 @@ use Rattle.swap_table.specs.declared.Step.{Step}
 use Rattle.swap_table.specs.declared.Step.TheVariants as steps
 use Rattle.swap_table.specs.Ports.{Prog, Ret, AskDisk, AskFabric, answering, Leads, and_then}
 use Rattle.swap_table.specs.Device as device
-use Rattle.swap_table.specs.Device.{Device, enter, give, fault, accept, accepted_late, write_to, read_at, route_by, route, routed_again, finish_out, finish_by, origin_of, source, lose, sent_nowhere, hit, read_disk}
+use Rattle.swap_table.specs.Device.{Device, enter_entry, give, fault, accept_program, accepted_late, write_to, read_at, route_by, route, routed_again, finish_out, finish_by, origin_of, source, lose, sent_nowhere, hit, read_disk}
 use Rattle.swap_table.specs.Happens.{happens, seen_by, see_in, see_step}
-use Rattle.swap_table.specs.Moves.{anything, Move}
+use Rattle.swap_table.specs.Moves.{within_any, Move}
 use Rattle.swap_table.proofs.Going.{Goes-leads}
 use Rattle.swap_table.proofs.Sequences.{Leads-then}
 use Rattle.swap_table.proofs.Losing.{lose_passes}
@@ -75,7 +75,7 @@ module _ {D F : Type 0} (disk_moves : D → (c : DiskCall) → DiskAnswer c → 
   lose_rows d x l k f h same was =
       Leads-answering disk_moves moves h (lose x l) k f _
       (Leads-implies disk_moves moves (lose x l) k f _ _ (λ y _ _ r. subst (AddsNoRead d) (sym (ap (λ (z : Device). z.history) (same y) ∙ r.1.1.history)) was)
-      (Goes-leads (Move anything) disk_moves moves (λ _ _ _. Unit {0}) (λ s asked t k k' f f' m went h. tt) _ k f (lose_passes anything x l) tt))
+      (Goes-leads (Move within_any) disk_moves moves (λ _ _ _. Unit {0}) (λ s asked t k k' f f' m went h. tt) _ k f (lose_passes within_any x l) tt))
 
   write_rows :
       (d e : Device) (k : D) (f : F) (p : Page) (n : EntryNo) (bytes : List ℕ) (at : Option (Lender × Lease)) → AddsNoRead d e.history
@@ -85,9 +85,9 @@ module _ {D F : Type 0} (disk_moves : D → (c : DiskCall) → DiskAnswer c → 
 
   accept_rows :
       (d : Device) (k : D) (f : F) (c : Caller) (p : Page) (bytes : List ℕ)
-      → Leads disk_moves moves (accept d c p bytes) k f (λ a _ _. AddsNoRead d a.0.history)
+      → Leads disk_moves moves (accept_program d c p bytes) k f (λ a _ _. AddsNoRead d a.0.history)
   accept_rows d k f c p bytes =
-      write_rows d (enter d c p bytes) k f p (next_name d.history) bytes (remote.target d.sizes d.remote p)
+      write_rows d (enter_entry d c p bytes) k f p (next_name d.history) bytes (remote.target d.sizes d.remote p)
       (inr (row_of d.history c p op.PageOut bytes, refl, refl))
 
   read_rows :
@@ -100,7 +100,7 @@ module _ {D F : Type 0} (disk_moves : D → (c : DiskCall) → DiskAnswer c → 
       down l g =
           Leads-then disk_moves moves (lose d l) (λ x. read_disk x c p n) k g _
           (Leads-implies disk_moves moves (lose d l) k g _ _ (λ y _ _ r. λ q mid moved. inl r.1.1.history)
-          (Goes-leads (Move anything) disk_moves moves (λ _ _ _. Unit {0}) (λ s asked t k k' f f' m went h. tt) _ k g (lose_passes anything d l) tt))
+          (Goes-leads (Move within_any) disk_moves moves (λ _ _ _. Unit {0}) (λ s asked t k k' f f' m went h. tt) _ k g (lose_passes within_any d l) tt))
 
   route_rows : (d : Device) (k : D) (f : F) (c : Caller) (p : Page) → Leads disk_moves moves (route d c p) k f (λ a _ _. AddsNoRead d a.0.history)
   route_rows d k f c p = by (last d.history p) (queue.newest d.queue p)
@@ -138,14 +138,14 @@ module _ {D F : Type 0} (disk_moves : D → (c : DiskCall) → DiskAnswer c → 
           by_room :
               (b : Bool)
               → Leads disk_moves moves {A = Device × Step}
-              (cond b (answering (accepted_late (next_name d.history)) (accept d c p bytes))
+              (cond b (answering (accepted_late (next_name d.history)) (accept_program d c p bytes))
               (cond (nat_lt since d.failed_writes)
               (Ret (fault d c p kind.PageOut since d.failed_writes bytes, steps.Fault (next_name d.history) since d.failed_writes)) (Ret (d, steps.Room))))
               k f
               (λ a _ _. AddsKept d c a.0.history)
           by_room true =
-              Leads-answering disk_moves moves (accepted_late (next_name d.history)) (accept d c p bytes) k f _
-              (Leads-implies disk_moves moves (accept d c p bytes) k f _ _ (λ a e g h. inl h) (accept_rows d k f c p bytes))
+              Leads-answering disk_moves moves (accepted_late (next_name d.history)) (accept_program d c p bytes) k f _
+              (Leads-implies disk_moves moves (accept_program d c p bytes) k f _ _ (λ a e g h. inl h) (accept_rows d k f c p bytes))
           by_room false = fails (nat_lt since d.failed_writes)
 
       by :
@@ -184,14 +184,14 @@ module _ {D F : Type 0} (disk_moves : D → (c : DiskCall) → DiskAnswer c → 
           by_room :
               (b : Bool)
               → Leads disk_moves moves {A = Device × Step}
-              (cond b (answering (accepted_late (next_name d.history)) (accept d c p bytes))
+              (cond b (answering (accepted_late (next_name d.history)) (accept_program d c p bytes))
               (cond (nat_lt since d.failed_writes)
               (Ret (fault d c p kind.PageOut since d.failed_writes bytes, steps.Fault (next_name d.history) since d.failed_writes)) (Ret (d, steps.Room))))
               k f
               (λ a _ _. ReadsAnew (Room p since) (see_step a.1))
           by_room true =
-              Leads-answering disk_moves moves (accepted_late (next_name d.history)) (accept d c p bytes) k f _
-              (all_answers (accept d c p bytes) k f (λ a. ReadsAnew (Room p since) (see_step (accepted_late (next_name d.history) a).1)) (λ a v is. cc))
+              Leads-answering disk_moves moves (accepted_late (next_name d.history)) (accept_program d c p bytes) k f _
+              (all_answers (accept_program d c p bytes) k f (λ a. ReadsAnew (Room p since) (see_step (accepted_late (next_name d.history) a).1)) (λ a v is. cc))
           by_room false = fails (nat_lt since d.failed_writes)
 
       routes :

@@ -24,7 +24,7 @@ use Rattle.swap_wire.specs.declared.Msg.{Msg}
 use Rattle.swap_wire.specs.declared.Msg.TheVariants as msg
 use Rattle.swap_wire.specs.Fabric.{Parcel, Handed, Brought, NothingCame, LinkLost, FabricCall, FabricAnswer, Connect, Send, Take, End, Give, Cut, Crash, Host, is_page}
 use Rattle.swap_calls.specs.Calls as calls
-use Rattle.swap_calls.specs.Calls.{Call, Calls, state_of, call_of, is_waiting, is_idle, idle}
+use Rattle.swap_calls.specs.Calls.{Call, Calls, state_of, call_of, is_waiting, is_idle, idle_call}
 use Rattle.swap_calls.specs.declared.Arrived.TheVariants as arrived
 use Rattle.swap_calls.specs.declared.CallState.{CallState}
 use Rattle.swap_calls.specs.declared.CallState.TheVariants.{Idle, Room, Reading}
@@ -47,8 +47,8 @@ use Rattle.swap_slabs.specs.declared.TheConstants.{MOST_LENDERS}
 use Rattle.swap_choice.specs.declared.lenders.Asked.{Asked as Picked}
 use Rattle.swap_choice.specs.declared.lenders.Asked.TheVariants as picked
 use Rattle.swap_table.specs.Device as device
-use Rattle.swap_table.specs.Device.{Device, Heard, enter, lost, wrote, took, took_back, heard, understood, took_from, chosen_for, choose, give_up, lose_with, lose, say, follow, query}
-use Rattle.swap_table.specs.Moves.{anything, Move, Hears, roomy, lent, refused, written, brought, asked_rate, told_to_go}
+use Rattle.swap_table.specs.Device.{Device, Heard, enter_entry, lost_after, wrote_after, took_after, took_back, heard_parcel, understand, took_from, chosen_for, choose, give_up, lose_with, lose, say_after, follow, query}
+use Rattle.swap_table.specs.Moves.{within_any, Move, Hears, roomy, lent, refused, written, brought, asked_rate, told_to_go}
 use Rattle.swap_table.specs.Happens.{happens, seen_by, taken_if, see_take}
 use Rattle.swap_table.specs.Comes.{Linked, Comes, ComesTo, refuses, rests, accepts, gives_page, fails, keeps_page, reads, starts_write, takes_back, links, brings, begins_in, goes_on_in}
 use Rattle.swap_table.proofs.Comings.{linked_keep, happens_comes}
@@ -102,15 +102,15 @@ came_lost l (Reading q n (via.Lender m) arrived.Waiting newer since) is = go (m.
 module _ (h : Option (List ℕ)) (c : Caller) where
   -- what changes calls without handing over
   one_call : (cs : Calls) (a : Caller) (call : Call) → (IsCame call.state → ⊥) → HoldsOf h c cs → HoldsOf h c (calls.with_call cs a call)
-  one_call cs a call none was = set_either (Holds h) cs a.0 c.0 call idle (λ is. absurd is) (λ other. was) (λ same is. absurd (none is))
+  one_call cs a call none was = set_either (Holds h) cs a.0 c.0 call idle_call (λ is. absurd is) (λ other. was) (λ same is. absurd (none is))
 
-  entered : (d : Device) (a : Caller) (p : Page) (bytes : List ℕ) → HoldsOf h c d.calls → HoldsOf h c (enter d a p bytes).calls
+  entered : (d : Device) (a : Caller) (p : Page) (bytes : List ℕ) → HoldsOf h c d.calls → HoldsOf h c (enter_entry d a p bytes).calls
   entered d a p bytes was =
-      one_call (calls.paged_out d.calls p) a idle (λ is. is)
+      one_call (calls.paged_out d.calls p) a idle_call (λ is. is)
       (subst (Holds h) (sym (get_or-map_idle (λ (x : Call). record { state = calls.newer_if_reads p x.state; bytes = x.bytes }) d.calls c.0 refl))
       (λ is. was (came_newer p (state_of d.calls c) is)))
 
-  let_go : (cs : Calls) (l : Lender) → HoldsOf h c cs → HoldsOf h c (calls.lost cs l)
+  let_go : (cs : Calls) (l : Lender) → HoldsOf h c cs → HoldsOf h c (calls.lost_after cs l)
   let_go cs l was =
       subst (Holds h) (sym (get_or-map_idle (calls.with_state (calls.lost_if_through l)) cs c.0 refl)) (λ is. was (came_lost l (state_of cs c) is))
 
@@ -124,9 +124,9 @@ module _ (h : Option (List ℕ)) (c : Caller) where
   event_holds d d' page e s disk_not take_not was (refuses new) = was
   event_holds d d' page e s disk_not take_not was (rests new rest) = was
   event_holds d d' page e s disk_not take_not was (accepts {c = a} {p = p} {bytes = bytes} step used) =
-      linked (enter d a p bytes) d' used (entered d a p bytes was)
-  event_holds d d' page e s disk_not take_not was (gives_page {c = a} step) = one_call d.calls a idle (λ is. is) was
-  event_holds d d' page e s disk_not take_not was (fails {c = a} why) = one_call d.calls a idle (λ is. is) was
+      linked (enter_entry d a p bytes) d' used (entered d a p bytes was)
+  event_holds d d' page e s disk_not take_not was (gives_page {c = a} step) = one_call d.calls a idle_call (λ is. is) was
+  event_holds d d' page e s disk_not take_not was (fails {c = a} why) = one_call d.calls a idle_call (λ is. is) was
   event_holds d d' page e s disk_not take_not was (keeps_page {c = a} is) = one_call d.calls a _ (λ is. is) was
   event_holds d d' page e s disk_not take_not was (reads {c = a} {d' = x} v step newest used) = one_call x.calls a _ (λ is. is) (linked d x used was)
   event_holds d d' page e s disk_not take_not was starts_write = was
@@ -151,7 +151,7 @@ not_by false true e is = cc
 module _ (N : CallState → Type 0) (idle_not : N Idle → ⊥) (room_not : (p : Page) (since : ℕ) → N (Room p since) → ⊥)
     (waits_not : (p : Page) (n : EntryNo) (v : Via) (since : ℕ) → N (Reading p n v arrived.Waiting false since) → ⊥) where
   set_fresh : (cs : Calls) (a c : Caller) (call : Call) → a.0 ≡ c.0 → (N call.state → ⊥) → N (state_of (calls.with_call cs a call) c) → ⊥
-  set_fresh cs a c call same none = set_either (λ (x : Call). N x.state → ⊥) cs a.0 c.0 call idle idle_not (λ other. absurd (other (sym same))) (λ _. none)
+  set_fresh cs a c call same none = set_either (λ (x : Call). N x.state → ⊥) cs a.0 c.0 call idle_call idle_not (λ other. absurd (other (sym same))) (λ _. none)
 
   pub start_is_fresh :
       (d d' : Device) (page : List ℕ) (e : Event) (s : Seen) (c : Caller) → Comes d page e d' s → is_start_of c e s ≡ true → N (state_of d'.calls c) → ⊥
@@ -203,19 +203,19 @@ failed_here h call (Reading p n v arrived.Lost newer since) was = was
 
 came_to :
     (h : Option (List ℕ)) (cs : Calls) (c a : Caller) (bytes : List ℕ) (o : Option (List ℕ)) → ((a.0 ≡ c.0) → o ≡ Some bytes) → ((a.0 ≡ c.0 → ⊥) → o ≡ None)
-    → HoldsOf h c cs → HoldsOf (over (is_waiting (state_of cs c)) o h) c (calls.came cs a bytes)
+    → HoldsOf h c cs → HoldsOf (over (is_waiting (state_of cs c)) o h) c (calls.came_after cs a bytes)
 came_to h cs c a bytes o own other was =
     by_caller
-    (λ a. ((a.0 ≡ c.0) → o ≡ Some bytes) → ((a.0 ≡ c.0 → ⊥) → o ≡ None) → HoldsOf (over (is_waiting (state_of cs c)) o h) c (calls.came cs a bytes)) c a
+    (λ a. ((a.0 ≡ c.0) → o ≡ Some bytes) → ((a.0 ≡ c.0 → ⊥) → o ≡ None) → HoldsOf (over (is_waiting (state_of cs c)) o h) c (calls.came_after cs a bytes)) c a
     (λ own other.
-    let P : Option (List ℕ) → Type 0 = λ x. HoldsOf (over (is_waiting (state_of cs c)) x h) c (calls.came cs c bytes) in
+    let P : Option (List ℕ) → Type 0 = λ x. HoldsOf (over (is_waiting (state_of cs c)) x h) c (calls.came_after cs c bytes) in
     subst P (sym (own refl))
-    (set_either (Holds (over (is_waiting (state_of cs c)) (Some bytes) h)) cs c.0 c.0 _ idle (λ is. absurd is) (λ ne. absurd (ne refl))
+    (set_either (Holds (over (is_waiting (state_of cs c)) (Some bytes) h)) cs c.0 c.0 _ idle_call (λ is. absurd is) (λ ne. absurd (ne refl))
     (λ _. arrived_here h bytes (call_of cs c) (state_of cs c) was (λ _. refl))))
     (λ ne own other.
-    let P : Option (List ℕ) → Type 0 = λ x. HoldsOf (over (is_waiting (state_of cs c)) x h) c (calls.came cs a bytes) in
+    let P : Option (List ℕ) → Type 0 = λ x. HoldsOf (over (is_waiting (state_of cs c)) x h) c (calls.came_after cs a bytes) in
     subst P (sym (other ne))
-    (set_either (Holds (over (is_waiting (state_of cs c)) None h)) cs a.0 c.0 _ idle (λ is. absurd is)
+    (set_either (Holds (over (is_waiting (state_of cs c)) None h)) cs a.0 c.0 _ idle_call (λ is. absurd is)
     (λ _. nothing_over (is_waiting (state_of cs c)) h (call_of cs c) was) (λ same. absurd (ne (sym same)))))
     own other
 
@@ -226,23 +226,23 @@ took_holds :
 took_holds h c d None was = nothing_over (is_waiting (state_of d.calls c)) h (call_of d.calls c) was
 took_holds h c d (Some t) was = by t.done.which t.done.ok
   where
-    wrote_one : (p : Page) (copy : Option Copy) (ok : Bool) → HoldsOf (over (is_waiting (state_of d.calls c)) None h) c (wrote d p copy ok).0.calls
+    wrote_one : (p : Page) (copy : Option Copy) (ok : Bool) → HoldsOf (over (is_waiting (state_of d.calls c)) None h) c (wrote_after d p copy ok).0.calls
     wrote_one p None ok = nothing_over (is_waiting (state_of d.calls c)) h (call_of d.calls c) was
     wrote_one p (Some copy) true = nothing_over (is_waiting (state_of d.calls c)) h (call_of d.calls c) was
     wrote_one p (Some copy) false = nothing_over (is_waiting (state_of d.calls c)) h (call_of d.calls c) was
 
     by :
         (w : DiskWhich) (ok : Bool)
-        → HoldsOf (over (is_waiting (state_of d.calls c)) (cond (is_read_back c w ok) (Some t.bytes) None) h) c (took d w t.done.page ok t.bytes).0.calls
+        → HoldsOf (over (is_waiting (state_of d.calls c)) (cond (is_read_back c w ok) (Some t.bytes) None) h) c (took_after d w t.done.page ok t.bytes).0.calls
     by (which.Write p) ok = wrote_one t.done.page (queue.flying d.queue t.done.page) ok
     by (which.Read a) true =
         came_to h d.calls c a t.bytes _ (λ same. ap (λ b. cond (b && true) (Some t.bytes) None) (eq-eqb a.0 c.0 same))
         (λ ne. ap (λ b. cond (b && true) (Some t.bytes) None) (not_eqb a.0 c.0 ne)) was
     by (which.Read a) false =
         let none : cond ((a.0 == c.0) && false) (Some t.bytes) None ≡ None = gone (a.0 == c.0) in
-        let P : Option (List ℕ) → Type 0 = λ x. HoldsOf (over (is_waiting (state_of d.calls c)) x h) c (calls.failed d.calls a) in
+        let P : Option (List ℕ) → Type 0 = λ x. HoldsOf (over (is_waiting (state_of d.calls c)) x h) c (calls.failed_after d.calls a) in
         subst P (sym none)
-        (set_either (Holds (over (is_waiting (state_of d.calls c)) None h)) d.calls a.0 c.0 _ idle (λ is. absurd is)
+        (set_either (Holds (over (is_waiting (state_of d.calls c)) None h)) d.calls a.0 c.0 _ idle_call (λ is. absurd is)
         (λ _. nothing_over (is_waiting (state_of d.calls c)) h (call_of d.calls c) was)
         (λ same.
         subst (λ n.
@@ -260,7 +260,7 @@ took_holds h c d (Some t) was = by t.done.which t.done.ok
 abbrev pub HeardIs : Device → Parcel → Option Request → Device → Type 0
 HeardIs d q o e =
     ((e.calls ≡ d.calls) × ((c : Caller) → (is_of_caller c o && is_page q.msg) ≡ false))
-    ⊎ ((a : Caller) × (p : Page) × (o ≡ Some (request.Read a p)) × (e.calls ≡ calls.came d.calls a q.page) × (is_page q.msg ≡ true))
+    ⊎ ((a : Caller) × (p : Page) × (o ≡ Some (request.Read a p)) × (e.calls ≡ calls.came_after d.calls a q.page) × (is_page q.msg ≡ true))
 
 -- a message that brings no page hands nothing over
 no_page : (d e : Device) (q : Parcel) (o : Option Request) → e.calls ≡ d.calls → is_page q.msg ≡ false → HeardIs d q o e
@@ -296,7 +296,7 @@ brought_holds h c d e l q o (inr r) was =
 -- a message that isn't allowed hands nothing over to a call that keeps what came
 lied_holds :
     (h : Option (List ℕ)) (c : Caller) (d : Device) (l : Lender) (o : Option (List ℕ)) → HoldsOf h c d.calls
-    → HoldsOf (over (is_waiting (state_of d.calls c)) o h) c (lost d l).calls
+    → HoldsOf (over (is_waiting (state_of d.calls c)) o h) c (lost_after d l).calls
 lied_holds h c d l o was =
     subst (Holds (over (is_waiting (state_of d.calls c)) o h)) (sym (get_or-map_idle (calls.with_state (calls.lost_if_through l)) d.calls c.0 refl))
     (by (state_of d.calls c) was)
@@ -355,18 +355,19 @@ give_up_none loses none (suc left) n d l =
     (λ e. give_up_none loses none left (n + 1) e l)
 
 lose_with_none : (m : ℕ) (d : Device) (l : Lender) → TakesNone (lose_with m d l)
-lose_with_none zero d l = give_up_none (λ e m. Ret (lost e m)) (λ e m. tt) (length d.remote.slabs) 0 (lost d l) l
-lose_with_none (suc m) d l = give_up_none (lose_with m) (lose_with_none m) (length d.remote.slabs) 0 (lost d l) l
+lose_with_none zero d l = give_up_none (λ e m. Ret (lost_after e m)) (λ e m. tt) (length d.remote.slabs) 0 (lost_after d l) l
+lose_with_none (suc m) d l = give_up_none (lose_with m) (lose_with_none m) (length d.remote.slabs) 0 (lost_after d l) l
 
 lose_none : (d : Device) (l : Lender) → TakesNone (lose d l)
 lose_none d l = lose_with_none MOST_LENDERS d l
 
-say_none : (d : Device) (l : Lender) (word : Option Parcel) → TakesNone (say d l word)
+say_none : (d : Device) (l : Lender) (word : Option Parcel) → TakesNone (say_after d l word)
 say_none d l None = tt
 say_none d l (Some q) = (tt, elim [ sent.Sent ↦ tt | sent.Down ↦ lose_none d l ])
 
 follow_none : (h : Heard) (l : Lender) → TakesNone (follow h l)
-follow_none h l = none-then (say h.device l h.word) (λ e. choose lose e h.choice) (say_none h.device l h.word) (λ e. choose_none lose lose_none e h.choice)
+follow_none h l =
+    none-then (say_after h.device l h.word) (λ e. choose lose e h.choice) (say_none h.device l h.word) (λ e. choose_none lose lose_none e h.choice)
 
 query_none : (d : Device) (t : Slab) (first : Option Lender) (l : Lender) → TakesNone (query d t first l)
 query_none d t first l =
@@ -392,12 +393,12 @@ write_none : (d : Device) (p : Page) (n : EntryNo) (bytes : List ℕ) (at : Opti
 write_none d p n bytes None = tt
 write_none d p n bytes (Some at) = (tt, elim [ sent.Sent ↦ tt | sent.Down ↦ none-answering device.sent_nowhere (lose d at.0) (lose_none d at.0) ])
 
-out_none : (d : Device) (c : Caller) (p : Page) (bytes : List ℕ) → TakesNone (device.put d c p bytes)
+out_none : (d : Device) (c : Caller) (p : Page) (bytes : List ℕ) → TakesNone (device.put_program d c p bytes)
 out_none d c p bytes =
     chosen (λ (x : Prog (Device × OutStep)). TakesNone x) (queue.has_room d.queue p) _ _
     (λ _.
-    none-answering (device.accepted (next_name d.history)) (device.accept d c p bytes)
-    (write_none (enter d c p bytes) p (next_name d.history) bytes (remote.target d.sizes d.remote p)))
+    none-answering (device.accept_after (next_name d.history)) (device.accept_program d c p bytes)
+    (write_none (enter_entry d c p bytes) p (next_name d.history) bytes (remote.target d.sizes d.remote p)))
     (λ _. tt)
 
 read_none : (d : Device) (c : Caller) (p : Page) (n : EntryNo) (at : Option (Lender × Lease)) → TakesNone (device.read_at d c p n at)
@@ -417,8 +418,8 @@ room_none : (d : Device) (c : Caller) (p : Page) (since : ℕ) (bytes : List ℕ
 room_none d c p since bytes =
     chosen (λ (x : Prog (Device × Step)). TakesNone x) (queue.has_room d.queue p) _ _
     (λ _.
-    none-answering (device.accepted_late (next_name d.history)) (device.accept d c p bytes)
-    (write_none (enter d c p bytes) p (next_name d.history) bytes (remote.target d.sizes d.remote p)))
+    none-answering (device.accepted_late (next_name d.history)) (device.accept_program d c p bytes)
+    (write_none (enter_entry d c p bytes) p (next_name d.history) bytes (remote.target d.sizes d.remote p)))
     (λ _. chosen (λ (x : Prog (Device × Step)). TakesNone x) (nat_lt since d.failed_writes) _ _ (λ _. tt) (λ _. tt))
 
 late_none : (d : Device) (c : Caller) (bytes : List ℕ) (state : CallState) → TakesNone (device.finish_by d c bytes state)
@@ -433,7 +434,7 @@ late_none d c bytes (Reading p n v arrived.Lost newer since) = none-answering de
 
 start_none : (d : Device) (line : List Page) → TakesNone (device.start_front d line)
 start_none d [] = tt
-start_none d (p ∷ line) = by (queue.next d.queue p)
+start_none d (p ∷ line) = by (queue.next_copy d.queue p)
   where
     by : (copy : Option Copy) → TakesNone (device.start_copy d p copy)
     by None = tt
@@ -462,7 +463,11 @@ event_none d page (event.Connect l) no_disk no_take =
     (λ _.
     none-then (device.without_link d l) (λ x. device.connect_on x l)
     (chosen (λ (x : Prog Device). TakesNone x) (is_up d.remote.links l) _ _ (λ _. lose_none d l) (λ _. tt))
-    (λ x. (tt, λ r. none-answering _ (say (device.raised x l) l (Some (device.hello x.sizes))) (say_none (device.raised x l) l (Some (device.hello x.sizes))))))
+    (λ x. (
+      tt,
+      λ r. none-answering _ (say_after (device.raised_after x l) l (Some (device.hello x.sizes)))
+          (say_none (device.raised_after x l) l (Some (device.hello x.sizes))),
+    )))
     (λ _. tt))
 event_none d page (event.Give l) no_disk no_take = (tt, λ r. tt)
 event_none d page (event.Cut l a b) no_disk no_take = (tt, λ r. tt)
@@ -521,7 +526,7 @@ module _ {D F : Type 0} (disk_moves : D → (call : DiskCall) → DiskAnswer cal
     -- what follows on a message, and a loss, hand nothing over
     loss_step :
         {R : Type 0} (l : Lender) (step : R) (see : R → Seen) (x : Device) (o : Option (List ℕ)) (k : D) (f : F)
-        → HoldsOf (over (is_waiting (state_of d.calls c)) o h) c (lost x l).calls
+        → HoldsOf (over (is_waiting (state_of d.calls c)) o h) c (lost_after x l).calls
         → Along disk_moves moves (seen_by see (answering (λ (y : Device). (y, step)) (lose x l))) k f k' f' (d', s)
         → HoldsOf (over (is_waiting (state_of d.calls c)) o h) c d'.calls
     loss_step l step see x o k f held along =
@@ -529,22 +534,23 @@ module _ {D F : Type 0} (disk_moves : D → (call : DiskCall) → DiskAnswer cal
         (λ (a : Device × Seen) _ _. HoldsOf (over (is_waiting (state_of d.calls c)) o h) c a.0.calls)
         (Leads-answering disk_moves moves _ (answering (λ (y : Device). (y, step)) (lose x l)) k f _
         (Leads-answering disk_moves moves _ (lose x l) k f _
-        (Leads-implies disk_moves moves (lose x l) k f _ _ (λ y _ _ r. linked (over (is_waiting (state_of d.calls c)) o h) c (lost x l) y r.1.1.linked held)
-        (Goes-leads (Move anything) disk_moves moves (λ _ _ _. Unit {0}) (λ s asked t k k' f f' m went h. tt) _ k f (lose_passes anything x l) tt)))) along
+        (Leads-implies disk_moves moves (lose x l) k f _ _ (λ y _ _ r. linked (over (is_waiting (state_of d.calls c)) o h) c (lost_after x l) y r.1.1.linked
+        held)
+        (Goes-leads (Move within_any) disk_moves moves (λ _ _ _. Unit {0}) (λ s asked t k k' f f' m went h. tt) _ k f (lose_passes within_any x l) tt)))) along
 
     follow_step :
         (l : Lender) (q : Parcel) (x : Heard) (o : Option (List ℕ)) (k : D) (f : F) → Hears d l q x
         → HoldsOf (over (is_waiting (state_of d.calls c)) o h) c x.device.calls
-        → Along disk_moves moves (seen_by see_take (understood d l q.msg (Some x))) k f k' f' (d', s)
+        → Along disk_moves moves (seen_by see_take (understand d l q.msg (Some x))) k f k' f' (d', s)
         → HoldsOf (over (is_waiting (state_of d.calls c)) o h) c d'.calls
     follow_step l q x o k f hears_x held along =
-        Leads-Along disk_moves moves (seen_by see_take (understood d l q.msg (Some x))) k f k' f' (d', s)
+        Leads-Along disk_moves moves (seen_by see_take (understand d l q.msg (Some x))) k f k' f' (d', s)
         (λ (a : Device × Seen) _ _. HoldsOf (over (is_waiting (state_of d.calls c)) o h) c a.0.calls)
-        (Leads-answering disk_moves moves _ (understood d l q.msg (Some x)) k f _
+        (Leads-answering disk_moves moves _ (understand d l q.msg (Some x)) k f _
         (Leads-answering disk_moves moves _ (follow x l) k f _
         (Leads-implies disk_moves moves (follow x l) k f _ _ (λ y _ _ r. linked (over (is_waiting (state_of d.calls c)) o h) c x.device y r.1.1.linked held)
-        (Goes-leads (Move anything) disk_moves moves (λ _ _ _. Unit {0}) (λ s asked t k k' f f' m went h. tt) _ k f
-        (follow_passes anything x l (λ w says. heard_word d x l q w hears_x says) (λ t m at. heard_choice d x l q t m hears_x at)) tt)))) along
+        (Goes-leads (Move within_any) disk_moves moves (λ _ _ _. Unit {0}) (λ s asked t k k' f f' m went h. tt) _ k f
+        (follow_passes within_any x l (λ w says. heard_word d x l q w hears_x says) (λ t m at. heard_choice d x l q t m hears_x at)) tt)))) along
 
     take_step : (l : Lender) (b : Bool) (k : D) (f : F)
         (along : Along disk_moves moves (seen_by see_take (cond b (AskFabric (Take l) (took_from d l)) (Ret (d, link.Nothing)))) k f k' f' (d', s))
@@ -572,17 +578,17 @@ module _ {D F : Type 0} (disk_moves : D → (call : DiskCall) → DiskAnswer cal
             subst (λ o. HoldsOf (over (is_waiting (state_of d.calls c)) o h) c d'.calls) (sym same) held
 
         by_heard :
-            (q : Parcel) (x : Option Heard) → heard d l q (oldest (ring_of d.remote.links l)) ≡ x → (mid : F)
-            → Along disk_moves moves (seen_by see_take (understood d l q.msg x)) k mid k' f' (d', s)
-            → TakesNone (seen_by see_take (understood d l q.msg x))
+            (q : Parcel) (x : Option Heard) → heard_parcel d l q (oldest (ring_of d.remote.links l)) ≡ x → (mid : F)
+            → Along disk_moves moves (seen_by see_take (understand d l q.msg x)) k mid k' f' (d', s)
+            → TakesNone (seen_by see_take (understand d l q.msg x))
             × HoldsOf (over (is_waiting (state_of d.calls c)) (from_link c d l (Brought q)) h) c d'.calls
         by_heard q None is mid rest = (
-          none-answering _ (understood d l q.msg None) (tt, λ r. none-answering _ (lose d l) (lose_none d l)),
+          none-answering _ (understand d l q.msg None) (tt, λ r. none-answering _ (lose d l) (lose_none d l)),
           loss_step l link.Lied see_take d (from_link c d l (Brought q)) k rest.1 (lied_holds h c d l (from_link c d l (Brought q)) was) rest.3,
         )
         by_heard q (Some x) is mid rest =
             let hears_x : Hears d l q x = heard_is d x l q is in (
-              none-answering _ (understood d l q.msg (Some x)) (none-answering _ (follow x l) (follow_none x l)),
+              none-answering _ (understand d l q.msg (Some x)) (none-answering _ (follow x l) (follow_none x l)),
               follow_step l q x (from_link c d l (Brought q)) k mid hears_x
                   (brought_holds h c d x.device l q (oldest (ring_of d.remote.links l)) (heard_calls d x l q hears_x) was) rest,
             )
@@ -593,7 +599,7 @@ module _ {D F : Type 0} (disk_moves : D → (call : DiskCall) → DiskAnswer cal
             (first_of (handed_in c d (asked_along disk_moves moves (seen_by see_take (took_from d l r)) k mid k' f' (d', s) rest)) (from_link c d l r)) h)
             c d'.calls
         by_handed (Brought q) mid rest =
-            let r = by_heard q (heard d l q (oldest (ring_of d.remote.links l))) refl mid rest in only_first (Brought q) mid rest r.0 r.1
+            let r = by_heard q (heard_parcel d l q (oldest (ring_of d.remote.links l))) refl mid rest in only_first (Brought q) mid rest r.0 r.1
         by_handed NothingCame mid rest =
             to d (ap (λ (x : Device × Seen). x.0) rest.2) None (nothing_over (is_waiting (state_of d.calls c)) h (call_of d.calls c) was)
         by_handed LinkLost mid rest =

@@ -12,31 +12,31 @@ use Rattle.swap_base.specs.Sizes.{Sizes}
 use Rattle.swap_queue.specs.Queue.{Copy}
 use Rattle.swap_disk.specs.Disk.{Taken}
 use Rattle.swap_disk.specs.Port.{DiskAnswer}
-use Rattle.swap_disk.specs.Drive.{Drive, port_of, IsDrive, new_drive}
+use Rattle.swap_disk.specs.MemDiskView.{MemDiskView, port_of, IsDrive, new_drive}
 use Rattle.swap_wire.specs.Input.{Input, IsInRange}
 use Rattle.swap_wire.specs.declared.Event.{Event}
 use Rattle.swap_wire.specs.Fabric.{Parcel, FabricCall, FabricAnswer, FabricOf}
 use Rattle.swap_link.specs.Harbor.{Harbor, of_harbor, lender_of, KeepsAt, OwesAt, new_channel}
 use Rattle.swap_link.specs.Whole.{CallFits, IsHarbor}
 use Rattle.swap_link.proofs.WholeLaws.{new_is_harbor}
-use Rattle.swap_calls.specs.Calls.{Call, Calls, call_of, state_of, idle}
+use Rattle.swap_calls.specs.Calls.{Call, Calls, call_of, state_of, idle_call}
 use Rattle.swap_calls.specs.declared.Arrived.{Arrived}
 use Rattle.swap_calls.specs.declared.CallState.{CallState}
 use Rattle.swap_calls.specs.declared.CallState.TheVariants.{Idle, Room, Reading}
 use Rattle.swap_rings.specs.Rings.{is_up}
-use Rattle.swap_table.specs.Device.{Device, Heard, lost, wrote, took, took_back}
+use Rattle.swap_table.specs.Device.{Device, Heard, lost_after, wrote_after, took_after, took_back}
 use Rattle.swap_table.proofs.Lists.{chosen, All-set, All-get_or, All-map, All-replicate}
-use Rattle.swap_world.specs.World.{World, Next, Planned, alone, next, next_by, next_plan, round_from, IsStep, IsEvent, start, new_harbor, reach, made_by}
+use Rattle.swap_world.specs.World.{World, Next, Planned, without_parts, next, next_by, next_plan, round_from, IsStep, IsEvent, start, new_harbor, reach, made_by}
 use Rattle.swap_world.specs.Rounds.{Plan, Stop, Make, round_plan, is_part, AlongPlan, StepOf}
 use Rattle.swap_world.proofs.Parts.{bare, AreParts, round_parts, part_says}
 use Rattle.swap_world.proofs.Told.{Gathers, AllTellNothing, part_tells}
 use Rattle.swap_world.proofs.Counted.{SaysLittle}
 use Rattle.swap_table.specs.Comes.{ComesTo}
-use Rattle.swap_slabs.specs.Slabs.{mapped}
+use Rattle.swap_slabs.specs.Slabs.{mapped_count}
 use Rattle.swap_table.specs.Happens.{happens}
 use Rattle.swap_world.specs.Runs.{IsPaged, IsInput}
 use Rattle.swap_table.specs.Goes.{Asked, OfFabric, PortsGo, stay, EachKeeps, by_disk, by_fabric}
-use Rattle.swap_table.specs.Moves.{Within, of_sizes, Speaker, quiet, Outs, new_out, late_out, Sends, write, read, borrow, query, query_too, Hears, roomy, lent, refused, written, brought, asked_rate, told_to_go, IsWord, greeting, rating, giving_back, IsFar, far_give, far_cut, far_crash, far_host, Move, enters, gives, faults, waits_for_room, rates_change, lets_go, gives_up, starts, waits_for_disk, takes, lets_finish, sends, finds_down, raises, speaks, speaks_to_nobody, hears, hears_nothing, loses, misunderstands, breaks_off, far}
+use Rattle.swap_table.specs.Moves.{Within, of_sizes, Speaker, quiet_speaker, Outs, new_out, late_out, Sends, write, read, borrow, query, query_too, Hears, roomy, lent, refused, written, brought, asked_rate, told_to_go, IsWord, greeting, rating, giving_back, IsFar, far_give, far_cut, far_crash, far_host, Move, enters, gives, faults, waits_for_room, rates_change, lets_go, gives_up, starts, waits_for_disk, takes, lets_finish, sends, finds_down, raises, speaks, speaks_to_nobody, hears, hears_nothing, loses, misunderstands, breaks_off, far}
 use Rattle.swap_table.proofs.Going.{Goes-leads, Does, DoesOf, Leads-runs, Goes-went}
 use Rattle.swap_table.proofs.Walks.{happens_fares, FaresTo}
 use Rattle.swap_table.proofs.Comings.{Hands, names_there}
@@ -53,7 +53,7 @@ use Rattle.swap_world.proofs.Steps.{Known, EachEventKeeps, step_comes}
 use Rattle.swap_base.specs.declared.Via.TheVariants as via
 use Rattle.swap_base.specs.declared.DiskWhich.TheVariants as which
 use Rattle.swap_queue.specs.Queue as queue
-use Rattle.swap_disk.specs.Drive as drive
+use Rattle.swap_disk.specs.MemDiskView as drive
 use Rattle.swap_disk.specs.lemmas.Follows as drives
 use Rattle.swap_wire.specs.declared.Event.TheVariants as event
 use Rattle.swap_link.specs.Harbor as harbor
@@ -66,7 +66,7 @@ use Rattle.swap_link.specs.lemmas.HarborLaws as harbors
 use Rattle.swap_link.specs.lemmas.HarborLaws as harbors
 
 -- the disk and the lenders in memory, as ports
-abbrev pub drive_meaning : DiskMeaning Drive
+abbrev pub drive_meaning : DiskMeaning MemDiskView
 drive_meaning = record { means = port_of; moves = drive.Moves }
 
 abbrev pub harbor_meaning : FabricMeaning Harbor
@@ -120,13 +120,13 @@ room_arrives n how bytes call (Reading q m v arrived.Came newer since) h = h
 room_arrives n how bytes call (Reading q m v arrived.Failed newer since) h = h
 room_arrives n how bytes call (Reading q m v arrived.Lost newer since) h = h
 
-rooms_ended : (n : ℕ) (cs : Calls) (c : Caller) → RoomsOf n cs → RoomsOf n (calls.ended cs c)
-rooms_ended n cs c h = All-set (RoomFits n) cs c.0 idle h tt
+rooms_ended : (n : ℕ) (cs : Calls) (c : Caller) → RoomsOf n cs → RoomsOf n (calls.end_after cs c)
+rooms_ended n cs c h = All-set (RoomFits n) cs c.0 idle_call h tt
 
 rooms_paged_out : (n : ℕ) (cs : Calls) (p : Page) → RoomsOf n cs → RoomsOf n (calls.paged_out cs p)
 rooms_paged_out n cs p h = All-map (RoomFits n) (RoomFits n) _ cs (λ call k. room_newer n p call.bytes call.state k) h
 
-rooms_lost : (n : ℕ) (cs : Calls) (l : Lender) → RoomsOf n cs → RoomsOf n (calls.lost cs l)
+rooms_lost : (n : ℕ) (cs : Calls) (l : Lender) → RoomsOf n cs → RoomsOf n (calls.lost_after cs l)
 rooms_lost n cs l h = All-map (RoomFits n) (RoomFits n) _ cs (λ call k. room_lost n l call.bytes call.state k) h
 
 rooms_reads : (n : ℕ) (cs : Calls) (c : Caller) (p : Page) (m : EntryNo) (v : Via) (since : ℕ) → RoomsOf n cs → RoomsOf n (calls.reads cs c p m v since)
@@ -136,7 +136,7 @@ rooms_arrives :
     (n : ℕ) (cs : Calls) (c : Caller) (how : Arrived) (bytes : List ℕ) → RoomsOf n cs
     → RoomsOf n (calls.with_call cs c (calls.arrives how bytes (call_of cs c) (state_of cs c)))
 rooms_arrives n cs c how bytes h =
-    All-set (RoomFits n) cs c.0 _ h (room_arrives n how bytes (call_of cs c) (state_of cs c) (All-get_or (RoomFits n) cs c.0 idle h tt))
+    All-set (RoomFits n) cs c.0 _ h (room_arrives n how bytes (call_of cs c) (state_of cs c) (All-get_or (RoomFits n) cs c.0 idle_call h tt))
 
 rooms_wait :
     (n : ℕ) (cs : Calls) (c : Caller) (p : Page) (since : ℕ) (bytes : List ℕ) → length bytes ≡ n → RoomsOf n cs
@@ -144,14 +144,14 @@ rooms_wait :
 rooms_wait n cs c p since bytes e h = All-set (RoomFits n) cs c.0 (record { state = Room p since; bytes = bytes }) h e
 
 wrote_rooms :
-    (s : Sizes) (d : Device) (p : Page) (copy : Option Copy) (ok : Bool) → RoomsOf s.page_bytes d.calls → RoomsOf s.page_bytes (wrote d p copy ok).0.calls
+    (s : Sizes) (d : Device) (p : Page) (copy : Option Copy) (ok : Bool) → RoomsOf s.page_bytes d.calls → RoomsOf s.page_bytes (wrote_after d p copy ok).0.calls
 wrote_rooms s d p None ok h = h
 wrote_rooms s d p (Some copy) true h = h
 wrote_rooms s d p (Some copy) false h = h
 
 took_rooms :
     (s : Sizes) (d : Device) (w : DiskWhich) (p : Page) (ok : Bool) (bytes : List ℕ) → RoomsOf s.page_bytes d.calls
-    → RoomsOf s.page_bytes (took d w p ok bytes).0.calls
+    → RoomsOf s.page_bytes (took_after d w p ok bytes).0.calls
 took_rooms s d (which.Write q) p ok bytes h = wrote_rooms s d p (queue.flying d.queue p) ok h
 took_rooms s d (which.Read c) p true bytes h = rooms_arrives s.page_bytes d.calls c arrived.Came bytes h
 took_rooms s d (which.Read c) p false bytes h = rooms_arrives s.page_bytes d.calls c arrived.Failed [] h
@@ -174,16 +174,16 @@ module _ (s : Sizes) (n : ℕ) where
   abbrev pub OfThese : FabricOf
   OfThese = record { sizes = s; lenders = n }
 
-  abbrev pub Agrees : Speaker → Drive → Harbor → Type 0
+  abbrev pub Agrees : Speaker → MemDiskView → Harbor → Type 0
   Agrees = keep.Agrees drive_meaning drives.follows harbor_meaning harbor_promises true OfThese Below Whole
 
-  abbrev pub Accounted : Device → Drive → Type 0
+  abbrev pub Accounted : Device → MemDiskView → Type 0
   Accounted = accounting.AccountsOf drive_meaning drives.follows harbor_meaning harbor_promises true OfThese Below Whole
 
   abbrev pub RoomsFit : Device → Type 0
   RoomsFit d = RoomsOf s.page_bytes d.calls
 
-  pub record SoundAt (x : Speaker) (k : Drive) (h : Harbor) : Type 0 where
+  pub record SoundAt (x : Speaker) (k : MemDiskView) (h : Harbor) : Type 0 where
     pub agrees : Agrees x k h
     pub accounts : Accounted x.device k
     pub of : of_harbor h ≡ OfThese
@@ -200,17 +200,18 @@ module _ (s : Sizes) (n : ℕ) where
   outs_whole d c p bytes rooms (new_out e within hands) = hands
   outs_whole d c p bytes rooms (late_out {since = since} is) =
       let P : CallState → Type 0 = λ x. RoomKeeps s.page_bytes (call_of d.calls c).bytes x in
-      subst P is (All-get_or (RoomFits s.page_bytes) d.calls c.0 idle rooms tt)
+      subst P is (All-get_or (RoomFits s.page_bytes) d.calls c.0 idle_call rooms tt)
 
   below :
-      (d : Device) (k : Drive) (h : Harbor) (l : Lender) → keep.Agree drive_meaning drives.follows harbor_meaning harbor_promises true OfThese Below Whole d k h
+      (d : Device) (k : MemDiskView) (h : Harbor) (l : Lender)
+      → keep.Agree drive_meaning drives.follows harbor_meaning harbor_promises true OfThese Below Whole d k h
       → is_up d.remote.links l ≡ true → l.0 < n
   below d k h l agree up =
       subst (λ (x : FabricOf). l.0 < x.lenders) agree.is
       (keep.up_below drive_meaning drives.follows harbor_meaning harbor_promises true OfThese Below Whole d k h l agree up)
 
   send_fits :
-      (d : Device) (k : Drive) (h : Harbor) (l : Lender) (q : Parcel) (e base : Device) → SoundAt (quiet d) k h → Sends There d l q e base
+      (d : Device) (k : MemDiskView) (h : Harbor) (l : Lender) (q : Parcel) (e base : Device) → SoundAt (quiet_speaker d) k h → Sends There d l q e base
       → Fitting (FabricCall.Send l q)
   send_fits d k h l q e base sound one = record {
     page = fits q e base one;
@@ -236,7 +237,7 @@ module _ (s : Sizes) (n : ℕ) where
   word_fits d l q (giving_back k) within = record { page = λ e. cc; lender = within }
 
   -- each move asks what fits
-  asks_fit : (x y : Speaker) (k : Drive) (h : Harbor) (c : FabricCall) (r : FabricAnswer c) → Move There x (OfFabric c r) y → SoundAt x k h → Fitting c
+  asks_fit : (x y : Speaker) (k : MemDiskView) (h : Harbor) (c : FabricCall) (r : FabricAnswer c) → Move There x (OfFabric c r) y → SoundAt x k h → Fitting c
   asks_fit x y k h c r (sends {d = d} {e = e} {base = base} {l = l} {q = q} one) sound = send_fits d k h l q e base sound one
   asks_fit x y k h c r (finds_down {d = d} {e = e} {base = base} {l = l} {q = q} one) sound = send_fits d k h l q e base sound one
   asks_fit x y k h c r (raises within off) sound = record { page = tt; lender = within }
@@ -298,7 +299,7 @@ module _ (s : Sizes) (n : ℕ) where
   rooms_kept x y asked (far one) rooms = rooms
 
   asks_move :
-      (x y : Speaker) (k : Drive) (h h' : Harbor) (c : FabricCall) (r : FabricAnswer c) → Move There x (OfFabric c r) y → harbor.ask h c ≡ (r, h')
+      (x y : Speaker) (k : MemDiskView) (h h' : Harbor) (c : FabricCall) (r : FabricAnswer c) → Move There x (OfFabric c r) y → harbor.ask h c ≡ (r, h')
       → SoundAt x k h
       → harbor.Moves h c r h'
   asks_move x y k h h' c r m is sound =
@@ -310,7 +311,7 @@ module _ (s : Sizes) (n : ℕ) where
       (kept.1.0, is)
 
   moves_told :
-      (x : Speaker) (asked : Asked) (y : Speaker) (k k' : Drive) (h h' : Harbor) → Move There x asked y
+      (x : Speaker) (asked : Asked) (y : Speaker) (k k' : MemDiskView) (h h' : Harbor) → Move There x asked y
       → PortsGo (Does drive.ask harbor.ask) (DoesOf drive.ask harbor.ask) asked k h k' h' → SoundAt x k h → PortsGo drive.Moves harbor.Moves asked k h k' h'
   moves_told x asked y k k' h h' m stay sound = stay
   moves_told x asked y k k' h h' m (by_disk is) sound = by_disk (sound.drive, is)
@@ -336,7 +337,7 @@ module _ (s : Sizes) (n : ℕ) where
         accounting.each_accounts drive_meaning drives.follows harbor_meaning harbor_promises true OfThese Below Whole x asked y k k' h h' m
         (by_disk (sound.drive, is)) sound.agrees sound.accounts;
     of = sound.of;
-    drive = subst IsDrive (ap (λ (a : DiskAnswer c × Drive). a.1) is) (drives.ask_keeps k c sound.drive);
+    drive = subst IsDrive (ap (λ (a : DiskAnswer c × MemDiskView). a.1) is) (drives.ask_keeps k c sound.drive);
     harbor = sound.harbor;
     rooms = rooms_kept x y asked m sound.rooms;
   }
@@ -374,21 +375,21 @@ module _ (s : Sizes) (n : ℕ) where
       happens_fares There w.device i.page i.event (names_there s n Below Whole w.device i.page i.event input.0 (hands_whole i.page i.event input.1 input.0))
 
   abbrev pub IsSound : World → Type 0
-  IsSound w = SoundAt (quiet w.device) w.drive w.harbor
+  IsSound w = SoundAt (quiet_speaker w.device) w.drive w.harbor
 
   -- an event alone
-  alone_sound : (w : World) (i : Input) → IsInput s n i → IsSound w → IsSound (alone w i.page i.event).world
+  alone_sound : (w : World) (i : Input) → IsInput s n i → IsSound w → IsSound (without_parts w i.page i.event).world
   alone_sound w i input sound =
       let r =
       Leads-runs drive.ask harbor.ask (happens w.device i.page i.event) w.drive w.harbor _
       (Goes-leads (Move There) (Does drive.ask harbor.ask) (DoesOf drive.ask harbor.ask) SoundAt sound_kept _ w.drive w.harbor
       (goes_here w i input) sound) in
-      subst (λ x. SoundAt x (alone w i.page i.event).world.drive (alone w i.page i.event).world.harbor) r.1.0 r.2
+      subst (λ x. SoundAt x (without_parts w i.page i.event).world.drive (without_parts w i.page i.event).world.harbor) r.1.0 r.2
 
   alone_step :
       (w : World) (i : Input) → IsInput s n i → IsSound w
-      → IsStep drive.Moves harbor.Moves w.device w.drive w.harbor i (alone w i.page i.event).seen (alone w i.page i.event).world.device
-      (alone w i.page i.event).world.drive (alone w i.page i.event).world.harbor
+      → IsStep drive.Moves harbor.Moves w.device w.drive w.harbor i (without_parts w i.page i.event).seen (without_parts w i.page i.event).world.device
+      (without_parts w i.page i.event).world.drive (without_parts w i.page i.event).world.harbor
   alone_step w i input sound =
       Goes-went (Move There) drive.ask harbor.ask drive.Moves harbor.Moves SoundAt sound_kept moves_told _ w.drive w.harbor (goes_here w i input) sound
 
@@ -402,13 +403,14 @@ module _ (s : Sizes) (n : ℕ) where
   plan_sound : (plan : Plan) (w : World) → AreParts s n plan → IsSound w → IsSound (next_plan plan w).world
   plan_sound Stop w parts sound = sound
   plan_sound (Make e more) w parts sound =
-      plan_sound (more (alone w [] e).seen) (alone w [] e).world (parts.2 (alone w [] e).seen) (alone_sound w (bare e) (part_input e parts.0 parts.1) sound)
+      plan_sound (more (without_parts w [] e).seen) (without_parts w [] e).world (parts.2 (without_parts w [] e).seen)
+      (alone_sound w (bare e) (part_input e parts.0 parts.1) sound)
 
   plan_step : (plan : Plan) (w : World) → AreParts s n plan → IsSound w → let p : Planned = next_plan plan w in
       AlongPlan drive.Moves harbor.Moves plan w.device w.drive w.harbor p.world.device p.world.drive p.world.harbor p.effects
   plan_step Stop w parts sound = (refl, refl, refl, refl)
   plan_step (Make e more) w parts sound =
-      let a : Next = alone w [] e in
+      let a : Next = without_parts w [] e in
       let input = part_input e parts.0 parts.1 in
       let rest : Planned = next_plan (more a.seen) a.world in (
         a.seen,
@@ -464,9 +466,9 @@ module _ (s : Sizes) (n : ℕ) where
 
     alone_keeps :
         (w : World) (i : Input) (made : List (Input × Seen)) → IsInput s n i → IsSound w → P made w.device
-        → P ((i, (alone w i.page i.event).seen) ∷ made) (alone w i.page i.event).world.device
+        → P ((i, (without_parts w i.page i.event).seen) ∷ made) (without_parts w i.page i.event).world.device
     alone_keeps w i made input sound h =
-        let a : Next = alone w i.page i.event in
+        let a : Next = without_parts w i.page i.event in
         each.event made w.device a.world.device w.drive a.world.drive w.harbor a.world.harbor i a.seen (sound_known w sound) input.0
         (alone_step w i input sound) h
 
@@ -475,7 +477,7 @@ module _ (s : Sizes) (n : ℕ) where
         → Kept made (next_plan plan w).world.device
     plan_keeps Stop w made inner parts sound tell h = record { inner = inner; tell = tell; keeps = h }
     plan_keeps (Make e more) w made inner parts sound tell h =
-        let a : Next = alone w [] e in
+        let a : Next = without_parts w [] e in
         let input = part_input e parts.0 parts.1 in
         let comes : ComesTo w.device [] e a.world.device a.seen =
         step_comes drive.Moves harbor.Moves w.device a.world.device w.drive a.world.drive w.harbor a.world.harbor (bare e) a.seen
@@ -495,7 +497,7 @@ module _ (s : Sizes) (n : ℕ) where
         go (event.Round word) given =
             let kept = plan_keeps (round_plan w.device.sizes w.device.lenders word) w made [] (these_parts w word sound) sound tt h in
             gathers.round kept.inner made (round_from w word).world.device i.page word (round_from w word).effects
-            (mapped (round_from w word).world.device.remote.slabs) kept.tell kept.keeps
+            (mapped_count (round_from w word).world.device.remote.slabs) kept.tell kept.keeps
         go e given = alone_keeps w (record { event = e; page = i.page }) made given sound h
 
     pub reach_keeps :
@@ -531,5 +533,5 @@ starts_sound s specs few =
       of = new_of s specs;
       drive = record { in_flight = tt; range = lit< tt };
       harbor = new_is_harbor s specs;
-      rooms = All-replicate (RoomFits s.page_bytes) s.callers idle tt;
+      rooms = All-replicate (RoomFits s.page_bytes) s.callers idle_call tt;
     }

@@ -12,14 +12,14 @@ use Rattle.swap_wire.specs.Input.{Input}
 use Rattle.swap_wire.specs.declared.Event.{Event}
 use Rattle.swap_wire.specs.declared.Seen.{Seen}
 use Rattle.swap_record.specs.declared.Op.{Op}
-use Rattle.swap_record.specs.History.{History, Row, pushed, row_of, entries_of}
+use Rattle.swap_record.specs.History.{History, Row, with_row, row_of, entries_of}
 use Rattle.swap_queue.specs.Queue.{Copy}
 use Rattle.swap_disk.specs.Disk.{Taken}
-use Rattle.swap_calls.specs.Calls.{Call, Calls, state_of, call_of, idle, is_idle}
+use Rattle.swap_calls.specs.Calls.{Call, Calls, state_of, call_of, idle_call, is_idle}
 use Rattle.swap_calls.specs.declared.Arrived.{Arrived}
 use Rattle.swap_calls.specs.declared.CallState.{CallState}
 use Rattle.swap_calls.specs.declared.CallState.TheVariants.{Idle, Room, Reading}
-use Rattle.swap_table.specs.Device.{Device, new, enter, give, fault, wait_for_room, lost, took, took_back, wrote}
+use Rattle.swap_table.specs.Device.{Device, device_at_start, enter_entry, give, fault, wait_for_room, lost_after, took_after, took_back, wrote_after}
 use Rattle.swap_table.proofs.Lists.{by_caller, not_eqb}
 use Rattle.swap_table.proofs.Agree.{get_or-map_idle}
 use Rattle.swap_world.specs.Answered.{is_call_of, is_busy, with_call, Answers, AnswersEach, IsInOrFault, IsOutOrFault, calls_of, AnswersAll, AreAnsweredOnce}
@@ -59,7 +59,7 @@ OpenCall call is rows = Open call.state call.bytes is rows
 abbrev pub OpenAt : Caller → Device → List Input → Type 0
 OpenAt c d is = OpenCall (call_of d.calls c) is (entries_of c d.history)
 
-pub set-idle : (cs : Calls) (i : ℕ) → get_or (set cs i idle) i idle ≡ idle
+pub set-idle : (cs : Calls) (i : ℕ) → get_or (set cs i idle_call) i idle_call ≡ idle_call
 set-idle [] i = refl
 set-idle (x ∷ cs) zero = refl
 set-idle (x ∷ cs) (suc i) = set-idle cs i
@@ -77,18 +77,18 @@ newer_open p (Room q since) own is rows h = h
 newer_open p (Reading q n v how newer since) own [] rows h = h
 newer_open p (Reading q n v how newer since) own (i ∷ is) rows h = h
 
-entries-other : (c e : Caller) (H : History) (p : Page) (o : Op) (bytes : List ℕ) → (c.0 ≡ e.0 → ⊥) → entries_of c (pushed H e p o bytes) ≡ entries_of c H
+entries-other : (c e : Caller) (H : History) (p : Page) (o : Op) (bytes : List ℕ) → (c.0 ≡ e.0 → ⊥) → entries_of c (with_row H e p o bytes) ≡ entries_of c H
 entries-other c e H p o bytes ne = ap (λ b. cond b (row_of H e p o bytes ∷ entries_of c H) (entries_of c H)) (not_eqb e.0 c.0 (λ same. ne (sym same)))
 
-entries-own : (c : Caller) (H : History) (p : Page) (o : Op) (bytes : List ℕ) → entries_of c (pushed H c p o bytes) ≡ row_of H c p o bytes ∷ entries_of c H
+entries-own : (c : Caller) (H : History) (p : Page) (o : Op) (bytes : List ℕ) → entries_of c (with_row H c p o bytes) ≡ row_of H c p o bytes ∷ entries_of c H
 entries-own c H p o bytes = ap (λ b. cond b (row_of H c p o bytes ∷ entries_of c H) (entries_of c H)) (eq-eqb c.0 c.0 refl)
 
 -- another caller's entry and call change nothing for this one
 push_other :
     (c e : Caller) (H : History) (cs : Calls) (p : Page) (o : Op) (bytes : List ℕ) (is : List Input) → (c.0 ≡ e.0 → ⊥)
-    → OpenCall (call_of cs c) is (entries_of c H) → OpenCall (call_of (calls.ended cs e) c) is (entries_of c (pushed H e p o bytes))
+    → OpenCall (call_of cs c) is (entries_of c H) → OpenCall (call_of (calls.end_after cs e) c) is (entries_of c (with_row H e p o bytes))
 push_other c e H cs p o bytes is ne h =
-    open_as (call_of cs c) _ is (entries_of c H) _ (get_or-set_other cs e.0 c.0 idle idle ne) (entries-other c e H p o bytes ne) h
+    open_as (call_of cs c) _ is (entries_of c H) _ (get_or-set_other cs e.0 c.0 idle_call idle_call ne) (entries-other c e H p o bytes ne) h
 
 marked :
     (c : Caller) (H : History) (cs : Calls) (p : Page) (is : List Input) → OpenCall (call_of cs c) is (entries_of c H)
@@ -100,19 +100,19 @@ marked c H cs p is h =
 -- the entry of one's own
 push_own :
     (c : Caller) (H : History) (cs : Calls) (p : Page) (o : Op) (bytes : List ℕ) (i : Input) (is : List Input) → Answers i.page i.event (row_of H c p o bytes)
-    → AnswersEach is (entries_of c H) → OpenCall (call_of (calls.ended cs c) c) (i ∷ is) (entries_of c (pushed H c p o bytes))
+    → AnswersEach is (entries_of c H) → OpenCall (call_of (calls.end_after cs c) c) (i ∷ is) (entries_of c (with_row H c p o bytes))
 push_own c H cs p o bytes i is answers rest =
-    open_as idle _ (i ∷ is) (row_of H c p o bytes ∷ entries_of c H) _ (set-idle cs c.0) (entries-own c H p o bytes) (answers, rest)
+    open_as idle_call _ (i ∷ is) (row_of H c p o bytes ∷ entries_of c H) _ (set-idle cs c.0) (entries-own c H p o bytes) (answers, rest)
 
 call_other :
     (c e : Caller) (H : History) (cs : Calls) (call : Call) (is : List Input) → (c.0 ≡ e.0 → ⊥) → OpenCall (call_of cs c) is (entries_of c H)
     → OpenCall (call_of (set cs e.0 call) c) is (entries_of c H)
-call_other c e H cs call is ne h = open_as (call_of cs c) _ is (entries_of c H) _ (get_or-set_other cs e.0 c.0 call idle ne) refl h
+call_other c e H cs call is ne h = open_as (call_of cs c) _ is (entries_of c H) _ (get_or-set_other cs e.0 c.0 call idle_call ne) refl h
 
 call_own :
     (c : Caller) (H : History) (cs : Calls) (call : Call) (is : List Input) → c.0 < length cs → OpenCall call is (entries_of c H)
     → OpenCall (call_of (set cs c.0 call) c) is (entries_of c H)
-call_own c H cs call is within h = open_as call _ is (entries_of c H) _ (get_or-set_same cs c.0 call idle within) refl h
+call_own c H cs call is within h = open_as call _ is (entries_of c H) _ (get_or-set_same cs c.0 call idle_call within) refl h
 
 -- an answer to the call that was opened
 opens_in : (p : Page) (i : Input) (row : Row) → OpensIn p i.event → row.entry.page ≡ p → IsInOrFault row.entry.op → Answers i.page i.event row
@@ -157,12 +157,13 @@ idle_open Idle own is rows e h = h
 idle_open (Room p since) own is rows e h = cc
 idle_open (Reading p n v how newer since) own is rows e h = cc
 
-enter_other : (c e : Caller) (d : Device) (p : Page) (bytes : List ℕ) (is : List Input) → (c.0 ≡ e.0 → ⊥) → OpenAt c d is → OpenAt c (enter d e p bytes) is
+enter_other : (c e : Caller) (d : Device) (p : Page) (bytes : List ℕ) (is : List Input) → (c.0 ≡ e.0 → ⊥) → OpenAt c d is
+    → OpenAt c (enter_entry d e p bytes) is
 enter_other c e d p bytes is ne h = push_other c e d.history (calls.paged_out d.calls p) p op.PageOut bytes is ne (marked c d.history d.calls p is h)
 
 enter_own :
     (c : Caller) (d : Device) (p : Page) (bytes : List ℕ) (i : Input) (is : List Input) → OpensOut p bytes i.page i.event
-    → AnswersEach is (entries_of c d.history) → OpenAt c (enter d c p bytes) (i ∷ is)
+    → AnswersEach is (entries_of c d.history) → OpenAt c (enter_entry d c p bytes) (i ∷ is)
 enter_own c d p bytes i is o rest = push_own c d.history (calls.paged_out d.calls p) p op.PageOut bytes i is (opens_out p bytes i _ o refl tt refl) rest
 
 -- a link is lost, and what a caller has stays open
@@ -178,20 +179,20 @@ lost_state l (Reading p n (via.Lender m) arrived.Came newer since) own is rows h
 lost_state l (Reading p n (via.Lender m) arrived.Failed newer since) own is rows h = h
 lost_state l (Reading p n (via.Lender m) arrived.Lost newer since) own is rows h = h
 
-lost_open : (c : Caller) (d : Device) (l : Lender) (is : List Input) → OpenAt c d is → OpenAt c (lost d l) is
+lost_open : (c : Caller) (d : Device) (l : Lender) (is : List Input) → OpenAt c d is → OpenAt c (lost_after d l) is
 lost_open c d l is h =
     open_as (calls.with_state (calls.lost_if_through l) (call_of d.calls c)) _ is (entries_of c d.history) _
     (get_or-map_idle (calls.with_state (calls.lost_if_through l)) d.calls c.0 refl) refl
     (lost_state l (state_of d.calls c) (call_of d.calls c).bytes is (entries_of c d.history) h)
 
-wrote_open : (c : Caller) (d : Device) (p : Page) (copy : Option Copy) (ok : Bool) (is : List Input) → OpenAt c d is → OpenAt c (wrote d p copy ok).0 is
+wrote_open : (c : Caller) (d : Device) (p : Page) (copy : Option Copy) (ok : Bool) (is : List Input) → OpenAt c d is → OpenAt c (wrote_after d p copy ok).0 is
 wrote_open c d p None ok is h = h
 wrote_open c d p (Some copy) true is h = h
 wrote_open c d p (Some copy) false is h = h
 
 took_open :
     (c : Caller) (d : Device) (w : DiskWhich) (p : Page) (ok : Bool) (bytes : List ℕ) (is : List Input) → c.0 < length d.calls → OpenAt c d is
-    → OpenAt c (took d w p ok bytes).0 is
+    → OpenAt c (took_after d w p ok bytes).0 is
 took_open c d (which.Write q) p ok bytes is within h = wrote_open c d p (queue.flying d.queue p) ok is h
 took_open c d (which.Read e) p true bytes is within h = arrived_open c e d.history d.calls arrived.Came bytes is within h
 took_open c d (which.Read e) p false bytes is within h = arrived_open c e d.history d.calls arrived.Failed [] is within h
@@ -236,16 +237,16 @@ module _ (c : Caller) (d : Device) (is : List Input) (within : c.0 < length d.ca
   used_entries x linked = linked_keep (λ z. entries_of c z.history ≡ entries_of c d.history) (λ z r made k. k) (λ z l k. k) d x linked refl
 
   rest_lists : (e : Event) (page : List ℕ) (s : Seen) → is_new e ≡ false → OpenAt c d (with_call c (record { event = e; page = page }) s is)
-  rest_lists (event.PageOut a p) page s new = cc
-  rest_lists (event.PageIn a p) page s new = cc
-  rest_lists e page s new = h
+  rest_lists (event.PageOut a p) page s device_at_start = cc
+  rest_lists (event.PageIn a p) page s device_at_start = cc
+  rest_lists e page s device_at_start = h
 
   link_lists :
       (e : Event) (page : List ℕ) (s : Seen) (d' : Device) → is_new e ≡ false → OpenAt c d' is
       → OpenAt c d' (with_call c (record { event = e; page = page }) s is)
-  link_lists (event.PageOut a p) page s d' new k = cc
-  link_lists (event.PageIn a p) page s d' new k = cc
-  link_lists e page s d' new k = k
+  link_lists (event.PageOut a p) page s d' device_at_start k = cc
+  link_lists (event.PageIn a p) page s d' device_at_start k = cc
+  link_lists e page s d' device_at_start k = k
 
   -- a call that begins, its caller's or another's
   begins_by :
@@ -287,13 +288,13 @@ module _ (c : Caller) (d : Device) (is : List Input) (within : c.0 < length d.ca
 
   gave_other :
       (a : Caller) (p : Page) (o : Op) (bytes : List ℕ) → (c.0 ≡ a.0 → ⊥)
-      → OpenCall (call_of (calls.ended d.calls a) c) is (entries_of c (pushed d.history a p o bytes))
+      → OpenCall (call_of (calls.end_after d.calls a) c) is (entries_of c (with_row d.history a p o bytes))
   gave_other a p o bytes ne = push_other c a d.history d.calls p o bytes is ne h
 
 -- an entry, or a wait, of a call that goes on
 enter_room :
     (c : Caller) (d : Device) (p : Page) (since : ℕ) (own : List ℕ) (is : List Input) → Open (Room p since) own is (entries_of c d.history)
-    → OpenAt c (enter d c p own) is
+    → OpenAt c (enter_entry d c p own) is
 enter_room c d p since own [] k = absurd k
 enter_room c d p since own (i ∷ is) k = enter_own c d p own i is k.0 k.1
 
@@ -306,7 +307,7 @@ push_room c d p since at own (i ∷ is) k = push_own c d.history d.calls p _ own
 push_read :
     (c : Caller) (d : Device) (p : Page) (n : EntryNo) (v : Via) (how : Arrived) (newer : Bool) (since : ℕ) (own bytes : List ℕ) (o : Op) (is : List Input)
     → IsInOrFault o → Open (Reading p n v how newer since) own is (entries_of c d.history)
-    → OpenCall (call_of (calls.ended d.calls c) c) is (entries_of c (pushed d.history c p o bytes))
+    → OpenCall (call_of (calls.end_after d.calls c) c) is (entries_of c (with_row d.history c p o bytes))
 push_read c d p n v how newer since own bytes o [] is_in k = absurd k
 push_read c d p n v how newer since own bytes o (i ∷ is) is_in k = push_own c d.history d.calls p o bytes i is (opens_in p i _ k.0 refl is_in) k.1
 
@@ -321,16 +322,16 @@ module _ (c : Caller) (d : Device) (is : List Input) (within : c.0 < length d.ca
   -- an event, and the caller's calls after it
   pub comes_once :
       (page : List ℕ) (e : Event) (d' : Device) (s : Seen) → Comes d page e d' s → OpenAt c d' (with_call c (record { event = e; page = page }) s is)
-  comes_once page e d' s (refuses new) = busy_same c d (record { event = e; page = page }) is h
-  comes_once page e d' s (rests new rest) = rest_lists c d is within h e page s new
+  comes_once page e d' s (refuses device_at_start) = busy_same c d (record { event = e; page = page }) is h
+  comes_once page e d' s (rests device_at_start rest) = rest_lists c d is within h e page s device_at_start
   comes_once page e d' s (accepts {c = a} {p = p} (begins_out at) linked) =
       let i : Input = record { event = event.PageOut a p; page = page } in
-      used c d is within h (enter d a p page) d' (with_call c i s is) linked
-      (begins_by c d is within h a i s (λ x. enter d x p page) (λ x. refl) refl
+      used c d is within h (enter_entry d a p page) d' (with_call c i s is) linked
+      (begins_by c d is within h a i s (λ x. enter_entry d x p page) (λ x. refl) refl
       (λ same. enter_own c d p page i is (refl, refl) (idle_answers c d is within h a same at)) (λ ne. enter_other c a d p page is ne h))
   comes_once page e d' s (accepts {c = a} {p = p} (goes_on_out {since = since} at) linked) =
-      used c d is within h (enter d a p (call_of d.calls a).bytes) d' is linked
-      (goes_by c d is within h a (λ x. enter d x p (call_of d.calls a).bytes)
+      used c d is within h (enter_entry d a p (call_of d.calls a).bytes) d' is linked
+      (goes_by c d is within h a (λ x. enter_entry d x p (call_of d.calls a).bytes)
       (λ same. enter_room c d p since _ is (room_opens c d is within h a p since same at)) (λ ne. enter_other c a d p _ is ne h))
   comes_once page e d' s (gives_page {c = a} {p = p} {named = named} {from = from} {bytes = bytes} (begins_in at)) =
       let i : Input = record { event = event.PageIn a p; page = page } in
@@ -376,9 +377,9 @@ module _ (c : Caller) (d : Device) (is : List Input) (within : c.0 < length d.ca
       (λ ne. call_other c a x.history x.calls _ is ne (used c d is within h d x is linked h))
   comes_once page e d' s starts_write = h
   comes_once page e d' s (takes_back taken) = took_back_open c d taken is within h
-  comes_once page e d' s (links new of_link linked) = link_lists c d is within h e page s d' new (used c d is within h d d' is linked h)
+  comes_once page e d' s (links device_at_start of_link linked) = link_lists c d is within h e page s d' device_at_start (used c d is within h d d' is linked h)
   comes_once page e d' s (brings a bytes r linked) =
-      used c d is within h (record d { remote = r; calls = calls.came d.calls a bytes }) d' is linked
+      used c d is within h (record d { remote = r; calls = calls.came_after d.calls a bytes }) d' is linked
       (arrived_open c a d.history d.calls arrived.Came bytes is within h)
 
 pub answers_all : (state : CallState) (own : List ℕ) (is : List Input) (rows : List Row) → Open state own is rows → AnswersAll (is_idle state) is rows
@@ -388,13 +389,13 @@ answers_all (Room p since) own (i ∷ is) rows h = h.1
 answers_all (Reading p n v how newer since) own [] rows h = h
 answers_all (Reading p n v how newer since) own (i ∷ is) rows h = h.1
 
-pub idle_at : (n i : ℕ) → get_or (replicate n idle) i idle ≡ idle
+pub idle_at : (n i : ℕ) → get_or (replicate n idle_call) i idle_call ≡ idle_call
 idle_at zero i = refl
 idle_at (suc n) zero = refl
 idle_at (suc n) (suc i) = idle_at n i
 
-pub starts_once : (s : Sizes) (n : ℕ) (c : Caller) → OpenAt c (new s n) []
-starts_once s n c = open_as idle _ [] [] _ (idle_at s.callers c.0) refl tt
+pub starts_once : (s : Sizes) (n : ℕ) (c : Caller) → OpenAt c (device_at_start s n) []
+starts_once s n c = open_as idle_call _ [] [] _ (idle_at s.callers c.0) refl tt
 
 -- what is open says that each call was answered once
 pub answered_once : (c : Caller) (d : Device) (made : List (Input × Seen)) → OpenAt c d (calls_of c made) → AreAnsweredOnce c made d

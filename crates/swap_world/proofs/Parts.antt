@@ -21,7 +21,7 @@ use Rattle.swap_table.specs.declared.Placed.{Placed}
 use Rattle.swap_table.specs.Comes.{begins_out, goes_on_out, begins_in, goes_on_in, Comes, ComesTo, refuses, rests, accepts, gives_page, fails, keeps_page, reads, starts_write, takes_back, links, brings}
 use Rattle.swap_table.specs.Promises.{FollowsItsMoves, Promises}
 use Rattle.swap_world.specs.Answered.{is_call_of}
-use Rattle.swap_world.specs.Rounds.{Continues, has_effect, Plan, Stop, Make, again, each_lender, most_messages, round_plan, rounded, one_if_so, is_part, AlongPlan, StepOf}
+use Rattle.swap_world.specs.Rounds.{Continues, has_effect, Plan, Stop, Make, plan_again, each_lender, most_messages, round_plan, round_seen, one_if_so, is_part, AlongPlan, StepOf}
 use Rattle.swap_world.specs.World.{IsStep, IsEvent}
 use Rattle.swap_world.specs.Runs.{IsRun, effect, without, entry_seen, AnswersEvent, Adds, nothing, one, is_new_call, busy_callers, GrowsByCalls, StaysIdle}
 use Rattle.swap_world.proofs.Steps.{step_comes, Known, known_caller, step_known}
@@ -95,10 +95,10 @@ either_parts s lenders false so other h k = k
 
 again_parts :
     (s : Sizes) (lenders times : ℕ) (e : Event) (rest : Plan) → is_part e ≡ true → IsInRange s lenders e → AreParts s lenders rest
-    → AreParts s lenders (again times e rest)
+    → AreParts s lenders (plan_again times e rest)
 again_parts s lenders zero e rest part range parts = parts
 again_parts s lenders (suc left) e rest part range parts =
-    (part, range, λ seen_. either_parts s lenders (has_effect e seen_) (again left e rest) rest (again_parts s lenders left e rest part range parts) parts)
+    (part, range, λ seen_. either_parts s lenders (has_effect e seen_) (plan_again left e rest) rest (again_parts s lenders left e rest part range parts) parts)
 
 each_parts :
     (s : Sizes) (lenders times left n : ℕ) (rest : Plan) → n + left ≡ lenders → AreParts s lenders rest → AreParts s lenders (each_lender times left n rest)
@@ -121,7 +121,7 @@ pub data Splits {D F : Type 0} (disk_moves : D → (c : DiskCall) → DiskAnswer
     Event → Seen → Type 0 where
   by_program : {e : Event} {s : Seen} → Along disk_moves moves (happens d page e) k f k' f' (d', s) → Splits disk_moves moves page d k f d' k' f' e s
   by_plan :
-      {word : ℕ} {s : Seen} (effects : ℕ) → AlongPlan disk_moves moves (round_plan d.sizes d.lenders word) d k f d' k' f' effects → s ≡ rounded d' effects
+      {word : ℕ} {s : Seen} (effects : ℕ) → AlongPlan disk_moves moves (round_plan d.sizes d.lenders word) d k f d' k' f' effects → s ≡ round_seen d' effects
       → Splits disk_moves moves page d k f d' k' f' (event.Round word) s
 
 module _ {D F : Type 0} (disk_moves : D → (c : DiskCall) → DiskAnswer c → D → Type 0) (moves : F → (c : FabricCall) → FabricAnswer c → F → Type 0) where
@@ -323,52 +323,54 @@ module _ {D F : Type 0} (disk_moves : D → (c : DiskCall) → DiskAnswer c → 
   pub goes_again :
       (rest : Plan) (e : Event) (left : ℕ) (m now : Core D F) (s : Seen)
       → Along disk_moves moves (happens m.device [] e) m.disk m.fabric now.disk now.fabric (now.device, s) → has_effect e s ≡ true
-      → Continues disk_moves moves (again (suc left) e rest) (again left e rest) m now 1
+      → Continues disk_moves moves (plan_again (suc left) e rest) (plan_again left e rest) m now 1
   goes_again rest e left m now s step has d' k' f' n along =
-      let P : Bool → Type 0 = λ b. AlongPlan disk_moves moves (cond b (again left e rest) rest) now.device now.disk now.fabric d' k' f' n in
+      let P : Bool → Type 0 = λ b. AlongPlan disk_moves moves (cond b (plan_again left e rest) rest) now.device now.disk now.fabric d' k' f' n in
       (s, now.device, now.disk, now.fabric, n, step, subst P (sym has) along, ap (λ b. n + one_if_so b) (sym has))
 
   pub goes_no_more :
       (rest : Plan) (e : Event) (left : ℕ) (m now : Core D F) (s : Seen)
       → Along disk_moves moves (happens m.device [] e) m.disk m.fabric now.disk now.fabric (now.device, s) → has_effect e s ≡ false
-      → Continues disk_moves moves (again (suc left) e rest) rest m now 0
+      → Continues disk_moves moves (plan_again (suc left) e rest) rest m now 0
   goes_no_more rest e left m now s step has d' k' f' n along =
-      let P : Bool → Type 0 = λ b. AlongPlan disk_moves moves (cond b (again left e rest) rest) now.device now.disk now.fabric d' k' f' n in
+      let P : Bool → Type 0 = λ b. AlongPlan disk_moves moves (cond b (plan_again left e rest) rest) now.device now.disk now.fabric d' k' f' n in
       (s, now.device, now.disk, now.fabric, n, step, subst P (sym has) along, ap (λ b. n + one_if_so b) (sym has))
 
   -- as a loop keeps it: so many of so many events were made
   abbrev pub GoesOn : Event → ℕ → Core D F → Core D F → ℕ → Type 0
   GoesOn e times before now done =
-      (rest : Plan) (left : ℕ) → left + done ≡ times → Continues disk_moves moves (again times e rest) (again left e rest) before now done
+      (rest : Plan) (left : ℕ) → left + done ≡ times → Continues disk_moves moves (plan_again times e rest) (plan_again left e rest) before now done
 
   pub loop_starts : (e : Event) (times : ℕ) (c : Core D F) → GoesOn e times c c 0
   loop_starts e times c rest left sum =
-      let P : ℕ → Type 0 = λ n. Continues disk_moves moves (again n e rest) (again left e rest) c c 0 in let same : left ≡ times = omega (arith, sum) in
-      subst P same (goes_start (again left e rest) c)
+      let P : ℕ → Type 0 = λ n. Continues disk_moves moves (plan_again n e rest) (plan_again left e rest) c c 0 in let same : left
+      ≡ times = omega (arith, sum) in
+      subst P same (goes_start (plan_again left e rest) c)
 
   pub loop_goes :
       (e : Event) (times : ℕ) (b m now : Core D F) (done : ℕ) (s : Seen) → GoesOn e times b m done
       → Along disk_moves moves (happens m.device [] e) m.disk m.fabric now.disk now.fabric (now.device, s) → has_effect e s ≡ true
       → GoesOn e times b now (done + 1)
   loop_goes e times b m now done s goes step has rest left sum =
-      goes_after (again times e rest) (again (suc left) e rest) (again left e rest) b m now done 1
+      goes_after (plan_again times e rest) (plan_again (suc left) e rest) (plan_again left e rest) b m now done 1
       (goes rest (suc left) (let t : suc left + done ≡ times = omega (arith, sum) in t)) (goes_again rest e left m now s step has)
 
   pub loop_breaks :
       (e : Event) (times : ℕ) (b m now : Core D F) (done : ℕ) (s : Seen) → GoesOn e times b m done → done < times
       → Along disk_moves moves (happens m.device [] e) m.disk m.fabric now.disk now.fabric (now.device, s) → has_effect e s ≡ false
-      → (rest : Plan) → Continues disk_moves moves (again times e rest) rest b now done
+      → (rest : Plan) → Continues disk_moves moves (plan_again times e rest) rest b now done
   loop_breaks e times b m now done s goes less step has rest =
-      let P : ℕ → Type 0 = λ n. Continues disk_moves moves (again times e rest) rest b now n in
+      let P : ℕ → Type 0 = λ n. Continues disk_moves moves (plan_again times e rest) rest b now n in
       let left : ℕ = times - (done + 1) in
       let sum : suc left + done ≡ times = omega (arith, less) in
       let same : done + 0 ≡ done = omega arith in
       subst P same
-      (goes_after (again times e rest) (again (suc left) e rest) rest b m now done 0 (goes rest (suc left) sum) (goes_no_more rest e left m now s step has))
+      (goes_after (plan_again times e rest) (plan_again (suc left) e rest) rest b m now done 0 (goes rest (suc left) sum)
+      (goes_no_more rest e left m now s step has))
 
   pub loop_ends :
       (e : Event) (times : ℕ) (b now : Core D F) (done : ℕ) → GoesOn e times b now done → done ≤ times → times ≤ done → (rest : Plan)
-      → Continues disk_moves moves (again times e rest) rest b now done
+      → Continues disk_moves moves (plan_again times e rest) rest b now done
   loop_ends e times b now done goes most least rest = goes rest 0 (let t : 0 + done ≡ times = omega (arith, most, least) in t)
 
   -- so many of so many lenders were heard
@@ -378,12 +380,12 @@ module _ {D F : Type 0} (disk_moves : D → (c : DiskCall) → DiskAnswer c → 
       → Continues disk_moves moves (each_lender times lenders 0 rest) (each_lender times left n rest) before now done
 
   pub lender_heard : (times lenders n : ℕ) (b m mid now : Core D F) (done given taken : ℕ) → HeardOn times lenders n b m done
-      → ((rest : Plan) → Continues disk_moves moves (again times (event.Give (record { 0 = n })) rest) rest m mid given)
-      → ((rest : Plan) → Continues disk_moves moves (again times (event.Take (record { 0 = n })) rest) rest mid now taken)
+      → ((rest : Plan) → Continues disk_moves moves (plan_again times (event.Give (record { 0 = n })) rest) rest m mid given)
+      → ((rest : Plan) → Continues disk_moves moves (plan_again times (event.Take (record { 0 = n })) rest) rest mid now taken)
       → HeardOn times lenders (n + 1) b now ((done + given) + taken)
   lender_heard times lenders n b m mid now done given taken heard gives takes rest left sum =
       let after : Plan = each_lender times left (n + 1) rest in
-      let take_plan : Plan = again times (event.Take (record { 0 = n })) after in
+      let take_plan : Plan = plan_again times (event.Take (record { 0 = n })) after in
       let t : n + suc left ≡ lenders = omega (arith, sum) in
       goes_after (each_lender times lenders 0 rest) take_plan after b mid now (done + given) taken
       (goes_after (each_lender times lenders 0 rest) (each_lender times (suc left) n rest) take_plan b m mid done given (heard rest (suc left) t)
@@ -395,7 +397,7 @@ module _ {D F : Type 0} (disk_moves : D → (c : DiskCall) → DiskAnswer c → 
       → Along disk_moves moves (happens b.device [] (event.Tick word)) b.disk b.fabric t.disk t.fabric (t.device, s) → has_effect (event.Tick word) s ≡ true
       → ((rest : Plan) → Continues disk_moves moves (each_lender times lenders 0 rest) rest t m first)
       → ((rest : Plan) → Continues disk_moves moves (each_lender times lenders 0 rest) rest m now second)
-      → StepOf disk_moves moves [] (event.Round word) b.device b.disk b.fabric (rounded now.device ((1 + first) + second)) now.device now.disk now.fabric
+      → StepOf disk_moves moves [] (event.Round word) b.device b.disk b.fabric (round_seen now.device ((1 + first) + second)) now.device now.disk now.fabric
   round_steps word times lenders first second b t m now s times_are lenders_are step acts ones twos =
       let over : Plan = each_lender times lenders 0 Stop in
       let later : AlongPlan disk_moves moves (each_lender times lenders 0 over) t.device t.disk t.fabric now.device now.disk now.fabric ((0 + second) + first) =

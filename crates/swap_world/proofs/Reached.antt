@@ -7,12 +7,12 @@ use Rattle.swap_wire.specs.declared.Seen.{Seen}
 use Rattle.swap_disk.specs.Port.{Port, TakeDone, Takes}
 use Rattle.swap_wire.specs.Fabric.{FabricOf}
 use Rattle.swap_slabs.specs.declared.TheConstants.{MOST_LENDERS}
-use Rattle.swap_table.specs.Device.{Device, Core, new, disk_take, took, took_back, wrote, of_device}
+use Rattle.swap_table.specs.Device.{Device, Core, device_at_start, disk_take, took_after, took_back, wrote_after, of_device}
 use Rattle.swap_table.specs.Fits.{IsBlank, FitsDisk, IsExpected, IsCopyOf}
 use Rattle.swap_world.specs.World.{IsStep, IsEvent}
-use Rattle.swap_world.specs.Rounds.{round_plan, rounded, is_part, AlongPlan}
+use Rattle.swap_world.specs.Rounds.{round_plan, round_seen, is_part, AlongPlan}
 use Rattle.swap_world.proofs.Parts.{AreParts, round_parts, AllParts, part_says, splits, Splits, by_program, by_plan, Ran, plan_runs, event_known, event_idle}
-use Rattle.swap_slabs.specs.Slabs.{mapped}
+use Rattle.swap_slabs.specs.Slabs.{mapped_count}
 use Rattle.std.specs.List.{AllByRecursion}
 use Rattle.swap_table.proofs.Lists.{one_if, count_by-cons}
 use Rattle.swap_world.specs.Failures.{is_write_failed, is_read_failed, failed_writes_in, failed_reads_in}
@@ -46,11 +46,12 @@ use Rattle.swap_base.specs.declared.DiskWhich.TheVariants as which
 
 -- what the disk gives is seen
 wrote_is_seen :
-    (T : Bool) (bytes : List ℕ) (d : Device) (p : Page) (copy : Option Copy) (ok : Bool) → IsCopyOf T bytes copy → see_disk (wrote d p copy ok).1 ≡ seen.Nothing
+    (T : Bool) (bytes : List ℕ) (d : Device) (p : Page) (copy : Option Copy) (ok : Bool) → IsCopyOf T bytes copy
+    → see_disk (wrote_after d p copy ok).1 ≡ seen.Nothing
     → ⊥
 wrote_is_seen T bytes d p None ok is e = is
 wrote_is_seen T bytes d p (Some copy) true is e = cc
-wrote_is_seen T bytes d p (Some copy) false is e = by_next (queue.next d.queue p) e
+wrote_is_seen T bytes d p (Some copy) false is e = by_next (queue.next_copy d.queue p) e
   where
     by_next : (o : Option Copy) → see_disk (cond (is_none o) (DiskStep.Kept p copy.entry) (DiskStep.Dropped p copy.entry)) ≡ seen.Nothing → ⊥
     by_next None e = cc
@@ -58,7 +59,7 @@ wrote_is_seen T bytes d p (Some copy) false is e = by_next (queue.next d.queue p
 
 flight_is_seen :
     (T : Bool) (d : Device) (f : Flight) (ok : Bool) (bytes : List ℕ) → IsExpected T (pages_of d.sizes) d.sizes.callers d.queue d.calls f
-    → see_disk (took d (which_of f) (page_of f) ok bytes).1 ≡ seen.Nothing → ⊥
+    → see_disk (took_after d (which_of f) (page_of f) ok bytes).1 ≡ seen.Nothing → ⊥
 flight_is_seen T d (Write page kept) ok bytes is e = wrote_is_seen T kept d page (queue.flying d.queue page) ok is.1 e
 flight_is_seen T d (Read caller page) true bytes is e = cc
 flight_is_seen T d (Read caller page) false bytes is e = cc
@@ -73,8 +74,8 @@ nothing_is_none T answers d p now (Some t) k takes e =
     let is_page : t.done.page ≡ page_of f = ap (λ (x : DiskDone). x.page) takes.is in
     let there : IsExpected T (pages_of d.sizes) d.sizes.callers d.queue d.calls f =
     found (IsExpected T (pages_of d.sizes) d.sizes.callers d.queue d.calls) t.done.which p.flights f takes.was k.agrees.expected in
-    let P : DiskWhich → Type 0 = λ w. see_disk (took d w t.done.page t.done.ok t.bytes).1 ≡ seen.Nothing in
-    let Q : Page → Type 0 = λ r. see_disk (took d (which_of f) r t.done.ok t.bytes).1 ≡ seen.Nothing in
+    let P : DiskWhich → Type 0 = λ w. see_disk (took_after d w t.done.page t.done.ok t.bytes).1 ≡ seen.Nothing in
+    let Q : Page → Type 0 = λ r. see_disk (took_after d (which_of f) r t.done.ok t.bytes).1 ≡ seen.Nothing in
     absurd (flight_is_seen T d f t.done.ok t.bytes there (subst Q is_page (subst P is_which e)))
 
 none_is_nothing : (d : Device) (taken : Option Taken) → taken ≡ None → see_disk (took_back d taken).1 ≡ seen.Nothing
@@ -162,7 +163,7 @@ whole_few (Alone i s ∷ written) all =
     one_at_most : (b : Bool) → one_if b ≤ 1
     one_at_most true = lit≤ tt
     one_at_most false = lit≤ tt
-whole_few (Together word mapped parts ∷ written) all =
+whole_few (Together word mapped_count parts ∷ written) all =
     let n = whole_parts parts (made_of written) all.0 in
     let later = whole_few written all.1 in omega (arith, n, later)
 
@@ -242,7 +243,8 @@ module _ {D F : Type 0} (disk : DiskMeaning D) (follows : FollowsItsMoves disk) 
         fresh = r.fresh;
         run =
             let P : Device → Type 0 = λ x. IsStep disk.moves fabric.moves core.device core.disk core.fabric i s x k' f' in
-            let Q : Device → Type 0 = λ x. IsRun disk.moves fabric.moves (new r.sizes r.lenders) r.first r.first_fabric (made_of r.written) x k' f' in
+            let Q : Device → Type 0 = λ x. IsRun disk.moves fabric.moves (device_at_start r.sizes r.lenders) r.first r.first_fabric (made_of r.written) x k'
+            f' in
             subst Q (sym stays) (without i s k' f' r.run (reached_range i range) (subst P stays step) e);
         logged = r.logged;
       }
@@ -251,12 +253,12 @@ module _ {D F : Type 0} (disk : DiskMeaning D) (follows : FollowsItsMoves disk) 
   reached_round :
       (word effects : ℕ) (d' : Device) (k' : D) (f' : F) (spare : ℕ)
       → AlongPlan disk.moves fabric.moves (round_plan core.device.sizes core.device.lenders word) core.device core.disk core.fabric d' k' f' effects
-      → IsReached disk fabric (record { device = d'; disk = k'; fabric = f'; spare = spare }) (log ++ (event.Round word, rounded d' effects) ∷ [])
+      → IsReached disk fabric (record { device = d'; disk = k'; fabric = f'; spare = spare }) (log ++ (event.Round word, round_seen d' effects) ∷ [])
   reached_round word effects d' k' f' spare along =
       let P : FabricOf → Type 0 = λ x. AreParts x.sizes x.lenders (round_plan core.device.sizes core.device.lenders word) in
       let parts = subst P reached_known.is (round_parts core.device.sizes core.device.lenders word) in
-      let ran : Ran disk.moves fabric.moves (new r.sizes r.lenders) r.first r.first_fabric (made_of r.written) d' k' f' (effects + 0) =
-      plan_runs disk.moves fabric.moves (new r.sizes r.lenders) r.first r.first_fabric (made_of r.written) []
+      let ran : Ran disk.moves fabric.moves (device_at_start r.sizes r.lenders) r.first r.first_fabric (made_of r.written) d' k' f' (effects + 0) =
+      plan_runs disk.moves fabric.moves (device_at_start r.sizes r.lenders) r.first r.first_fabric (made_of r.written) []
       (round_plan core.device.sizes core.device.lenders word) core.device d' core.disk k' core.fabric f' effects parts tt r.run along in
       let count : length ran.inner ≡ effects = let n = ran.counted in omega (arith, n) in
       record {
@@ -265,14 +267,14 @@ module _ {D F : Type 0} (disk : DiskMeaning D) (follows : FollowsItsMoves disk) 
         few = r.few;
         first = r.first;
         first_fabric = r.first_fabric;
-        written = Together word (mapped d'.remote.slabs) ran.inner ∷ r.written;
+        written = Together word (mapped_count d'.remote.slabs) ran.inner ∷ r.written;
         parts = (ran.parts, r.parts);
         blank = r.blank;
         fresh = r.fresh;
         run = ran.run;
         logged =
-            ap (λ l. l ++ (event.Round word, rounded d' effects) ∷ []) r.logged
-            ∙ ap (λ n. logged_of r.written ++ (event.Round word, rounded d' n) ∷ []) (sym count);
+            ap (λ l. l ++ (event.Round word, round_seen d' effects) ∷ []) r.logged
+            ∙ ap (λ n. logged_of r.written ++ (event.Round word, round_seen d' n) ∷ []) (sym count);
       }
 
   pub reached_step :
@@ -339,7 +341,7 @@ module _ {D F : Type 0} (disk : DiskMeaning D) (follows : FollowsItsMoves disk) 
     blank = r.blank;
     fresh = r.fresh;
     run =
-        let P : List (Input × Seen) → Type 0 = λ made. IsRun disk.moves fabric.moves (new r.sizes r.lenders) r.first r.first_fabric made d' k' f' in
+        let P : List (Input × Seen) → Type 0 = λ made. IsRun disk.moves fabric.moves (device_at_start r.sizes r.lenders) r.first r.first_fabric made d' k' f' in
         subst P (sym (made_written r.written (event_of step) (see_disk step))) (polled step d' k' f' r.run along);
     logged = ap (λ l. logged_polled step l) r.logged ∙ logged_made r.written (event_of step) (see_disk step);
   }
@@ -369,7 +371,7 @@ module _ {D F : Type 0} (disk : DiskMeaning D) (follows : FollowsItsMoves disk) 
 pub reached_new :
     {D F : Type 0} (disk : DiskMeaning D) (fabric : FabricMeaning F) (s : Sizes) (n : ℕ) (k : D) (f : F) (spare : ℕ) → IsBlank s (disk.means k)
     → fabric.fresh f (record { sizes = s; lenders = n }) → n ≤ MOST_LENDERS
-    → IsReached disk fabric (record { device = new s n; disk = k; fabric = f; spare = spare }) []
+    → IsReached disk fabric (record { device = device_at_start s n; disk = k; fabric = f; spare = spare }) []
 reached_new disk fabric s n k f spare blank fresh few =
     record {
       sizes = s;
@@ -388,4 +390,3 @@ reached_new disk fabric s n k f spare blank fresh few =
 -- what a poll leaves of a device
 pub polled_of : (d d' : Device) (taken : Option Taken) → d' ≡ (took_back d taken).0 → of_device d' ≡ of_device d
 polled_of d d' taken is = ap of_device is ∙ took_back_of d taken
-

@@ -17,13 +17,13 @@ use Rattle.swap_queue.specs.Queue.{Copy}
 use Rattle.swap_disk.specs.declared.DiskDone.{DiskDone}
 use Rattle.swap_disk.specs.Disk.{Taken, Finished, Flight, Write, Read, which_of, page_of, is_flight_of, same_which}
 use Rattle.swap_disk.specs.Port.{Port, TakeDone, LetFinish, Takes, TakesTold, LetsFinish}
-use Rattle.swap_calls.specs.Calls.{Call, state_of, call_of, idle}
+use Rattle.swap_calls.specs.Calls.{Call, state_of, call_of, idle_call}
 use Rattle.swap_calls.specs.declared.Arrived.{Arrived}
 use Rattle.swap_calls.specs.declared.CallState.{CallState}
 use Rattle.swap_calls.specs.declared.CallState.TheVariants.{Idle, Room, Reading}
 use Rattle.swap_table.specs.Ports.{Leads, Along}
 use Rattle.swap_table.specs.Fits.{FitsDisk, IsExpected, WaitsFor}
-use Rattle.swap_table.specs.Device.{Device, new, disk_take, took, took_back, wrote}
+use Rattle.swap_table.specs.Device.{Device, device_at_start, disk_take, took_after, took_back, wrote_after}
 use Rattle.swap_table.specs.declared.DiskStep.{DiskStep}
 use Rattle.swap_table.proofs.Lists.{chosen, by_caller, not_eqb, count_by-cons, one_if}
 use Rattle.swap_table.proofs.Agree.{found}
@@ -191,7 +191,7 @@ other_end c e ok s ends H state is h =
 
 wrote_reads :
     (c : Caller) (d : Device) (p : Page) (copy : Option Copy) (ok : Bool) (ends : List (Event × Seen)) (H : List Row) → Reads c ends H (state_of d.calls c)
-    → Reads c ends H (state_of (wrote d p copy ok).0.calls c)
+    → Reads c ends H (state_of (wrote_after d p copy ok).0.calls c)
 wrote_reads c d p None ok ends H h = h
 wrote_reads c d p (Some copy) true ends H h = h
 wrote_reads c d p (Some copy) false ends H h = h
@@ -201,7 +201,7 @@ flight_reads :
     (T : Bool) (c : Caller) (d : Device) (f : Flight) (ok : Bool) (bytes : List ℕ) (ends : List (Event × Seen)) (H : List Row)
     → IsExpected T (pages_of d.sizes) d.sizes.callers d.queue d.calls f → c.0 < length d.calls
     → Reads c ends H (state_of d.calls c)
-    → let a : Device × DiskStep = took d (which_of f) (page_of f) ok bytes in
+    → let a : Device × DiskStep = took_after d (which_of f) (page_of f) ok bytes in
     Reads c (with_read_end c (event.Disk (which_of f) ok) (see_disk a.1) ends) H (state_of a.0.calls c)
 flight_reads T c d (Write p kept) ok bytes ends H is within h = wrote_reads c d p (queue.flying d.queue p) ok ends H h
 flight_reads T c d (Read e p) true bytes ends H is within h =
@@ -246,8 +246,8 @@ taken_reads T A c d p now t ends H k takes within h =
     found (IsExpected T (pages_of d.sizes) d.sizes.callers d.queue d.calls) t.done.which p.flights f takes.was k.agrees.expected in
     let P : DiskWhich → Page → Type 0 =
     λ w r.
-    Reads c (with_read_end c (event.Disk w t.done.ok) (see_disk (took d w r t.done.ok t.bytes).1) ends) H
-    (state_of (took d w r t.done.ok t.bytes).0.calls c) in
+    Reads c (with_read_end c (event.Disk w t.done.ok) (see_disk (took_after d w r t.done.ok t.bytes).1) ends) H
+    (state_of (took_after d w r t.done.ok t.bytes).0.calls c) in
     let here : P (which_of f) (page_of f) = flight_reads T c d f t.done.ok t.bytes ends H there within h in
     let paged : P (which_of f) t.done.page = subst (λ r. P (which_of f) r) (sym is_page) here in
     subst (λ w. P w t.done.page) (sym is_which) paged
@@ -255,15 +255,16 @@ taken_reads T A c d p now t ends H k takes within h =
 -- a poll takes it, and its event is that of its end
 wrote_polled :
     (c : Caller) (made : List (Input × Seen)) (d : Device) (p : Page) (copy : Option Copy) (ok : Bool) → ReadsIn c made d
-    → ReadsIn c (with_polled (wrote d p copy ok).1 made) (wrote d p copy ok).0
+    → ReadsIn c (with_polled (wrote_after d p copy ok).1 made) (wrote_after d p copy ok).0
 wrote_polled c made d p None ok h = h
 wrote_polled c made d p (Some copy) true h =
-    reads_next c (record { event = event.Disk (which.Write p) true; page = [] }) (seen.Written copy.entry) made d (record d { queue = queue.done d.queue p })
+    reads_next c (record { event = event.Disk (which.Write p) true; page = [] }) (seen.Written copy.entry) made d
+    (record d { queue = queue.done_after d.queue p })
     (inl (refl, refl)) h
-wrote_polled c made d p (Some copy) false h = by_next (queue.next d.queue p)
+wrote_polled c made d p (Some copy) false h = by_next (queue.next_copy d.queue p)
   where
     d' : Device
-    d' = record d { queue = queue.failed d.queue p; failed_writes = d.failed_writes + 1 }
+    d' = record d { queue = queue.failed_after d.queue p; failed_writes = d.failed_writes + 1 }
 
     by_next : (o : Option Copy) → ReadsIn c (with_polled (cond (is_none o) (DiskStep.Kept p copy.entry) (DiskStep.Dropped p copy.entry)) made) d'
     by_next None = reads_next c (record { event = event.Disk (which.Write p) false; page = [] }) (seen.WriteKept copy.entry) made d d' (inl (refl, refl)) h
@@ -271,16 +272,16 @@ wrote_polled c made d p (Some copy) false h = by_next (queue.next d.queue p)
         reads_next c (record { event = event.Disk (which.Write p) false; page = [] }) (seen.WriteDropped copy.entry) made d d' (inl (refl, refl)) h
 
 took_polled : (c : Caller) (made : List (Input × Seen)) (d : Device) (w : DiskWhich) (p : Page) (ok : Bool) (bytes : List ℕ) → ReadsIn c made d
-    → let a : Device × DiskStep = took d w p ok bytes in
+    → let a : Device × DiskStep = took_after d w p ok bytes in
     Reads c (with_read_end c (event.Disk w ok) (see_disk a.1) (read_ends c (since_start c made))) (drop (entries_in (since_start c made)) d.history)
     (state_of a.0.calls c)
     → ReadsIn c (with_polled a.1 made) a.0
 took_polled c made d (which.Write q) p ok bytes was h = wrote_polled c made d p (queue.flying d.queue p) ok was
 took_polled c made d (which.Read e) p true bytes was h =
-    reads_next c (record { event = event.Disk (which.Read e) true; page = [] }) (seen.ReadCame p) made d (took d (which.Read e) p true bytes).0
+    reads_next c (record { event = event.Disk (which.Read e) true; page = [] }) (seen.ReadCame p) made d (took_after d (which.Read e) p true bytes).0
     (inl (refl, refl)) h
 took_polled c made d (which.Read e) p false bytes was h =
-    reads_next c (record { event = event.Disk (which.Read e) false; page = [] }) (seen.ReadFailed p) made d (took d (which.Read e) p false bytes).0
+    reads_next c (record { event = event.Disk (which.Read e) false; page = [] }) (seen.ReadFailed p) made d (took_after d (which.Read e) p false bytes).0
     (inl (refl, refl)) h
 
 -- what a disk was let finish is what it gives back
@@ -426,5 +427,5 @@ module _ {D F : Type 0} (disk : DiskMeaning D) (follows : FollowsItsMoves disk) 
         (disk_reads T A c d k along.1 f w ok along.0 ends H fits within was (follows k (LetFinish w ok) along.0 along.1 along.2)) along.3
     step_reads page e along = comes_reads page e (λ w ok is. cc) along
 
-pub reads_new : (s : Sizes) (n : ℕ) (c : Caller) → ReadsIn c [] (new s n)
+pub reads_new : (s : Sizes) (n : ℕ) (c : Caller) → ReadsIn c [] (device_at_start s n)
 reads_new s n c = let P : CallState → Type 0 = λ x. Reads c [] [] x in subst P (sym (ap (λ (x : Call). x.state) (idle_at s.callers c.0))) tt

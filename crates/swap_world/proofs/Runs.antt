@@ -6,13 +6,13 @@ use Rattle.swap_wire.specs.Input.{Input}
 use Rattle.swap_wire.specs.Fabric.{FabricAnswer, FabricOf}
 use Rattle.swap_wire.specs.declared.Seen.{Seen}
 use Rattle.swap_record.specs.History.{IsLegal, History, IsFaithful, GivesArray, array}
-use Rattle.swap_disk.specs.Drive.{Drive}
+use Rattle.swap_disk.specs.MemDiskView.{MemDiskView}
 use Rattle.swap_slabs.specs.declared.TheConstants.{MOST_LENDERS}
 use Rattle.swap_link.specs.Harbor.{Harbor}
 use Rattle.swap_table.specs.Ports.{Prog, Ret, AskDisk, AskFabric, Along, run}
 use Rattle.swap_table.specs.Device.{Device}
 use Rattle.swap_table.specs.Fits.{MayGive, GivesWhatItMay, IsFaithfulOver}
-use Rattle.swap_world.specs.World.{World, Next, IsEvent, alone, next, next_by, next_plan, next_round, counted_on, next_of, start, reach, made_by, history}
+use Rattle.swap_world.specs.World.{World, Next, IsEvent, without_parts, next, next_by, next_plan, next_round, counted_on, next_of, start, reach, made_by, history}
 use Rattle.swap_world.specs.Rounds.{Plan, Stop, Make, round_plan, AlongPlan, StepOf}
 use Rattle.swap_wire.specs.declared.Event.{Event}
 use Rattle.swap_wire.specs.declared.Event.TheVariants as event
@@ -28,7 +28,7 @@ use Rattle.swap_table.specs.Promises.{FollowsItsMoves, Promises}
 use Rattle.swap_world.proofs.Steps.{run_known, run_keeps}
 use Rattle.swap_world.proofs.Told.{IsTold, new_told, each_told, told_gathers}
 use Rattle.swap_world.proofs.Memory.{drive_meaning, harbor_meaning, harbor_promises, starts_sound, sound_fits, reach_sound, reach_keeps}
-use Rattle.swap_disk.specs.Drive as drive
+use Rattle.swap_disk.specs.MemDiskView as drive
 use Rattle.swap_disk.specs.lemmas.Follows as drives
 use Rattle.swap_link.specs.Harbor as harbor
 use Rattle.swap_base.specs.declared.Origin.TheVariants as origin
@@ -98,18 +98,20 @@ each_call_once s specs is c within few inputs =
 
 -- over the disk and the lenders in memory: what goes along a program is what it computes
 run_along :
-    {A : Type 0} (p : Prog A) (d e : Drive) (f g : Harbor) (a : A) → Along drive.Moves harbor.Moves p d f e g a → run drive.ask harbor.ask p d f ≡ (a, (e, g))
+    {A : Type 0} (p : Prog A) (d e : MemDiskView) (f g : Harbor) (a : A) → Along drive.Moves harbor.Moves p d f e g a
+    → run drive.ask harbor.ask p d f ≡ (a, (e, g))
 run_along (Ret b) d e f g a along = rw (along.0, along.1, along.2) refl
 run_along (AskDisk c more) d e f g a along = rw along.2.1 (run_along (more along.0) along.1 e f g a along.3)
 run_along (AskFabric c more) d e f g a along =
     ap (λ (r : FabricAnswer c × Harbor). run drive.ask harbor.ask (more r.0) d r.1) along.2.1 ∙ run_along (more along.0) d e along.1 g a along.3
 
 alone_along :
-    (d d' : Device) (k k' : Drive) (h h' : Harbor) (page : List ℕ) (e : Event) (s : Seen) → Along drive.Moves harbor.Moves (happens d page e) k h k' h' (d', s)
-    → alone (record { device = d; drive = k; harbor = h }) page e ≡ record { world = record { device = d'; drive = k'; harbor = h' }; seen = s }
+    (d d' : Device) (k k' : MemDiskView) (h h' : Harbor) (page : List ℕ) (e : Event) (s : Seen)
+    → Along drive.Moves harbor.Moves (happens d page e) k h k' h' (d', s)
+    → without_parts (record { device = d; drive = k; harbor = h }) page e ≡ record { world = record { device = d'; drive = k'; harbor = h' }; seen = s }
 alone_along d d' k k' h h' page e s along = ap next_of (run_along (happens d page e) k k' h h' (d', s) along)
 
-plan_along : (plan : Plan) (d d' : Device) (k k' : Drive) (h h' : Harbor) (effects : ℕ) → AlongPlan drive.Moves harbor.Moves plan d k h d' k' h' effects
+plan_along : (plan : Plan) (d d' : Device) (k k' : MemDiskView) (h h' : Harbor) (effects : ℕ) → AlongPlan drive.Moves harbor.Moves plan d k h d' k' h' effects
     → next_plan plan (record { device = d; drive = k; harbor = h }) ≡ record { world = record { device = d'; drive = k'; harbor = h' }; effects = effects }
 plan_along Stop d d' k k' h h' effects along = rw (along.0, along.1, along.2, along.3) refl
 plan_along (Make e more) d d' k k' h h' effects (seen_, x, kx, hx, left, step, rest, count) =
@@ -117,7 +119,7 @@ plan_along (Make e more) d d' k k' h h' effects (seen_, x, kx, hx, left, step, r
     ∙ ap (counted_on e seen_) (plan_along (more seen_) x d' kx k' hx h' left rest)
     ∙ ap (λ m. record { world = record { device = d'; drive = k'; harbor = h' }; effects = m }) (sym count)
 
-pub steps_are_next : (d d' : Device) (k k' : Drive) (h h' : Harbor) (i : Input) (s : Seen) → IsEvent drive.Moves harbor.Moves d k h i s d' k' h'
+pub steps_are_next : (d d' : Device) (k k' : MemDiskView) (h h' : Harbor) (i : Input) (s : Seen) → IsEvent drive.Moves harbor.Moves d k h i s d' k' h'
     → next (record { device = d; drive = k; harbor = h }) i ≡ record { world = record { device = d'; drive = k'; harbor = h' }; seen = s }
 steps_are_next d d' k k' h h' i s step = go i.event s step
   where

@@ -28,7 +28,7 @@ use Rattle.swap_calls.specs.declared.Arrived.{Arrived}
 use Rattle.swap_calls.specs.declared.Arrived.TheVariants as arrived
 use Rattle.swap_calls.specs.declared.CallState.{CallState}
 use Rattle.swap_calls.specs.declared.CallState.TheVariants.{Idle, Room, Reading}
-use Rattle.swap_table.specs.Device.{Device, new, enter, wrote, took, took_back}
+use Rattle.swap_table.specs.Device.{Device, device_at_start, enter_entry, wrote_after, took_after, took_back}
 use Rattle.swap_table.specs.Ports.{Along}
 use Rattle.swap_table.specs.Happens.{happens}
 use Rattle.swap_table.specs.Comes.{Linked, begins_in, goes_on_in, Comes, ComesTo, refuses, rests, accepts, gives_page, fails, keeps_page, reads, starts_write, takes_back, links, brings}
@@ -40,10 +40,10 @@ use Rattle.swap_world.proofs.Handed.{run_holds}
 use Rattle.swap_world.proofs.Anew.{IsLostBy, IsNewerOf, IsLostAtDisk, newer_since, ended_since, never_at_disk}
 
 -- a new device's calls are idle
-new_idle : (s : Sizes) (n : ℕ) (c : Caller) → state_of (new s n).calls c ≡ Idle
+new_idle : (s : Sizes) (n : ℕ) (c : Caller) → state_of (device_at_start s n).calls c ≡ Idle
 new_idle s n c = ap (λ (x : Call). x.state) (by s.callers c.0)
   where
-    by : (m i : ℕ) → get_or (replicate m calls.idle) i calls.idle ≡ calls.idle
+    by : (m i : ℕ) → get_or (replicate m calls.idle_call) i calls.idle_call ≡ calls.idle_call
     by zero i = refl
     by (suc m) zero = refl
     by (suc m) (suc i) = by m i
@@ -53,12 +53,12 @@ took_rows : (d : Device) (taken : Option Taken) → (took_back d taken).0.histor
 took_rows d None = refl
 took_rows d (Some t) = by t.done.which t.done.ok
   where
-    wrote_one : (p : Page) (copy : Option Copy) (ok : Bool) → (wrote d p copy ok).0.history ≡ d.history
+    wrote_one : (p : Page) (copy : Option Copy) (ok : Bool) → (wrote_after d p copy ok).0.history ≡ d.history
     wrote_one p None ok = refl
     wrote_one p (Some copy) true = refl
     wrote_one p (Some copy) false = refl
 
-    by : (w : DiskWhich) (ok : Bool) → (took d w t.done.page ok t.bytes).0.history ≡ d.history
+    by : (w : DiskWhich) (ok : Bool) → (took_after d w t.done.page ok t.bytes).0.history ≡ d.history
     by (which.Write p) ok = wrote_one t.done.page (queue.flying d.queue t.done.page) ok
     by (which.Read c) true = refl
     by (which.Read c) false = refl
@@ -72,7 +72,7 @@ other_rows :
 other_rows d d' page e s no_in no_finish (refuses new_) = inl refl
 other_rows d d' page e s no_in no_finish (rests new_ rest) = inl refl
 other_rows d d' page e s no_in no_finish (accepts {c = c} {p = p} {bytes = bytes} step used) =
-    inr (row_of d.history c p op.PageOut bytes, linked_rows (enter d c p bytes) d' used, refl)
+    inr (row_of d.history c p op.PageOut bytes, linked_rows (enter_entry d c p bytes) d' used, refl)
 other_rows d d' page e s no_in no_finish (gives_page {c = c} {p = p} (begins_in is)) = absurd (no_in c p refl)
 other_rows d d' page e s no_in no_finish (gives_page {c = c} (goes_on_in is)) = absurd (no_finish c refl)
 other_rows d d' page e s no_in no_finish (fails {c = c} why) = absurd (no_finish c refl)
@@ -103,7 +103,7 @@ module _ {D F : Type 0} (disk_moves : D → (c : DiskCall) → DiskAnswer c → 
   pub gives_what_was_handed : GivesWhatWasHanded disk_moves moves
   gives_what_was_handed s n first first_fabric made d k f run i seen_ d' k' f' row step is read = by i.event refl
     where
-      idle_first : (c : Caller) → IsCame (state_of (new s n).calls c) → ⊥
+      idle_first : (c : Caller) → IsCame (state_of (device_at_start s n).calls c) → ⊥
       idle_first c came = let none : IsCame Idle = subst IsCame (new_idle s n c) came in none
 
       kept : (c : Caller) → AddsKept d c d'.history → last_handed disk_moves moves row.entry.caller run ≡ Some row.bytes
@@ -142,13 +142,13 @@ module _ {D F : Type 0} (disk : DiskMeaning D) (fabric : FabricMeaning F) where
       (Leads-Along disk.moves fabric.moves (happens d page (event.Finish c)) k f k' f' (d', seen.Again v)
       (λ (a : Device × Seen) e g. ReadsAnew (state_of d.calls c) a.1) (finish_anew disk.moves fabric.moves d k f page c) step v refl)
     where
-      not_newer : (p : Page) → IsNewerOf p (state_of (new s n).calls c) → ⊥
+      not_newer : (p : Page) → IsNewerOf p (state_of (device_at_start s n).calls c) → ⊥
       not_newer p is = let P : CallState → Type 0 = λ x. IsNewerOf p x in let none : IsNewerOf p Idle = subst P (new_idle s n c) is in none
 
-      not_lost : (l : Lender) → IsLostBy l (state_of (new s n).calls c) → ⊥
+      not_lost : (l : Lender) → IsLostBy l (state_of (device_at_start s n).calls c) → ⊥
       not_lost l is = let P : CallState → Type 0 = λ x. IsLostBy l x in let none : IsLostBy l Idle = subst P (new_idle s n c) is in none
 
-      not_at_disk : IsLostAtDisk (state_of (new s n).calls c) → ⊥
+      not_at_disk : IsLostAtDisk (state_of (device_at_start s n).calls c) → ⊥
       not_at_disk is = let none : IsLostAtDisk Idle = subst IsLostAtDisk (new_idle s n c) is in none
 
       by_how :

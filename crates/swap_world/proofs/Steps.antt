@@ -11,7 +11,7 @@ use Rattle.swap_wire.specs.Input.{Input, IsInRange}
 use Rattle.swap_wire.specs.declared.Seen.{Seen}
 use Rattle.swap_table.specs.declared.DiskStep.{DiskStep}
 use Rattle.swap_table.specs.Ports.{Along}
-use Rattle.swap_table.specs.Device.{Device, of_device, new, disk_take, took_back}
+use Rattle.swap_table.specs.Device.{Device, of_device, device_at_start, disk_take, took_back}
 use Rattle.swap_table.specs.Happens.{happens}
 use Rattle.swap_table.specs.Comes.{ComesTo}
 use Rattle.swap_table.specs.Promises.{FollowsItsMoves, Promises}
@@ -79,7 +79,7 @@ module _ {D F : Type 0} (disk : DiskMeaning D) (follows : FollowsItsMoves disk) 
   OfThese = record { sizes = s; lenders = n }
 
   pub run_known :
-      (made : List (Input × Seen)) (d : Device) (k : D) (f : F) → IsRun disk.moves fabric.moves (new s n) first first_fabric made d k f
+      (made : List (Input × Seen)) (d : Device) (k : D) (f : F) → IsRun disk.moves fabric.moves (device_at_start s n) first first_fabric made d k f
       → Known disk follows fabric laws Told OfThese d k f
   run_known made d k f begin = record { agree = new_agrees disk follows fabric laws s n first first_fabric began.blank began.is_of began.few; is = refl }
   run_known made d k f (effect {made = before} {d = d0} {k = k0} {f = f0} i seen_ d' k' f' run range step has) =
@@ -92,7 +92,8 @@ module _ {D F : Type 0} (disk : DiskMeaning D) (follows : FollowsItsMoves disk) 
   -- so it holds after every run
   module _ (P : List (Input × Seen) → Device → Type 0) (each : EachEventKeeps disk follows fabric laws Told OfThese P) where
     pub run_keeps :
-        (made : List (Input × Seen)) (d : Device) (k : D) (f : F) → P [] (new s n) → IsRun disk.moves fabric.moves (new s n) first first_fabric made d k f
+        (made : List (Input × Seen)) (d : Device) (k : D) (f : F) → P [] (device_at_start s n)
+        → IsRun disk.moves fabric.moves (device_at_start s n) first first_fabric made d k f
         → P made d
     run_keeps made d k f starts begin = starts
     run_keeps made d k f starts (effect {made = before} {d = d0} {k = k0} {f = f0} i seen_ d' k' f' run range step has) =

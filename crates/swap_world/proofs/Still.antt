@@ -25,11 +25,11 @@ use Rattle.swap_wire.specs.Fabric.{Parcel, parcel_of, Handed, Brought, NothingCa
 use Rattle.swap_queue.specs.Queue as queue
 use Rattle.swap_queue.specs.Queue.{Copy}
 use Rattle.swap_disk.specs.Disk.{Flight, Write, Read, Finished, which_of, page_of, in_flight, finish_flight}
-use Rattle.swap_disk.specs.Drive as drive
-use Rattle.swap_disk.specs.Drive.{Drive}
-use Rattle.swap_link.specs.Channel.{Channel, taken, taken_from, given, given_from, severed, delivered, abandoned, reply_of}
+use Rattle.swap_disk.specs.MemDiskView as drive
+use Rattle.swap_disk.specs.MemDiskView.{MemDiskView}
+use Rattle.swap_link.specs.Channel.{Channel, take_after, taken_from, give_after, given_from, cut_after, deliver_after, leave_after, reply_of}
 use Rattle.swap_link.specs.Lane.{Lane, cut, is_cut}
-use Rattle.swap_lender.specs.Table.{Turn, may_send, took as served}
+use Rattle.swap_lender.specs.Table.{Turn, may_send, took_after as served}
 use Rattle.swap_link.specs.Harbor as harbor
 use Rattle.swap_link.specs.Harbor.{Harbor, channel_of, with_channel, no_channel}
 use Rattle.swap_calls.specs.Calls.{state_of, call_of, is_idle}
@@ -50,7 +50,7 @@ use Rattle.swap_table.specs.declared.LinkStep.TheVariants as link
 use Rattle.swap_table.specs.declared.TheConstants.{MOST_LINKS}
 use Rattle.swap_table.specs.Ports.{Prog, Ret, AskDisk, AskFabric, answering, and_then, run}
 use Rattle.swap_table.specs.Device as device
-use Rattle.swap_table.specs.Device.{Device, accept, accepted_late, finish_by, route, routed_again, fault, start_front, start_copy, wrote, took, Heard, may_map, after_borrow, with_answer, lose, say, raised, next_link, hello, with_link, connect_on, without_link, took_from, understood, follow, with_step, heard}
+use Rattle.swap_table.specs.Device.{Device, accept_program, accepted_late, finish_by, route, routed_again, fault, start_front, start_copy, wrote_after, took_after, Heard, may_map, after_borrow, with_answer, lose, say_after, raised_after, next_link, hello, with_link, connect_on, without_link, took_from, understand, follow, with_step, heard_parcel}
 use Rattle.swap_table.specs.Happens.{happens, seen_by, taken_if, see_out, see_in, see_step, see_start, see_disk, see_tick, see_map, see_link, see_gave, see_cut, see_take}
 use Rattle.swap_table.specs.Fits.{IsExpected, IsCopyOf}
 use Rattle.swap_table.proofs.Agree.{found}
@@ -60,24 +60,24 @@ use Rattle.swap_world.specs.Laws.{NothingChanges}
 use Rattle.swap_world.proofs.Memory.{starts_sound, reach_sound, sound_fits}
 
 -- what a program comes to over the ports in memory
-abbrev pub runs : {A : Type 0} → Prog A → Drive → Harbor → A × (Drive × Harbor)
+abbrev pub runs : {A : Type 0} → Prog A → MemDiskView → Harbor → A × (MemDiskView × Harbor)
 runs p k h = run drive.ask harbor.ask p k h
 
 -- device and ports are what they were
-abbrev pub IsStill : Device → Drive → Harbor → (Device × Seen) × (Drive × Harbor) → Type 0
+abbrev pub IsStill : Device → MemDiskView → Harbor → (Device × Seen) × (MemDiskView × Harbor) → Type 0
 IsStill d k h r = (r.0.0 ≡ d) × (r.1.0 ≡ k) × (r.1.1 ≡ h)
 
-abbrev pub Stills : Event → Device → Drive → Harbor → (Device × Seen) × (Drive × Harbor) → Type 0
+abbrev pub Stills : Event → Device → MemDiskView → Harbor → (Device × Seen) × (MemDiskView × Harbor) → Type 0
 Stills e d k h r = has_effect e r.0.1 ≡ false → IsStill d k h r
 
-run_answering : {A B : Type 0} (f : A → B) (p : Prog A) (k : Drive) (h : Harbor) → (runs (answering f p) k h).0 ≡ f (runs p k h).0
+run_answering : {A B : Type 0} (f : A → B) (p : Prog A) (k : MemDiskView) (h : Harbor) → (runs (answering f p) k h).0 ≡ f (runs p k h).0
 run_answering f (Ret a) k h = refl
 run_answering f (AskDisk c next) k h = run_answering f (next (drive.ask k c).0) (drive.ask k c).1 h
 run_answering f (AskFabric c next) k h = run_answering f (next (harbor.ask h c).0) k (harbor.ask h c).1
 
 -- an answer that always has an effect, at once and through one more answer
 effect :
-    {A : Type 0} (e : Event) (f : A → Device × Seen) (p : Prog A) (d : Device) (k k' : Drive) (h h' : Harbor) → ((a : A) → has_effect e (f a).1 ≡ true)
+    {A : Type 0} (e : Event) (f : A → Device × Seen) (p : Prog A) (d : Device) (k k' : MemDiskView) (h h' : Harbor) → ((a : A) → has_effect e (f a).1 ≡ true)
     → Stills e d k' h' (runs (answering f p) k h)
 effect e f p d k k' h h' each none =
     let is : has_effect e (runs (answering f p) k h).0.1 ≡ true = ap (λ (x : Device × Seen). has_effect e x.1) (run_answering f p k h) ∙ each (runs p k h).0 in
@@ -87,7 +87,7 @@ effect e f p d k k' h h' each none =
     both a b = cc
 
 effect_through :
-    {A B : Type 0} (e : Event) (g : B → Device × Seen) (f : A → B) (p : Prog A) (d : Device) (k k' : Drive) (h h' : Harbor)
+    {A B : Type 0} (e : Event) (g : B → Device × Seen) (f : A → B) (p : Prog A) (d : Device) (k k' : MemDiskView) (h h' : Harbor)
     → ((a : A) → has_effect e (g (f a)).1 ≡ true) → Stills e d k' h' (runs (answering g (answering f p)) k h)
 effect_through e g f p d k k' h h' each none =
     let is : has_effect e (runs (answering g (answering f p)) k h).0.1 ≡ true =
@@ -99,7 +99,7 @@ effect_through e g f p d k k' h h' each none =
 
 -- calls
 out_still :
-    (d : Device) (k : Drive) (h : Harbor) (page : List ℕ) (c : Caller) (p : Page)
+    (d : Device) (k : MemDiskView) (h : Harbor) (page : List ℕ) (c : Caller) (p : Page)
     → Stills (event.PageOut c p) d k h (runs (happens d page (event.PageOut c p)) k h)
 out_still d k h page c p = go (is_idle (state_of d.calls c))
   where
@@ -112,7 +112,7 @@ out_still d k h page c p = go (is_idle (state_of d.calls c))
     go false = λ none. (refl, refl, refl)
 
 in_still :
-    (d : Device) (k : Drive) (h : Harbor) (page : List ℕ) (c : Caller) (p : Page)
+    (d : Device) (k : MemDiskView) (h : Harbor) (page : List ℕ) (c : Caller) (p : Page)
     → Stills (event.PageIn c p) d k h (runs (happens d page (event.PageIn c p)) k h)
 in_still d k h page c p = go (is_idle (state_of d.calls c))
   where
@@ -124,7 +124,8 @@ in_still d k h page c p = go (is_idle (state_of d.calls c))
     go true = effect (event.PageIn c p) (λ (x : Device × InStep). (x.0, see_in x.1)) (device.read d c p) d k k h h each
     go false = λ none. (refl, refl, refl)
 
-finish_still : (d : Device) (k : Drive) (h : Harbor) (page : List ℕ) (c : Caller) → Stills (event.Finish c) d k h (runs (happens d page (event.Finish c)) k h)
+finish_still : (d : Device) (k : MemDiskView) (h : Harbor) (page : List ℕ) (c : Caller)
+    → Stills (event.Finish c) d k h (runs (happens d page (event.Finish c)) k h)
 finish_still d k h page c = go (is_idle (state_of d.calls c))
   where
     again : (x : Device × InStep) → has_effect (event.Finish c) (see_step (routed_again x).1) ≡ true
@@ -152,13 +153,14 @@ finish_still d k h page c = go (is_idle (state_of d.calls c))
             → Stills (event.Finish c) d k h
             (runs
             (seen_by see_step
-            (cond b (answering (accepted_late (next_name d.history)) (accept d c p bytes))
+            (cond b (answering (accepted_late (next_name d.history)) (accept_program d c p bytes))
             (cond (nat_lt since d.failed_writes)
             (Ret (fault d c p kind.PageOut since d.failed_writes bytes, steps.Fault (next_name d.history) since d.failed_writes))
             (Ret (d, steps.Room)))))
             k h)
         by_room true =
-            effect_through (event.Finish c) (λ (x : Device × Step). (x.0, see_step x.1)) (accepted_late (next_name d.history)) (accept d c p bytes) d k k h h
+            effect_through (event.Finish c) (λ (x : Device
+            × Step). (x.0, see_step x.1)) (accepted_late (next_name d.history)) (accept_program d c p bytes) d k k h h
             (λ x. refl)
         by_room false = fails (nat_lt since d.failed_writes)
 
@@ -177,7 +179,7 @@ finish_still d k h page c = go (is_idle (state_of d.calls c))
     go false = by_state (call_of d.calls c).bytes (state_of d.calls c)
 
 -- the disk
-start_still : (d : Device) (k : Drive) (h : Harbor) (page : List ℕ) → Stills event.Start d k h (runs (happens d page event.Start) k h)
+start_still : (d : Device) (k : MemDiskView) (h : Harbor) (page : List ℕ) → Stills event.Start d k h (runs (happens d page event.Start) k h)
 start_still d k h page = by_line d.queue.line
   where
     by_copy : (p : Page) (copy : Option Copy) → Stills event.Start d k h (runs (seen_by see_start (start_copy d p copy)) k h)
@@ -186,20 +188,20 @@ start_still d k h page = by_line d.queue.line
 
     by_line : (line : List Page) → Stills event.Start d k h (runs (seen_by see_start (start_front d line)) k h)
     by_line [] = λ none. (refl, refl, refl)
-    by_line (p ∷ line) = by_copy p (queue.next d.queue p)
+    by_line (p ∷ line) = by_copy p (queue.next_copy d.queue p)
 
 disk_still :
-    (d : Device) (k : Drive) (h : Harbor) (page : List ℕ) (w : DiskWhich) (ok : Bool)
+    (d : Device) (k : MemDiskView) (h : Harbor) (page : List ℕ) (w : DiskWhich) (ok : Bool)
     → ((f : Flight) → in_flight k.disk w ≡ Some f → IsExpected true (pages_of d.sizes) d.sizes.callers d.queue d.calls f)
     → Stills (event.Disk w ok) d k h (runs (happens d page (event.Disk w ok)) k h)
 disk_still d k h page w ok expected = by_parts k.disk.finished (in_flight k.disk w) expected
   where
     wrote_seen :
         (p : Page) (bytes : List ℕ) (copy : Option Copy) (good : Bool) → IsCopyOf true bytes copy
-        → has_effect (event.Disk w ok) (see_disk (wrote d p copy good).1) ≡ true
+        → has_effect (event.Disk w ok) (see_disk (wrote_after d p copy good).1) ≡ true
     wrote_seen p bytes None good is = absurd is
     wrote_seen p bytes (Some copy) true is = refl
-    wrote_seen p bytes (Some copy) false is = by_next (is_none (queue.next d.queue p))
+    wrote_seen p bytes (Some copy) false is = by_next (is_none (queue.next_copy d.queue p))
       where
         by_next : (b : Bool) → has_effect (event.Disk w ok) (see_disk (cond b (ends.Kept p copy.entry) (ends.Dropped p copy.entry))) ≡ true
         by_next true = refl
@@ -207,7 +209,7 @@ disk_still d k h page w ok expected = by_parts k.disk.finished (in_flight k.disk
 
     took_seen :
         (f : Flight) (good : Bool) (bytes : List ℕ) → IsExpected true (pages_of d.sizes) d.sizes.callers d.queue d.calls f
-        → has_effect (event.Disk w ok) (see_disk (took d (which_of f) (page_of f) good bytes).1) ≡ true
+        → has_effect (event.Disk w ok) (see_disk (took_after d (which_of f) (page_of f) good bytes).1) ≡ true
     took_seen (Write p written) good bytes is = wrote_seen p written (queue.flying d.queue p) good is.1
     took_seen (Read c p) true bytes is = refl
     took_seen (Read c p) false bytes is = refl
@@ -224,7 +226,8 @@ disk_still d k h page w ok expected = by_parts k.disk.finished (in_flight k.disk
 
 -- links
 map_still :
-    (d : Device) (k : Drive) (h : Harbor) (page : List ℕ) (t : Slab) (l : Lender) → Stills (event.Map t l) d k h (runs (happens d page (event.Map t l)) k h)
+    (d : Device) (k : MemDiskView) (h : Harbor) (page : List ℕ) (t : Slab) (l : Lender)
+    → Stills (event.Map t l) d k h (runs (happens d page (event.Map t l)) k h)
 map_still d k h page t l = go (may_map d t l)
   where
     go :
@@ -237,7 +240,7 @@ map_still d k h page t l = go (may_map d t l)
     go false = λ none. (refl, refl, refl)
 
 connect_still :
-    (d : Device) (k : Drive) (h : Harbor) (page : List ℕ) (l : Lender) → Stills (event.Connect l) d k h (runs (happens d page (event.Connect l)) k h)
+    (d : Device) (k : MemDiskView) (h : Harbor) (page : List ℕ) (l : Lender) → Stills (event.Connect l) d k h (runs (happens d page (event.Connect l)) k h)
 connect_still d k h page l = go (nat_lt d.links_made MOST_LINKS)
   where
     both : {b : Bool} → b ≡ true → b ≡ false → ⊥
@@ -245,17 +248,17 @@ connect_still d k h page l = go (nat_lt d.links_made MOST_LINKS)
 
     -- a link that was made is seen, whatever was lost before
     made :
-        (p : Prog Device) (e : Device → Prog (Device × Option Link)) (k : Drive) (h : Harbor)
-        → ((x : Device) (k : Drive) (h : Harbor) → has_effect (event.Connect l) (see_link (runs (e x) k h).0.1) ≡ true)
+        (p : Prog Device) (e : Device → Prog (Device × Option Link)) (k : MemDiskView) (h : Harbor)
+        → ((x : Device) (k : MemDiskView) (h : Harbor) → has_effect (event.Connect l) (see_link (runs (e x) k h).0.1) ≡ true)
         → has_effect (event.Connect l) (see_link (runs (and_then p e) k h).0.1) ≡ true
     made (Ret x) e k h each = each x k h
     made (AskDisk c next) e k h each = made (next (drive.ask k c).0) e (drive.ask k c).1 h each
     made (AskFabric c next) e k h each = made (next (harbor.ask h c).0) e k (harbor.ask h c).1 each
 
-    linked : (x : Device) (k : Drive) (h : Harbor) → has_effect (event.Connect l) (see_link (runs (connect_on x l) k h).0.1) ≡ true
+    linked : (x : Device) (k : MemDiskView) (h : Harbor) → has_effect (event.Connect l) (see_link (runs (connect_on x l) k h).0.1) ≡ true
     linked x k h =
         let h' : Harbor = (harbor.ask h (FabricCall.Connect l (next_link x))).1 in
-        let p : Prog Device = say (raised x l) l (Some (hello x.sizes)) in
+        let p : Prog Device = say_after (raised_after x l) l (Some (hello x.sizes)) in
         ap (λ (a : Device × Option Link). has_effect (event.Connect l) (see_link a.1)) (run_answering (with_link (next_link x)) p k h')
 
     go : (b : Bool) → Stills (event.Connect l) d k h (runs (seen_by see_link (cond b (and_then (without_link d l) (λ x. connect_on x l)) (Ret (d, None)))) k h)
@@ -269,7 +272,8 @@ connect_still d k h page l = go (nat_lt d.links_made MOST_LINKS)
     go false = λ none. (refl, refl, refl)
 
 -- a period's end is seen
-tick_still : (d : Device) (k : Drive) (h : Harbor) (page : List ℕ) (word : ℕ) → Stills (event.Tick word) d k h (runs (happens d page (event.Tick word)) k h)
+tick_still : (d : Device) (k : MemDiskView) (h : Harbor) (page : List ℕ) (word : ℕ)
+    → Stills (event.Tick word) d k h (runs (happens d page (event.Tick word)) k h)
 tick_still d k h page word = effect (event.Tick word) (λ (x : Device × Option Placed). (x.0, see_tick x.1)) (device.tick d word) d k k h h each
   where
     each : (x : Device × Option Placed) → has_effect (event.Tick word) (see_tick x.1) ≡ true
@@ -286,7 +290,7 @@ harbor_same : (h : Harbor) (l : Lender) (ch : Channel) → ch ≡ channel_of h l
 harbor_same h l ch is =
     ap (λ x. with_channel h l x) is ∙ ap (λ (xs : List Channel). record { sizes = h.sizes; channels = xs }) (set_same h.channels l.0 (no_channel h.sizes))
 
-given_nothing : (e : Event) (ch : Channel) → has_effect e (see_gave (given ch).0) ≡ false → (given ch).1 ≡ ch
+given_nothing : (e : Event) (ch : Channel) → has_effect e (see_gave (give_after ch).0) ≡ false → (give_after ch).1 ≡ ch
 given_nothing e ch = by_gone ch.lender_gone
   where
     by_may :
@@ -304,7 +308,7 @@ given_nothing e ch = by_gone ch.lender_gone
     by_parcels : (ps : List Parcel) → has_effect e (see_gave (given_from ch ps).0) ≡ false → (given_from ch ps).1 ≡ ch
     by_parcels [] none = by_ended ch.to_lender.ended _ none
     by_parcels (p ∷ ps) none =
-        absurd (by_may (may_send ch.lender ch.number p.msg) p (reply_of turn.parcels) turn.evicted (delivered after turn) (abandoned after) none)
+        absurd (by_may (may_send ch.lender ch.number p.msg) p (reply_of turn.parcels) turn.evicted (deliver_after after turn) (leave_after after) none)
       where
         after : Channel
         after = record ch { to_lender = record ch.to_lender { parcels = ps } }
@@ -318,8 +322,8 @@ given_nothing e ch = by_gone ch.lender_gone
     by_gone true none = refl
     by_gone false none = by_parcels ch.to_lender.parcels none
 
-give_still : (d : Device) (k : Drive) (h : Harbor) (page : List ℕ) (l : Lender) → Stills (event.Give l) d k h (runs (happens d page (event.Give l)) k h)
-give_still d k h page l = λ none. (refl, refl, harbor_same h l (given (channel_of h l)).1 (given_nothing (event.Give l) (channel_of h l) none))
+give_still : (d : Device) (k : MemDiskView) (h : Harbor) (page : List ℕ) (l : Lender) → Stills (event.Give l) d k h (runs (happens d page (event.Give l)) k h)
+give_still d k h page l = λ none. (refl, refl, harbor_same h l (give_after (channel_of h l)).1 (given_nothing (event.Give l) (channel_of h l) none))
 
 -- a lane that is cut already, and a channel of two
 cut_same : (l : Lane) (n : ℕ) → is_cut l n ≡ true → cut l n ≡ l
@@ -338,10 +342,10 @@ cut_same l n = by_ended l.ended refl
         ap (λ (ps : List Parcel). record l { parcels = ps; ended = true }) (take_all n l.parcels (short (nat_lt n (length l.parcels)) refl same))
         ∙ ap (λ (x : Bool). record l { ended = x }) (sym is)
 
-severed_nothing : (ch : Channel) (a b : ℕ) → (severed ch a b).0 ≡ false → (severed ch a b).1 ≡ ch
+severed_nothing : (ch : Channel) (a b : ℕ) → (cut_after ch a b).0 ≡ false → (cut_after ch a b).1 ≡ ch
 severed_nothing ch a b = by (is_cut ch.to_lender a) refl (is_cut ch.to_device b) refl
   where
-    by : (x : Bool) → is_cut ch.to_lender a ≡ x → (y : Bool) → is_cut ch.to_device b ≡ y → not (x && y) ≡ false → (severed ch a b).1 ≡ ch
+    by : (x : Bool) → is_cut ch.to_lender a ≡ x → (y : Bool) → is_cut ch.to_device b ≡ y → not (x && y) ≡ false → (cut_after ch a b).1 ≡ ch
     by true first true second none =
         ap (λ (x : Lane). record ch { to_lender = x; to_device = cut ch.to_device b }) (cut_same ch.to_lender a first)
         ∙ ap (λ (y : Lane). record ch { to_device = y }) (cut_same ch.to_device b second)
@@ -349,24 +353,31 @@ severed_nothing ch a b = by (is_cut ch.to_lender a) refl (is_cut ch.to_device b)
     by false first y second none = cc
 
 cut_still :
-    (d : Device) (k : Drive) (h : Harbor) (page : List ℕ) (l : Lender) (a b : ℕ) → Stills (event.Cut l a b) d k h (runs (happens d page (event.Cut l a b)) k h)
+    (d : Device) (k : MemDiskView) (h : Harbor) (page : List ℕ) (l : Lender) (a b : ℕ)
+    → Stills (event.Cut l a b) d k h (runs (happens d page (event.Cut l a b)) k h)
 cut_still d k h page l a b =
-    λ none. (refl, refl, harbor_same h l (severed (channel_of h l) a b).1 (severed_nothing (channel_of h l) a b (unseen (severed (channel_of h l) a b).0 none)))
+    λ none. (
+      refl,
+      refl,
+      harbor_same h l (cut_after (channel_of h l) a b).1 (severed_nothing (channel_of h l) a b
+          (unseen (cut_after (channel_of h l) a b).0 none)),
+    )
   where
     unseen : (x : Bool) → has_effect (event.Cut l a b) (see_cut x) ≡ false → x ≡ false
     unseen true none = cc
     unseen false none = refl
 
 -- a crash, and what a host uses, always have an effect
-crash_still : (d : Device) (k : Drive) (h : Harbor) (page : List ℕ) (l : Lender) → Stills (event.Crash l) d k h (runs (happens d page (event.Crash l)) k h)
+crash_still : (d : Device) (k : MemDiskView) (h : Harbor) (page : List ℕ) (l : Lender)
+    → Stills (event.Crash l) d k h (runs (happens d page (event.Crash l)) k h)
 crash_still d k h page l = λ none. absurd (let no : true ≡ false = none in cc)
 
 host_still :
-    (d : Device) (k : Drive) (h : Harbor) (page : List ℕ) (l : Lender) (used word : ℕ)
+    (d : Device) (k : MemDiskView) (h : Harbor) (page : List ℕ) (l : Lender) (used word : ℕ)
     → Stills (event.Host l used word) d k h (runs (happens d page (event.Host l used word)) k h)
 host_still d k h page l used word = λ none. absurd (let no : true ≡ false = none in cc)
 
-taken_nothing : (ch : Channel) → (taken ch).0 ≡ NothingCame → (taken ch).1 ≡ ch
+taken_nothing : (ch : Channel) → (take_after ch).0 ≡ NothingCame → (take_after ch).1 ≡ ch
 taken_nothing ch = by_gone ch.device_gone
   where
     by_ended :
@@ -385,10 +396,10 @@ taken_nothing ch = by_gone ch.device_gone
     by_gone true is = refl
     by_gone false is = by_parcels ch.to_device.parcels is
 
-take_still : (d : Device) (k : Drive) (h : Harbor) (page : List ℕ) (l : Lender) → Stills (event.Take l) d k h (runs (happens d page (event.Take l)) k h)
+take_still : (d : Device) (k : MemDiskView) (h : Harbor) (page : List ℕ) (l : Lender) → Stills (event.Take l) d k h (runs (happens d page (event.Take l)) k h)
 take_still d k h page l = go (is_up d.remote.links l)
   where
-    by_heard : (q : Parcel) (o : Option Heard) (h' : Harbor) → Stills (event.Take l) d k h (runs (seen_by see_take (understood d l q.msg o)) k h')
+    by_heard : (q : Parcel) (o : Option Heard) (h' : Harbor) → Stills (event.Take l) d k h (runs (seen_by see_take (understand d l q.msg o)) k h')
     by_heard q None h' =
         effect_through (event.Take l) (λ (x : Device × LinkStep). (x.0, see_take x.1)) (with_step link.Lied) (lose d l) d k k (harbor.ask h' (End l)).1 h
         (λ x. refl)
@@ -396,20 +407,20 @@ take_still d k h page l = go (is_up d.remote.links l)
         effect_through (event.Take l) (λ (x : Device × LinkStep). (x.0, see_take x.1)) (with_step (link.Got q.msg)) (follow e l) d k k h' h (λ x. refl)
 
     by_handed : (x : Handed) (h' : Harbor) → (x ≡ NothingCame → h' ≡ h) → Stills (event.Take l) d k h (runs (seen_by see_take (took_from d l x)) k h')
-    by_handed (Brought q) h' same = by_heard q (heard d l q (oldest (ring_of d.remote.links l))) h'
+    by_handed (Brought q) h' same = by_heard q (heard_parcel d l q (oldest (ring_of d.remote.links l))) h'
     by_handed NothingCame h' same = λ none. (refl, refl, same refl)
     by_handed LinkLost h' same =
         effect_through (event.Take l) (λ (x : Device × LinkStep). (x.0, see_take x.1)) (with_step link.Lost) (lose d l) d k k h' h (λ x. refl)
 
     go : (b : Bool) → Stills (event.Take l) d k h (runs (seen_by see_take (cond b (AskFabric (Take l) (took_from d l)) (Ret (d, link.Nothing)))) k h)
     go true =
-        by_handed (taken (channel_of h l)).0 (with_channel h l (taken (channel_of h l)).1)
-        (λ is. harbor_same h l (taken (channel_of h l)).1 (taken_nothing (channel_of h l) is))
+        by_handed (take_after (channel_of h l)).0 (with_channel h l (take_after (channel_of h l)).1)
+        (λ is. harbor_same h l (take_after (channel_of h l)).1 (taken_nothing (channel_of h l) is))
     go false = λ none. (refl, refl, refl)
 
 -- any event
 still :
-    (d : Device) (k : Drive) (h : Harbor) (page : List ℕ) (e : Event)
+    (d : Device) (k : MemDiskView) (h : Harbor) (page : List ℕ) (e : Event)
     → ((w : DiskWhich) (f : Flight) → in_flight k.disk w ≡ Some f → IsExpected true (pages_of d.sizes) d.sizes.callers d.queue d.calls f)
     → Stills e d k h (runs (happens d page e) k h)
 still d k h page (event.PageOut c p) expected = out_still d k h page c p

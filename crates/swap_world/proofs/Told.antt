@@ -16,7 +16,7 @@ use Rattle.swap_wire.specs.Fabric.{FabricOf}
 use Rattle.swap_calls.specs.declared.CallState.{CallState}
 use Rattle.swap_calls.specs.declared.CallState.TheVariants.{Reading}
 use Rattle.swap_table.specs.declared.DiskStep.{DiskStep}
-use Rattle.swap_table.specs.Device.{Device, wrote, took, took_back, new}
+use Rattle.swap_table.specs.Device.{Device, wrote_after, took_after, took_back, device_at_start}
 use Rattle.swap_table.specs.Fits.{KeepsNewest}
 use Rattle.swap_table.specs.Happens.{see_disk}
 use Rattle.swap_world.specs.Failures.{is_write_failed, is_read_failed, is_of, is_start, is_start_of, is_read_end, before_start, since_start, read_ends, entries_in, HasItsCause, HoldsEntry, HoldsEntriesSeen}
@@ -28,7 +28,7 @@ use Rattle.swap_table.specs.Comes.{Comes, ComesTo, refuses, rests, accepts, give
 use Rattle.swap_world.proofs.Counted.{SaysLittle, linked_same, rest_says, link_says, wait_says, AreCounted, counted_after, polled_counts, comes_to_counts, took_counts}
 use Rattle.swap_base.specs.declared.Caller.{Caller}
 use Rattle.swap_base.specs.Sizes.{Sizes}
-use Rattle.swap_calls.specs.Calls.{Call, state_of, idle}
+use Rattle.swap_calls.specs.Calls.{Call, state_of, idle_call}
 use Rattle.swap_table.proofs.Lists.{All-get_or}
 use Rattle.swap_world.specs.World.{IsStep}
 use Rattle.swap_world.proofs.Once.{OpenAt, starts_once, comes_once, took_back_open}
@@ -75,23 +75,23 @@ rated_adds :
     → AddsSeen made d (d', s)
 rated_adds made d rates d' s a = record { adds = a.adds }
 
-wrote_seen : (made : List (Input × Seen)) (d : Device) (p : Page) (copy : Option Copy) (ok : Bool) → let a : Device × DiskStep = wrote d p copy ok in
+wrote_seen : (made : List (Input × Seen)) (d : Device) (p : Page) (copy : Option Copy) (ok : Bool) → let a : Device × DiskStep = wrote_after d p copy ok in
     AddsSeen made d (a.0, see_disk a.1)
 wrote_seen made d p None ok = none_seen made d d seen.Nothing refl refl
 wrote_seen made d p (Some copy) true = none_seen made d _ (seen.Written copy.entry) refl refl
-wrote_seen made d p (Some copy) false = by_next (queue.next d.queue p)
+wrote_seen made d p (Some copy) false = by_next (queue.next_copy d.queue p)
   where
     by_next :
         (o : Option Copy)
         → AddsSeen made d (
-          record d { queue = queue.failed d.queue p; failed_writes = d.failed_writes + 1 },
+          record d { queue = queue.failed_after d.queue p; failed_writes = d.failed_writes + 1 },
           see_disk (cond (is_none o) (DiskStep.Kept p copy.entry) (DiskStep.Dropped p copy.entry)),
         )
     by_next None = none_seen made d _ (seen.WriteKept copy.entry) refl refl
     by_next (Some x) = none_seen made d _ (seen.WriteDropped copy.entry) refl refl
 
 took_seen : (made : List (Input × Seen)) (d : Device) (w : DiskWhich) (p : Page) (ok : Bool) (bytes : List ℕ)
-    → let a : Device × DiskStep = took d w p ok bytes in
+    → let a : Device × DiskStep = took_after d w p ok bytes in
     AddsSeen made d (a.0, see_disk a.1)
 took_seen made d (which.Write q) p ok bytes = wrote_seen made d p (queue.flying d.queue p) ok
 took_seen made d (which.Read c) p true bytes = none_seen made d _ (seen.ReadCame p) refl refl
@@ -104,8 +104,8 @@ took_back_seen made d (Some t) = took_seen made d t.done.which t.done.page t.don
 
 module _ (made : List (Input × Seen)) (n : ℕ) (d : Device) (counted : AreCounted made d) (keep : AllKeep made d) where
   pub comes_seen : (page : List ℕ) (e : Event) (d' : Device) (s : Seen) → IsInRange d.sizes n e → Comes d page e d' s → AddsSeen made d (d', s)
-  comes_seen page e d' s range (refuses new) = none_seen made d d s refl refl
-  comes_seen page e d' s range (rests new rest) = none_seen made d d s refl (rest_says s rest).entry
+  comes_seen page e d' s range (refuses device_at_start) = none_seen made d d s refl refl
+  comes_seen page e d' s range (rests device_at_start rest) = none_seen made d d s refl (rest_says s rest).entry
   comes_seen page e d' s range (accepts {c = c} {p = p} {bytes = bytes} step linked) =
       one_seen made d d' (row_of d.history c p op.PageOut bytes) s (linked_same _ d' linked).history refl tt
   comes_seen page e d' s range (gives_page step) = one_seen made d _ _ s refl refl tt
@@ -122,12 +122,12 @@ module _ (made : List (Input × Seen)) (n : ℕ) (d : Device) (counted : AreCoun
         (since_, counted.reads, newest.2),
         record { own = reads_.0; newest = none_since p m (entries_in (since_start c made)) d.history (newest.0 refl) reads_.1 },
       )
-  comes_seen page e d' s range (keeps_page idle) = none_seen made d _ s refl refl
+  comes_seen page e d' s range (keeps_page idle_call) = none_seen made d _ s refl refl
   comes_seen page e d' s range (reads {c = c} {p = p} {d' = x} v step is linked) =
       none_seen made d _ s (linked_same d x linked).history (wait_says d e c p v step).entry
   comes_seen page e d' s range starts_write = none_seen made d _ s refl refl
   comes_seen page e d' s range (takes_back taken) = took_back_seen made d taken
-  comes_seen page e d' s range (links new of_link linked) = none_seen made d d' s (linked_same d d' linked).history (link_says s of_link).entry
+  comes_seen page e d' s range (links device_at_start of_link linked) = none_seen made d d' s (linked_same d d' linked).history (link_says s of_link).entry
   comes_seen page e d' s range (brings c bytes r linked) = none_seen made d d' s (linked_same _ d' linked).history refl
 
 -- a step's entry stands in front of those before it
@@ -197,7 +197,7 @@ pub record IsTold (s : Sizes) (made : List (Input × Seen)) (d : Device) : Type 
   pub reads : (c : Caller) → c.0 < s.callers → ReadsIn c made d
   pub entries : HoldsEntriesSeen made d.history
 
-pub new_told : (s : Sizes) (n : ℕ) → IsTold s [] (new s n)
+pub new_told : (s : Sizes) (n : ℕ) → IsTold s [] (device_at_start s n)
 new_told s n =
     record {
       counted = record { writes = refl; reads = refl };
@@ -219,7 +219,7 @@ module _ {D F : Type 0} (disk : DiskMeaning D) (follows : FollowsItsMoves disk) 
   keeps_each made d k f h told c within =
       let here : c.0 < o.sizes.callers = subst (λ (x : FabricOf). c.0 < x.sizes.callers) h.is within in (
         told.since c here,
-        All-get_or (λ (call : Call). KeepsNewest d.history d.failed_reads call.state) d.calls c.0 idle h.agree.0.disk.in_order.calls tt,
+        All-get_or (λ (call : Call). KeepsNewest d.history d.failed_reads call.state) d.calls c.0 idle_call h.agree.0.disk.in_order.calls tt,
         told.reads c here,
       )
 

@@ -9,12 +9,12 @@ use Rattle.swap_wire.specs.Input.{Input}
 use Rattle.swap_wire.specs.declared.fabric.Fabric.{Ghosts as FabricMeaning}
 use Rattle.swap_record.specs.History.{IsOrdered, IsLegal}
 use Rattle.swap_disk.specs.declared.port.DiskPort.{Ghosts as DiskMeaning}
-use Rattle.swap_disk.specs.Drive as drive
-use Rattle.swap_disk.specs.Drive.{Drive}
+use Rattle.swap_disk.specs.MemDiskView as drive
+use Rattle.swap_disk.specs.MemDiskView.{MemDiskView}
 use Rattle.swap_slabs.specs.declared.TheConstants.{MOST_LENDERS}
 use Rattle.swap_link.specs.Harbor as harbor
 use Rattle.swap_link.specs.Harbor.{Harbor}
-use Rattle.swap_table.specs.Device.{Device, new}
+use Rattle.swap_table.specs.Device.{Device, device_at_start}
 use Rattle.swap_table.specs.Fits.{Fits, IsFaithfulOver, IsBlank}
 use Rattle.swap_table.specs.Laws.{AgreeWith}
 use Rattle.swap_world.specs.Answered.{AreAnsweredOnce}
@@ -55,7 +55,8 @@ pub record Began {D F : Type 0} (disk : DiskMeaning D) (fabric : FabricMeaning F
 abbrev pub HoldsAfterEach : {D F : Type 0} → DiskMeaning D → FabricMeaning F → Type 0
 HoldsAfterEach {D} {F} disk fabric =
     (s : Sizes) (n : ℕ) (first : D) (first_fabric : F) (made : List (Input × Seen)) (d : Device) (k : D) (f : F)
-    → Began disk fabric s n first first_fabric → IsRun disk.moves fabric.moves (new s n) first first_fabric made d k f
+    → Began disk fabric s n first first_fabric
+    → IsRun disk.moves fabric.moves (device_at_start s n) first first_fabric made d k f
     → Holds (is_some (disk.means first).blocks) fabric.answers s made d
 
 -- and the device, its disk and its fabric agree: on the queue and the disk, on each link's requests and what it owes,
@@ -64,7 +65,8 @@ HoldsAfterEach {D} {F} disk fabric =
 abbrev pub AgreesAfterEach : {D F : Type 0} → DiskMeaning D → FabricMeaning F → Type 0
 AgreesAfterEach {D} {F} disk fabric =
     (s : Sizes) (n : ℕ) (first : D) (first_fabric : F) (made : List (Input × Seen)) (d : Device) (k : D) (f : F)
-    → Began disk fabric s n first first_fabric → IsRun disk.moves fabric.moves (new s n) first first_fabric made d k f
+    → Began disk fabric s n first first_fabric
+    → IsRun disk.moves fabric.moves (device_at_start s n) first first_fabric made d k f
     → AgreeWith disk fabric (is_some (disk.means first).blocks) d k f
 
 -- over the disk and the lenders in memory: a page that answers is the page that was owed
@@ -81,7 +83,7 @@ AlwaysAgrees =
 -- one event over the disk and the lenders in memory leads to the next world
 abbrev pub StepsAreNext : Type 0
 StepsAreNext =
-    (d d' : Device) (k k' : Drive) (h h' : Harbor) (i : Input) (s : Seen)
+    (d d' : Device) (k k' : MemDiskView) (h h' : Harbor) (i : Input) (s : Seen)
     → IsEvent drive.Moves harbor.Moves d k h i s d' k' h'
     → next (record { device = d; drive = k; harbor = h }) i
     ≡ record { world = record { device = d'; drive = k'; harbor = h' }; seen = s }

@@ -8,7 +8,7 @@ use Rattle.swap_wire.specs.declared.Event.{Event}
 use Rattle.swap_wire.specs.declared.Event.TheVariants as event
 use Rattle.swap_wire.specs.declared.Seen.{Seen}
 use Rattle.swap_wire.specs.declared.Seen.TheVariants as seen
-use Rattle.swap_slabs.specs.Slabs.{mapped}
+use Rattle.swap_slabs.specs.Slabs.{mapped_count}
 use Rattle.swap_table.specs.Device.{Device, Core}
 use Rattle.swap_table.specs.Ports.{Along}
 use Rattle.swap_table.specs.Happens.{happens}
@@ -28,16 +28,16 @@ pub data Plan : Type 0 where
   Make : Event → (Seen → Plan) → Plan
 
 -- an event again and again until it has no effect, so many times at most
-abbrev pub again : ℕ → Event → Plan → Plan
-again zero e rest = rest
-again (suc left) e rest = Make e (λ s. if has_effect e s then again left e rest else rest)
+abbrev pub plan_again : ℕ → Event → Plan → Plan
+plan_again zero e rest = rest
+plan_again (suc left) e rest = Make e (λ s. if has_effect e s then plan_again left e rest else rest)
 
 -- Give and then Take of each of these many lenders from the n-th on
 abbrev pub each_lender : ℕ → ℕ → ℕ → Plan → Plan
 each_lender times zero n rest = rest
 each_lender times (suc left) n rest =
-    again times (event.Give (record { 0 = n }))
-    (again times (event.Take (record { 0 = n })) (each_lender times left (n + 1) rest))
+    plan_again times (event.Give (record { 0 = n }))
+    (plan_again times (event.Take (record { 0 = n })) (each_lender times left (n + 1) rest))
 
 -- how often a lender, or its link, is asked for a message, at most
 abbrev pub most_messages : Sizes → ℕ
@@ -60,8 +60,8 @@ one_if_so true = 1
 one_if_so false = 0
 
 -- how many events of a plan had an effect, and how many slabs are mapped after it
-abbrev pub rounded : Device → ℕ → Seen
-rounded d effects = seen.Rounded effects (mapped d.remote.slabs)
+abbrev pub round_seen : Device → ℕ → Seen
+round_seen d effects = seen.Rounded effects (mapped_count d.remote.slabs)
 
 module _ {D F : Type 0} (disk_moves : D → (c : DiskCall) → DiskAnswer c → D → Type 0)
     (moves : F → (c : FabricCall) → FabricAnswer c → F → Type 0) where
@@ -76,7 +76,7 @@ module _ {D F : Type 0} (disk_moves : D → (c : DiskCall) → DiskAnswer c → 
   -- one event: a Round goes along its plan, and every other along its program
   abbrev pub StepOf : List ℕ → Event → Device → D → F → Seen → Device → D → F → Type 0
   StepOf page (event.Round word) d k f s d' k' f' =
-      (effects : ℕ) × AlongPlan (round_plan d.sizes d.lenders word) d k f d' k' f' effects × (s ≡ rounded d' effects)
+      (effects : ℕ) × AlongPlan (round_plan d.sizes d.lenders word) d k f d' k' f' effects × (s ≡ round_seen d' effects)
   StepOf page e d k f s d' k' f' = Along disk_moves moves (happens d page e) k f k' f' (d', s)
 
   -- what goes on from now as the rest of a plan went from before as the whole, with so many more that had an effect

@@ -35,14 +35,14 @@ entry n = record { 0 = n }
 abbrev out : ℕ → ℕ → ℕ → Input
 out c p byte = record { event = event.PageOut (caller c) (page p); page = replicate 8 byte }
 
-abbrev by : Event → Input
-by e = record { event = e; page = [] }
+abbrev input_by : Event → Input
+input_by e = record { event = e; page = [] }
 
 abbrev disk_write : ℕ → Bool → Input
-disk_write p ok = by (event.Disk (which.Write (page p)) ok)
+disk_write p ok = input_by (event.Disk (which.Write (page p)) ok)
 
 abbrev disk_read : ℕ → Bool → Input
-disk_read c ok = by (event.Disk (which.Read (caller c)) ok)
+disk_read c ok = input_by (event.Disk (which.Read (caller c)) ok)
 
 abbrev seen_of : List (Event × Seen) → List Seen
 seen_of [] = []
@@ -52,8 +52,8 @@ abbrev pub PageOutWithoutRoomFailsWhereAWriteFailed : Type 0
 PageOutWithoutRoomFailsWhereAWriteFailed =
     seen_of
     (seens (start (sizes 1) [])
-    (out 0 1 170 ∷ by event.Start ∷ out 1 2 187 ∷ disk_write 1 false ∷ by (event.Finish (caller 1))
-    ∷ by (event.PageIn (caller 0) (page 1)) ∷ []))
+    (out 0 1 170 ∷ input_by event.Start ∷ out 1 2 187 ∷ disk_write 1 false ∷ input_by (event.Finish (caller 1))
+    ∷ input_by (event.PageIn (caller 0) (page 1)) ∷ []))
     ≡ seen.Done (entry 0) None ∷ seen.Started (page 1) (entry 0) ∷ seen.Room ∷ seen.WriteKept (entry 0)
     ∷ seen.Fault (entry 1) ∷ seen.Done (entry 2) None ∷ []
 
@@ -61,9 +61,10 @@ abbrev pub ReadOvertakenByAPageOutAlreadyOnTheDisk : Type 0
 ReadOvertakenByAPageOutAlreadyOnTheDisk =
     seen_of (
     seens (start (sizes 4) []) (
-    out 0 3 170 ∷ by event.Start ∷ disk_write 3 true ∷ by (event.PageIn (caller 0) (page 3)) ∷ out 1 3 187
-    ∷ by event.Start ∷ disk_read 0 true ∷ disk_write 3 true ∷ by (event.Finish (caller 0)) ∷ disk_read 0 true
-    ∷ by (event.Finish (caller 0))
+    out 0 3 170 ∷ input_by event.Start ∷ disk_write 3 true ∷ input_by (event.PageIn (caller 0) (page 3)) ∷ out 1 3 187
+    ∷ input_by event.Start ∷ disk_read 0 true ∷ disk_write 3 true ∷ input_by (event.Finish (caller 0)) ∷ disk_read 0
+    true
+    ∷ input_by (event.Finish (caller 0))
     ∷ []
     )
     )
@@ -89,30 +90,32 @@ seen_in_the_end is more = seen_of (seens (reach (start (sizes 4) []) is) more)
 
 abbrev failed_read : List Input
 failed_read =
-    out 0 3 170 ∷ by event.Start ∷ disk_write 3 true ∷ by (event.PageIn (caller 0) (page 3)) ∷ disk_read 0 false ∷ []
+    out 0 3 170 ∷ input_by event.Start ∷ disk_write 3 true ∷ input_by (event.PageIn (caller 0) (page 3)) ∷ disk_read 0
+    false ∷ []
 
 abbrev pub FailedDiskReadFailsThePageIn : Type 0
 FailedDiskReadFailsThePageIn =
     (own_ends 0 failed_read ≡ (event.Disk (which.Read (caller 0)) false, seen.ReadFailed (page 3)) ∷ [])
     × (outs_since 0 3 failed_read ≡ [])
-    × (seen_in_the_end failed_read (by (event.Finish (caller 0)) ∷ []) ≡ seen.Fault (entry 1) ∷ [])
+    × (seen_in_the_end failed_read (input_by (event.Finish (caller 0)) ∷ []) ≡ seen.Fault (entry 1) ∷ [])
 
 abbrev pub FailedDiskReadWithANewerPageOut : Type 0
 FailedDiskReadWithANewerPageOut =
     (outs_since 0 3 (failed_read ++ out 1 3 187 ∷ []) ≡ true ∷ [])
-    × (seen_in_the_end (failed_read ++ out 1 3 187 ∷ []) (by (event.Finish (caller 0)) ∷ []) ≡ seen.Done (entry 2) None
+    × (seen_in_the_end (failed_read ++ out 1 3 187 ∷ []) (input_by (event.Finish (caller 0)) ∷ [])
+    ≡ seen.Done (entry 2) None
     ∷ [])
 
 abbrev two_reads : List Input
 two_reads =
-    out 0 3 170 ∷ by event.Start ∷ disk_write 3 true ∷ by (event.PageIn (caller 0) (page 3))
-    ∷ by (event.PageIn (caller 1) (page 3)) ∷ disk_read 1 false ∷ disk_read 0 true ∷ []
+    out 0 3 170 ∷ input_by event.Start ∷ disk_write 3 true ∷ input_by (event.PageIn (caller 0) (page 3))
+    ∷ input_by (event.PageIn (caller 1) (page 3)) ∷ disk_read 1 false ∷ disk_read 0 true ∷ []
 
 abbrev pub AnotherCallersReadFails : Type 0
 AnotherCallersReadFails =
     (own_ends 0 two_reads ≡ (event.Disk (which.Read (caller 0)) true, seen.ReadCame (page 3)) ∷ [])
     × (own_ends 1 two_reads ≡ (event.Disk (which.Read (caller 1)) false, seen.ReadFailed (page 3)) ∷ [])
-    × (seen_in_the_end two_reads (by (event.Finish (caller 0)) ∷ by (event.Finish (caller 1)) ∷ [])
+    × (seen_in_the_end two_reads (input_by (event.Finish (caller 0)) ∷ input_by (event.Finish (caller 1)) ∷ [])
     ≡ seen.Done (entry 1) None
     ∷ seen.Fault (entry 2) ∷ [])
 
@@ -146,7 +149,9 @@ lent_given = seen.Gave (msg.Borrow slab) (Some (msg.Lent slab lease)) 0
 
 -- a page goes out to a lender and comes back from it
 abbrev mapping_events : List Input
-mapping_events = by (event.Connect lender) ∷ by (event.Map slab lender) ∷ by gives ∷ by gives ∷ by takes ∷ []
+mapping_events =
+    input_by (event.Connect lender) ∷ input_by (event.Map slab lender) ∷ input_by gives ∷ input_by gives ∷ input_by
+    takes ∷ []
 
 abbrev mapping_seen : List Seen
 mapping_seen =
@@ -157,8 +162,9 @@ PageInFromALender =
     seen_of (
     seens (start (sizes 4) (lender_spec ∷ [])) (
     mapping_events
-    ++ (out 0 3 170 ∷ by gives ∷ by takes ∷ by event.Start ∷ disk_write 3 true ∷ by (event.PageIn (caller 0) (page 3))
-    ∷ by gives ∷ by takes ∷ by (event.Finish (caller 0)) ∷ [])
+    ++ (out 0 3 170 ∷ input_by gives ∷ input_by takes ∷ input_by event.Start ∷ disk_write 3 true ∷ input_by
+    (event.PageIn (caller 0) (page 3))
+    ∷ input_by gives ∷ input_by takes ∷ input_by (event.Finish (caller 0)) ∷ [])
     )
     )
     ≡ mapping_seen
@@ -172,19 +178,21 @@ PageInFromALender =
 
 -- two lenders: of the second's link all but the greeting is cut away, and both links are made anew; the first, whose
 -- host uses 3 slots on average, asks for the rate of the slot that it lent, and then starts anew
-abbrev second : Lender
-second = record { 0 = 1 }
+abbrev second_lender : Lender
+second_lender = record { 0 = 1 }
 
 abbrev cut_away : List Input
 cut_away =
-    map by (
-    event.Cut second 1 0 ∷ event.Crash second ∷ event.Connect lender ∷ event.Connect second ∷ event.Map slab second
-    ∷ event.Cut second 1 0 ∷ event.Cut second 1 0 ∷ event.Give second ∷ event.Give second ∷ event.Take second ∷ []
+    map input_by (
+    event.Cut second_lender 1 0 ∷ event.Crash second_lender ∷ event.Connect lender ∷ event.Connect second_lender ∷
+    event.Map slab second_lender
+    ∷ event.Cut second_lender 1 0 ∷ event.Cut second_lender 1 0 ∷ event.Give second_lender ∷ event.Give second_lender ∷
+    event.Take second_lender ∷ []
     )
 
 abbrev made_anew : List Input
 made_anew =
-    map by (
+    map input_by (
     event.Connect lender ∷ event.Map slab lender ∷ gives ∷ gives ∷ event.Host lender 15 0 ∷ event.Crash lender
     ∷ event.Connect lender ∷ event.Map slab lender ∷ []
     )
@@ -199,7 +207,8 @@ LinksAreCutAndMadeAnew =
 
 -- the reply of a read that is cut away, and the read at the disk instead
 abbrev out_and_written : List Input
-out_and_written = mapping_events ++ (out 0 3 170 ∷ by gives ∷ by takes ∷ by event.Start ∷ disk_write 3 true ∷ [])
+out_and_written =
+    mapping_events ++ (out 0 3 170 ∷ input_by gives ∷ input_by takes ∷ input_by event.Start ∷ disk_write 3 true ∷ [])
 
 abbrev seen_after_written : List Input → List Seen
 seen_after_written more = seen_of (seens (reach (start (sizes 4) (lender_spec ∷ [])) out_and_written) more)
@@ -207,8 +216,8 @@ seen_after_written more = seen_of (seens (reach (start (sizes 4) (lender_spec �
 abbrev pub LossOfTheReplySendsTheReadToTheDisk : Type 0
 LossOfTheReplySendsTheReadToTheDisk =
     seen_after_written (
-    by (event.PageIn (caller 0) (page 3)) ∷ by gives ∷ by (event.Cut lender 0 0) ∷ by takes
-    ∷ by (event.Finish (caller 0)) ∷ disk_read 0 true ∷ by (event.Finish (caller 0)) ∷ []
+    input_by (event.PageIn (caller 0) (page 3)) ∷ input_by gives ∷ input_by (event.Cut lender 0 0) ∷ input_by takes
+    ∷ input_by (event.Finish (caller 0)) ∷ disk_read 0 true ∷ input_by (event.Finish (caller 0)) ∷ []
     )
     ≡ seen.Wait (via.Lender lender) ∷ seen.Gave (msg.Read lease 3) (Some (msg.PageIs lease 3)) 0 ∷ seen.Cut ∷ seen.Lost
     ∷ seen.Again via.Disk ∷ seen.ReadCame (page 3) ∷ seen.Done (entry 1) None ∷ []
@@ -221,58 +230,62 @@ abbrev roomier : LenderSpec
 roomier = record { slots = 6; headroom = 1; extra = 1 }
 
 abbrev reads_zero : Input
-reads_zero = by (event.PageIn (caller 0) (page 0))
+reads_zero = input_by (event.PageIn (caller 0) (page 0))
 
 abbrev asks_two : List Input
-asks_two = map by (event.Connect lender ∷ event.Connect second ∷ []) ++ replicate 5 reads_zero ++ by (event.Tick 0) ∷ []
+asks_two =
+    map input_by (event.Connect lender ∷ event.Connect second_lender ∷ []) ++ replicate 5 reads_zero
+    ++ input_by (event.Tick 0) ∷ []
 
 abbrev second_gives : Event
-second_gives = event.Give second
+second_gives = event.Give second_lender
 
 abbrev second_takes : Event
-second_takes = event.Take second
+second_takes = event.Take second_lender
 
-abbrev queried : ℕ → Seen
-queried free = seen.Gave (msg.Query slab) (Some (msg.Room slab free)) 0
+abbrev queried_event : ℕ → Seen
+queried_event free = seen.Gave (msg.Query slab) (Some (msg.Room slab free)) 0
 
 abbrev pub TwoLendersAreAskedAndTheFreerLends : Type 0
 TwoLendersAreAskedAndTheFreerLends =
     seen_of (
     seens (reach (start hot_sizes (lender_spec ∷ roomier ∷ [])) (asks_two)) (
-    map by (gives ∷ gives ∷ second_gives ∷ second_gives ∷ takes ∷ second_takes ∷ second_gives ∷ second_takes ∷ [])
+    map input_by (gives ∷ gives ∷ second_gives ∷ second_gives ∷ takes ∷ second_takes ∷ second_gives ∷ second_takes ∷ [])
     ++ out 0 0 170 ∷ []
     )
     )
-    ≡ hello_given ∷ queried 3 ∷ hello_given ∷ queried 5 ∷ seen.Took (msg.Room slab 3) ∷ seen.Took (msg.Room slab 5)
-    ∷ lent_given ∷ seen.Took (msg.Lent slab lease) ∷ seen.Done (entry 5) (Some second) ∷ []
+    ≡ hello_given ∷ queried_event 3 ∷ hello_given ∷ queried_event 5 ∷ seen.Took (msg.Room slab 3) ∷ seen.Took
+    (msg.Room slab 5)
+    ∷ lent_given ∷ seen.Took (msg.Lent slab lease) ∷ seen.Done (entry 5) (Some second_lender) ∷ []
 
 abbrev pub TwoLendersAreAsked : Type 0
 TwoLendersAreAsked =
     seen_of
     (seens
     (reach (start hot_sizes (lender_spec ∷ roomier ∷ []))
-    (map by (event.Connect lender ∷ event.Connect second ∷ []) ++ replicate 5 reads_zero))
-    (by (event.Tick 0) ∷ by (event.Tick 0) ∷ []))
-    ≡ seen.Asked slab lender (Some second) ∷ seen.Ticked ∷ []
+    (map input_by (event.Connect lender ∷ event.Connect second_lender ∷ []) ++ replicate 5 reads_zero))
+    (input_by (event.Tick 0) ∷ input_by (event.Tick 0) ∷ []))
+    ≡ seen.Asked slab lender (Some second_lender) ∷ seen.Ticked ∷ []
 
 -- a lender takes its slot back while a write and a read of it are under way: both are answered before it's given back
-abbrev small : LenderSpec
-small = record { slots = 3; headroom = 1; extra = 0 }
+abbrev small_lender : LenderSpec
+small_lender = record { slots = 3; headroom = 1; extra = 0 }
 
 abbrev written_at_lender : List Input
-written_at_lender = mapping_events ++ (out 0 3 170 ∷ by gives ∷ by takes ∷ by event.Start ∷ disk_write 3 true ∷ [])
+written_at_lender =
+    mapping_events ++ (out 0 3 170 ∷ input_by gives ∷ input_by takes ∷ input_by event.Start ∷ disk_write 3 true ∷ [])
 
 abbrev taken_back : List Input
 taken_back =
-    map by (event.Host lender 10 0 ∷ takes ∷ gives ∷ event.PageIn (caller 0) (page 3) ∷ [])
+    map input_by (event.Host lender 10 0 ∷ takes ∷ gives ∷ event.PageIn (caller 0) (page 3) ∷ [])
     ++ (out 1 2 187
-    ∷ map by
+    ∷ map input_by
     (takes ∷ gives ∷ gives ∷ gives ∷ takes ∷ gives ∷ takes ∷ gives ∷ event.Finish (caller 0)
     ∷ event.PageIn (caller 0) (page 3) ∷ []))
 
 abbrev pub RevocationWithReadAndWriteInFlight : Type 0
 RevocationWithReadAndWriteInFlight =
-    seen_of (seens (reach (start (sizes 4) (small ∷ [])) written_at_lender) taken_back)
+    seen_of (seens (reach (start (sizes 4) (small_lender ∷ [])) written_at_lender) taken_back)
     ≡ seen.Hosted 2 1 ∷ seen.Took (msg.AskRates lease) ∷ seen.Gave (msg.Rates lease 0) None 1
     ∷ seen.Wait (via.Lender lender)
     ∷ seen.Done (entry 1) (Some lender) ∷ seen.Took (msg.Evict lease)

@@ -23,7 +23,7 @@ use Rattle.swap_calls.specs.declared.CallState.TheVariants.{Idle, Room, Reading}
 use Rattle.swap_table.specs.Ports.{Along}
 use Rattle.swap_table.specs.declared.DiskStep.{DiskStep}
 use Rattle.swap_table.specs.declared.DiskStep.TheVariants as ends
-use Rattle.swap_table.specs.Device.{Device, Core, new, disk_take, took_back}
+use Rattle.swap_table.specs.Device.{Device, Core, device_at_start, disk_take, took_back}
 use Rattle.swap_table.specs.Fits.{IsBlank}
 use Rattle.swap_device.specs.State.{GivesLast}
 use Rattle.swap_table.specs.Happens.{see_disk}
@@ -81,7 +81,7 @@ pub data IsRun {D F : Type 0} (disk_moves : D → (c : DiskCall) → DiskAnswer 
 
 -- a device over its ports, its events that had an effect with what was seen of each, the oldest first, and for how
 -- many more there is room
-pub record WorldOf (D F : Type 0) : Type 0 where
+pub record WorldView (D F : Type 0) : Type 0 where
   pub core : Core D F
   pub log : List (Event × Seen)
   pub log_spare : ℕ
@@ -126,7 +126,7 @@ pub record IsReached {D F : Type 0} (disk : DiskMeaning D) (fabric : FabricMeani
   pub parts : AllByRecursion HasParts written
   pub blank : IsBlank sizes (disk.means first)
   pub fresh : fabric.fresh first_fabric (record { sizes = sizes; lenders = lenders })
-  pub run : IsRun disk.moves fabric.moves (new sizes lenders) first first_fabric
+  pub run : IsRun disk.moves fabric.moves (device_at_start sizes lenders) first first_fabric
       (made_of written) core.device core.disk core.fabric
   pub logged : log ≡ logged_of written
 
@@ -240,7 +240,7 @@ GrowsByCalls e before now =
     length now.history + busy_callers now ≤ length before.history + busy_callers before + is_new_call e
 
 -- an event with an effect takes one from the log's room, and stands there with what was seen of it
-pub record IsLogged {D F : Type 0} (e : Event) (s : Seen) (before now : WorldOf D F) : Type 0 where
+pub record IsLogged {D F : Type 0} (e : Event) (s : Seen) (before now : WorldView D F) : Type 0 where
   pub log : now.log ≡ logged_if (has_effect e s) before.log e s
   pub room : now.log_spare ≡ one_less_if (has_effect e s) before.log_spare
 

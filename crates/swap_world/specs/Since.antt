@@ -34,7 +34,7 @@ use Rattle.swap_rings.specs.declared.Request.{Request}
 use Rattle.swap_rings.specs.declared.Request.TheVariants as request
 use Rattle.swap_table.specs.Ports.{Prog, Ret, AskDisk, AskFabric, Along}
 use Rattle.swap_table.specs.Goes.{Asked, Nothing, OfDisk, OfFabric}
-use Rattle.swap_table.specs.Device.{Device, new, disk_take}
+use Rattle.swap_table.specs.Device.{Device, device_at_start, disk_take}
 use Rattle.swap_table.specs.Happens.{happens}
 use Rattle.swap_world.specs.World.{IsStep}
 use Rattle.swap_world.specs.Failures.{is_start_of}
@@ -78,8 +78,8 @@ abbrev pub handed_in : Caller → Device → List Asked → Option (List ℕ)
 handed_in c d [] = None
 handed_in c d (asked ∷ more) = first_of (handed_in c d more) (by_call c d asked)
 
-abbrev pub handed : Caller → Device → List Asked → Option (List ℕ)
-handed c d asked = if is_waiting (state_of d.calls c) then handed_in c d asked else None
+abbrev pub handed_to : Caller → Device → List Asked → Option (List ℕ)
+handed_to c d asked = if is_waiting (state_of d.calls c) then handed_in c d asked else None
 
 -- a call of the fabric that ends a lender's link: a send that finds it down, a take that finds it lost, its end, and a
 -- link that is made in its place
@@ -145,10 +145,10 @@ module _ {D F : Type 0} (disk_moves : D → (c : DiskCall) → DiskAnswer c → 
   last_handed c begin = None
   last_handed c (effect {d = d} {k = k} {f = f} i s d' k' f' run range step has) =
       if is_start_of c i.event s then None
-      else first_of (handed c d (asked_along (happens d i.page i.event) k f k' f' (d', s) step)) (last_handed c run)
+      else first_of (handed_to c d (asked_along (happens d i.page i.event) k f k' f' (d', s) step)) (last_handed c run)
   last_handed c (without i s k' f' run range step has) = last_handed c run
   last_handed c (polled {d = d} {k = k} {f = f} step d' k' f' run along) =
-      first_of (handed c d (asked_along (disk_take d) k f k' f' (d', step) along)) (last_handed c run)
+      first_of (handed_to c d (asked_along (disk_take d) k f k' f' (d', step) along)) (last_handed c run)
 
   -- a page-out of a page was accepted, and a lender's link ended, since a caller's last start
   abbrev pub AcceptedSince :
@@ -177,7 +177,8 @@ abbrev pub GivesWhatWasHanded :
     → (F → (c : FabricCall) → FabricAnswer c → F → Type 0) → Type 0
 GivesWhatWasHanded {D} {F} disk_moves moves =
     (s : Sizes) (n : ℕ) (first : D) (first_fabric : F) (made : List (Input × Seen)) (d : Device) (k : D) (f : F)
-    (run : IsRun disk_moves moves (new s n) first first_fabric made d k f) (i : Input) (seen_ : Seen) (d' : Device)
+    (run : IsRun disk_moves moves (device_at_start s n) first first_fabric made d k f) (i : Input) (seen_ : Seen)
+    (d' : Device)
     (k' : D) (f' : F) (row : Row)
     → IsStep disk_moves moves d k f i seen_ d' k' f' → d'.history ≡ row ∷ d.history → is_read_op row.entry.op ≡ true
     → last_handed disk_moves moves row.entry.caller run ≡ Some row.bytes
@@ -186,21 +187,23 @@ GivesWhatWasHanded {D} {F} disk_moves moves =
 -- through which it waited.
 pub record HasAgainCause {D F : Type 0} (disk : DiskMeaning D) (fabric : FabricMeaning F) (s : Sizes) (n : ℕ)
     (first : D) (first_fabric : F) (made : List (Input × Seen)) (d : Device) (k : D) (f : F)
-    (run : IsRun disk.moves fabric.moves (new s n) first first_fabric made d k f) (c : Caller) : Type 0 where
-  pub page : Page
-  pub entry : EntryNo
-  pub through : Via
-  pub how : Arrived
-  pub newer : Bool
-  pub since : ℕ
-  pub reads : state_of d.calls c ≡ Reading page entry through how newer since
-  pub cause : AcceptedSince disk.moves fabric.moves c page run
-      ⊎ ((l : Lender) × (through ≡ via.Lender l) × EndedSince disk.moves fabric.moves c l run)
+    (run : IsRun disk.moves fabric.moves (device_at_start s n) first first_fabric made d k f) (c : Caller) : Type 0
+  where
+    pub page : Page
+    pub entry : EntryNo
+    pub through : Via
+    pub how : Arrived
+    pub newer : Bool
+    pub since : ℕ
+    pub reads : state_of d.calls c ≡ Reading page entry through how newer since
+    pub cause : AcceptedSince disk.moves fabric.moves c page run
+        ⊎ ((l : Lender) × (through ≡ via.Lender l) × EndedSince disk.moves fabric.moves c l run)
 
 abbrev pub AgainHasCause : {D F : Type 0} → DiskMeaning D → FabricMeaning F → Type 0
 AgainHasCause {D} {F} disk fabric =
     (s : Sizes) (n : ℕ) (first : D) (first_fabric : F) (made : List (Input × Seen)) (d : Device) (k : D) (f : F)
-    (run : IsRun disk.moves fabric.moves (new s n) first first_fabric made d k f) (c : Caller) (page : List ℕ)
+    (run : IsRun disk.moves fabric.moves (device_at_start s n) first first_fabric made d k f) (c : Caller)
+    (page : List ℕ)
     (v : Via) (d' : Device) (k' : D) (f' : F)
     → IsStep disk.moves fabric.moves d k f (record { event = event.Finish c; page = page }) (seen.Again v) d' k' f'
     → HasAgainCause disk fabric s n first first_fabric made d k f run c

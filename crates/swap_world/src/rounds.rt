@@ -3,7 +3,7 @@ ghost use Rattle.std.specs.Prelude.{◌≡◌, ◌+◌, ◌*◌, ◌<◌, ◌≤
 ghost use Rattle.swap_table.specs.Device.{of_device};
 ghost use Rattle.swap_device.specs.State.{KeepsRoom};
 ghost use Rattle.swap_slabs.specs.declared.TheConstants.{MOST_LENDERS};
-ghost use Rattle.swap_world.specs.Rounds.{again, each_lender, Plan, Continues};
+ghost use Rattle.swap_world.specs.Rounds.{plan_again, each_lender, Plan, Continues};
 ghost use Rattle.swap_world.specs.Runs.{Steps};
 
 use crate::events::{give_event, take_event, tick_event};
@@ -22,7 +22,7 @@ fn give_all<D: DiskPort, F: Fabric>(
     requires { lender.0 < device.old.device.lenders }
     ensures goes { (rest : Plan)
         → Continues D.moves F.moves
-        (again times (Event.Give lender) rest) rest device.old device.new result }
+        (plan_again times (Event.Give lender) rest) rest device.old device.new result }
     ensures room { KeepsRoom device.old device.new }
     ensures of { of_device device.new.device ≡ of_device device.old.device }
     ensures most { result ≤ times }
@@ -47,7 +47,7 @@ fn take_all<D: DiskPort, F: Fabric>(
     requires { lender.0 < device.old.device.lenders }
     ensures goes { (rest : Plan)
         → Continues D.moves F.moves
-        (again times (Event.Take lender) rest) rest device.old device.new result }
+        (plan_again times (Event.Take lender) rest) rest device.old device.new result }
     ensures room { KeepsRoom device.old device.new }
     ensures of { of_device device.new.device ≡ of_device device.old.device }
     ensures most { result ≤ times }

@@ -2,7 +2,7 @@ ghost use Rattle.std.specs.Prelude.{◌≡◌, ◌+◌, ◌<◌, ◌≤◌, ◌^
 ghost use Rattle.swap_base.specs.declared.Caller.{Caller};
 ghost use Rattle.swap_wire.specs.Input.{IsInRange};
 ghost use Rattle.swap_calls.specs.Calls.{state_of, is_idle};
-ghost use Rattle.swap_table.specs.Device.{of_device, new};
+ghost use Rattle.swap_table.specs.Device.{of_device, device_at_start};
 ghost use Rattle.swap_table.specs.Happens.{see_out, see_in, see_step, see_start, see_disk, see_tick, see_map, see_link, see_gave, see_cut, see_crash, see_host, see_take};
 ghost use Rattle.swap_table.specs.Fits.{IsBlank};
 ghost use Rattle.swap_device.specs.State.{KeepsRoom};
@@ -30,9 +30,9 @@ pub struct World<D: DiskPort, F: Fabric> {
 
 impl<D: DiskPort, F: Fabric> Model for World<D, F> {
     ghost use Rattle.std.specs.Prelude.{◌-◌, length, vec_capacity};
-    ghost use Rattle.swap_world.specs.Runs.{WorldOf, IsMachine};
+    ghost use Rattle.swap_world.specs.Runs.{WorldView, IsMachine};
 
-    ghost Value = { WorldOf D F };
+    ghost Value = { WorldView D F };
 
     ghost view = { λ w.
         record {
@@ -190,7 +190,7 @@ impl<D: DiskPort + Drop, F: Fabric + Drop> World<D, F> {
         ensures core { IfOk result
             (λ w. w.core
             ≡ record {
-              device = new geometry lenders;
+              device = device_at_start geometry lenders;
               disk = disk;
               fabric = fabric;
               spare = 0;

@@ -6,9 +6,9 @@ use Rattle.std.proofs.lemmas.List.Folds.{find-append}
 use Rattle.swap_io.specs.Causes.{Rose}
 use Rattle.swap_base.specs.declared.DiskWhich.{DiskWhich}
 use Rattle.swap_base.specs.declared.DiskWhich.TheVariants as which
-use Rattle.swap_disk.specs.Disk.{Disk, Flight, Write, Read, Finished, finish_flight, is_flight_of, same_which, which_of, spoilt, settled, after_take_of, taken_of, one_more}
+use Rattle.swap_disk.specs.Disk.{Disk, Flight, Write, Read, Finished, finish_flight, is_flight_of, same_which, which_of, spoil, blocks_after, after_take_of, taken_of, one_more}
 use Rattle.swap_disk.specs.Port.{DiskCall, DiskAnswer, StartWrite, StartRead, TakeDone, LetFinish, Follows, Takes, LetsFinish, settled_with}
-use Rattle.swap_disk.specs.Drive.{Drive, ask, port_of, IsInFlight, IsDrive, Moves}
+use Rattle.swap_disk.specs.MemDiskView.{MemDiskView, ask, port_of, IsInFlight, IsDrive, Moves}
 
 pub same_is : (a b : DiskWhich) → same_which a b ≡ true → a ≡ b
 same_is (which.Write p) (which.Write r) e = ap (λ n. which.Write (record { 0 = n })) (eqb-true p.0 r.0 e)
@@ -68,7 +68,7 @@ finish_range d None None ok h = h
 finish_range d None (Some f) ok h = h
 
 -- every call keeps that
-pub ask_keeps : (d : Drive) (c : DiskCall) → IsDrive d → IsDrive (ask d c).1
+pub ask_keeps : (d : MemDiskView) (c : DiskCall) → IsDrive d → IsDrive (ask d c).1
 ask_keeps d (StartWrite page bytes) h =
     record {
       in_flight = in_flight-append d.disk.flights (Write page bytes ∷ []) d.disk.finished h.in_flight;
@@ -99,7 +99,7 @@ rose true n e = cc
 rose false n e = omega arith
 
 takes :
-    (d : Drive) (fin : Option Finished) → d.disk.finished ≡ fin → IsDrive d
+    (d : MemDiskView) (fin : Option Finished) → d.disk.finished ≡ fin → IsDrive d
     → Takes (port_of d) (taken_of d.disk fin) (port_of (record d { disk = after_take_of d.disk fin }))
 takes d None e h = record { flights = refl; blocks = refl; finished = refl; later = omega arith; none = λ told. e }
 takes d (Some f) e h = record {
@@ -116,16 +116,16 @@ takes d (Some f) e h = record {
 
 -- what a failed write leaves
 abbrev pub left_by : Flight → List ℕ
-left_by (Write page bytes) = spoilt bytes
+left_by (Write page bytes) = spoil bytes
 left_by (Read caller page) = []
 
 settled_left :
-    (blocks : List (List ℕ)) (f : Flight) (ok : Bool) → settled blocks f ok ≡ settled_with blocks f ok (left_by f)
+    (blocks : List (List ℕ)) (f : Flight) (ok : Bool) → blocks_after blocks f ok ≡ settled_with blocks f ok (left_by f)
 settled_left blocks (Write page bytes) true = refl
 settled_left blocks (Write page bytes) false = refl
 settled_left blocks (Read caller page) ok = refl
 
-lets_finish : (d : Drive) (fin : Option Finished) (flight : Option Flight) (ok : Bool) → d.disk.finished ≡ fin
+lets_finish : (d : MemDiskView) (fin : Option Finished) (flight : Option Flight) (ok : Bool) → d.disk.finished ≡ fin
     → LetsFinish (port_of d) (Some d.disk.blocks) fin flight ok (is_none fin && is_some flight)
     (port_of (record d { disk = finish_flight d.disk fin flight ok }))
 lets_finish d (Some f) flight ok e = (refl, refl)
@@ -148,7 +148,7 @@ lets_finish d None (Some f) ok e = (
   },
 )
 
-follows_ask : (d : Drive) (c : DiskCall) → IsDrive d → Follows (port_of d) c (ask d c).0 (port_of (ask d c).1)
+follows_ask : (d : MemDiskView) (c : DiskCall) → IsDrive d → Follows (port_of d) c (ask d c).0 (port_of (ask d c).1)
 follows_ask d (StartWrite page bytes) h = refl
 follows_ask d (StartRead caller page) h = refl
 follows_ask d TakeDone h = (refl, takes d d.disk.finished refl h)
@@ -156,8 +156,8 @@ follows_ask d (LetFinish w ok) h = lets_finish d d.disk.finished (find (is_fligh
 
 -- a drive is a disk
 pub follows :
-    (d : Drive) (c : DiskCall) (answer : DiskAnswer c) (e : Drive) → Moves d c answer e
+    (d : MemDiskView) (c : DiskCall) (answer : DiskAnswer c) (e : MemDiskView) → Moves d c answer e
     → Follows (port_of d) c answer (port_of e)
 follows d c answer e moved =
-    let P : DiskAnswer c × Drive → Type 0 = λ r. Follows (port_of d) c r.0 (port_of r.1) in
+    let P : DiskAnswer c × MemDiskView → Type 0 = λ r. Follows (port_of d) c r.0 (port_of r.1) in
     subst P moved.1 (follows_ask d c moved.0)

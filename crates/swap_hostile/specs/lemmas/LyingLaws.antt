@@ -8,7 +8,7 @@ use Rattle.swap_wire.specs.Fabric.{Parcel, parcel_of, carries_page, Handed, Brou
 use Rattle.swap_link.specs.Harbor as harbor
 use Rattle.swap_link.specs.Harbor.{Harbor}
 use Rattle.swap_link.specs.lemmas.HarborLaws as laws
-use Rattle.swap_hostile.specs.Lying.{Lying, of_lying, lie, told, Moves}
+use Rattle.swap_hostile.specs.Lying.{Lying, of_lying, lie, lie_told, Moves}
 
 pub moves_keep_of :
     (f : Lying) (c : FabricCall) (r : FabricAnswer c) (g : Lying) → Moves f c r g → of_lying g ≡ of_lying f
@@ -24,7 +24,7 @@ lie_fits : (m : Msg) (n : ℕ) → carries_page m ≡ true → length (parcel_of
 lie_fits m n carries = ap (λ b. length {A = ℕ} (cond b (replicate n 255) [])) carries ∙ length-replicate n 255
 
 told_fits :
-    (f : Lying) (h : Handed) → PageFits f.harbor.sizes.page_bytes h → PageFits f.harbor.sizes.page_bytes (told f h)
+    (f : Lying) (h : Handed) → PageFits f.harbor.sizes.page_bytes h → PageFits f.harbor.sizes.page_bytes (lie_told f h)
 told_fits f (Brought q) fits = cond_both (f.came == f.at) _ _ (λ (h : Handed). PageFits f.harbor.sizes.page_bytes h)
     (λ _ p e carries. let same : lie f ≡ p = cc in
     subst (λ (x : Parcel). carries_page x.msg ≡ true → length x.page ≡ f.harbor.sizes.page_bytes) same

@@ -4,12 +4,12 @@ use Rattle.std.specs.Prelude.{option_map}
 use Rattle.std.proofs.lemmas.List.{map-append}
 use Rattle.std.proofs.lemmas.List.Sums.{sum_by-cons}
 use Rattle.swap_base.specs.declared.DiskWhich.{DiskWhich}
-use Rattle.swap_disk.specs.Disk.{Flight, Write, Read, Finished, Taken, is_flight_of, without, done_of, finish_flight}
+use Rattle.swap_disk.specs.Disk.{Flight, Write, Read, Finished, Taken, is_flight_of, without_flight, done_of, finish_flight}
 use Rattle.swap_disk.specs.Port.{Port, DiskCall, DiskAnswer, StartWrite, StartRead, TakeDone, LetFinish, Follows, Takes, EndsOne, EndsNone, writes_in, is_write, oldest_in}
-use Rattle.swap_disk.specs.Drive as drive
-use Rattle.swap_disk.specs.Drive.{Drive, IsDrive}
+use Rattle.swap_disk.specs.MemDiskView as drive
+use Rattle.swap_disk.specs.MemDiskView.{MemDiskView, IsDrive}
 use Rattle.swap_disk.specs.lemmas.Follows.{follows as drive_follows, ask_keeps}
-use Rattle.swap_hostile.specs.Silent.{Silent, unwritten, hidden, port_of, is_well, ended_drive, take_oldest, ask, Moves}
+use Rattle.swap_hostile.specs.Silent.{Silent, unwritten, hide_contents, port_of, is_well, ended_drive, take_oldest, ask, Moves}
 
 -- an operation without its bytes is the same operation
 
@@ -32,16 +32,17 @@ found_hidden w (f ∷ fs) =
     go true rest = refl
     go false rest = rest
 
-without_hidden : (w : DiskWhich) (fs : List Flight) → map unwritten (without w fs) ≡ without w (map unwritten fs)
+without_hidden : (w : DiskWhich) (fs : List Flight)
+    → map unwritten (without_flight w fs) ≡ without_flight w (map unwritten fs)
 without_hidden w [] = refl
 without_hidden w (f ∷ fs) =
     go (is_flight_of w f) (without_hidden w fs)
-    ∙ ap (λ b. cond b (map unwritten fs) (unwritten f ∷ without w (map unwritten fs))) (sym (same_name w f))
+    ∙ ap (λ b. cond b (map unwritten fs) (unwritten f ∷ without_flight w (map unwritten fs))) (sym (same_name w f))
   where
     go :
-        (b : Bool) → map unwritten (without w fs) ≡ without w (map unwritten fs)
-        → map unwritten (cond b fs (f ∷ without w fs))
-        ≡ cond b (map unwritten fs) (unwritten f ∷ without w (map unwritten fs))
+        (b : Bool) → map unwritten (without_flight w fs) ≡ without_flight w (map unwritten fs)
+        → map unwritten (cond b fs (f ∷ without_flight w fs))
+        ≡ cond b (map unwritten fs) (unwritten f ∷ without_flight w (map unwritten fs))
     go true rest = refl
     go false rest = ap (λ gs. unwritten f ∷ gs) rest
 
@@ -75,7 +76,7 @@ writes_hidden (f ∷ fs) =
 
 -- an operation that ends behind a port ends as the port tells it
 
-hides_one : (p q : Port) (t : Taken) → EndsOne p t q → EndsOne (hidden p) t (hidden q)
+hides_one : (p q : Port) (t : Taken) → EndsOne p t q → EndsOne (hide_contents p) t (hide_contents q)
 hides_one p q t one = record {
   flight = unwritten one.flight;
   was = found_hidden t.done.which p.flights ∙ ap (option_map unwritten) one.was;
@@ -88,7 +89,7 @@ hides_one p q t one = record {
   told = tt;
 }
 
-hides_none : (p q : Port) → EndsNone p q → EndsNone (hidden p) (hidden q)
+hides_none : (p q : Port) → EndsNone p q → EndsNone (hide_contents p) (hide_contents q)
 hides_none p q none =
     record {
       flights = ap (map unwritten) none.flights;
@@ -98,14 +99,15 @@ hides_none p q none =
       none = λ told. cc;
     }
 
-hides : (p q : Port) (answer : Option Taken) → Takes p answer q → Takes (hidden p) answer (hidden q)
+hides : (p q : Port) (answer : Option Taken) → Takes p answer q → Takes (hide_contents p) answer (hide_contents q)
 hides p q None = hides_none p q
 hides p q (Some t) = hides_one p q t
 
 -- where the disk behind ends an operation, its port tells nothing of it yet
 ended_hidden :
-    (d : Drive) (fin : Option Finished) (flight : Option Flight) (ok : Bool)
-    → hidden (drive.port_of (record d { disk = finish_flight d.disk fin flight ok })) ≡ hidden (drive.port_of d)
+    (d : MemDiskView) (fin : Option Finished) (flight : Option Flight) (ok : Bool)
+    → hide_contents (drive.port_of (record d { disk = finish_flight d.disk fin flight ok }))
+    ≡ hide_contents (drive.port_of d)
 ended_hidden d (Some f) flight ok = refl
 ended_hidden d None None ok = refl
 ended_hidden d None (Some f) ok = refl
@@ -117,14 +119,15 @@ takes_oldest :
 takes_oldest d None h =
     (refl, record { flights = refl; blocks = refl; finished = refl; later = omega arith; none = λ told. cc })
 takes_oldest d (Some w) h =
-    let e : Drive = ended_drive d w in
+    let e : MemDiskView = ended_drive d w in
     let behind =
     drive_follows e TakeDone (drive.ask e TakeDone).0 (drive.ask e TakeDone).1
     (ask_keeps d.drive (LetFinish w (is_well d)) h, refl) in
-    let same : hidden (drive.port_of e) ≡ port_of d =
+    let same : hide_contents (drive.port_of e) ≡ port_of d =
     ended_hidden d.drive d.drive.disk.finished (find (is_flight_of w) d.drive.disk.flights) (is_well d) in (
       behind.0 ∙ ap (λ (p : Port). p.sizes) same,
-      subst (λ (p : Port). Takes p (drive.ask e TakeDone).0 (hidden (drive.port_of (drive.ask e TakeDone).1))) same
+      subst (λ (p : Port). Takes p (drive.ask e TakeDone).0 (hide_contents (drive.port_of (drive.ask e TakeDone).1)))
+          same
           (hides (drive.port_of e) (drive.port_of (drive.ask e TakeDone).1) (drive.ask e TakeDone).0 behind.1),
     )
 
@@ -154,6 +157,6 @@ follows d c answer e moved =
     subst P moved.1 (follows_ask d c moved.0)
 
 -- the disk behind it stays one
-pub drive_keeps : (d e : Drive) (c : DiskCall) (answer : DiskAnswer c) → drive.Moves d c answer e → IsDrive e
+pub drive_keeps : (d e : MemDiskView) (c : DiskCall) (answer : DiskAnswer c) → drive.Moves d c answer e → IsDrive e
 drive_keeps d e c answer moved =
-    let P : DiskAnswer c × Drive → Type 0 = λ r. IsDrive r.1 in subst P moved.1 (ask_keeps d c moved.0)
+    let P : DiskAnswer c × MemDiskView → Type 0 = λ r. IsDrive r.1 in subst P moved.1 (ask_keeps d c moved.0)

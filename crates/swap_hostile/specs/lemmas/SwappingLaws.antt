@@ -7,21 +7,22 @@ use Rattle.swap_disk.specs.Disk.{Taken, bytes_given}
 use Rattle.swap_disk.specs.Port.{DiskCall, DiskAnswer, StartWrite, StartRead, TakeDone, LetFinish, Follows, Takes, taken_by}
 use Rattle.swap_hostile.specs.Silent.{Silent, port_of}
 use Rattle.swap_hostile.specs.lemmas.SilentLaws.{follows as silent_follows}
-use Rattle.swap_hostile.specs.Swapping.{turned, swapped, Moves}
+use Rattle.swap_hostile.specs.Swapping.{turn_byte, swap_taken, Moves}
 
 -- a buffer that was turned over is what was taken, swapped
 pub swapped_by :
-    (done : DiskDone) (bytes : List ℕ) → taken_by (Some done) (map turned bytes) ≡ swapped (taken_by (Some done) bytes)
+    (done : DiskDone) (bytes : List ℕ) → taken_by (Some done) (map turn_byte bytes)
+    ≡ swap_taken (taken_by (Some done) bytes)
 swapped_by done bytes = ap (λ bs. Some (record { done = done; bytes = bs })) (go done.which done.ok)
   where
-    go : (w : DiskWhich) (ok : Bool) → bytes_given w ok (map turned bytes) ≡ map turned (bytes_given w ok bytes)
+    go : (w : DiskWhich) (ok : Bool) → bytes_given w ok (map turn_byte bytes) ≡ map turn_byte (bytes_given w ok bytes)
     go (which.Read caller) true = refl
     go (which.Read caller) false = refl
     go (which.Write page) ok = refl
 
 takes :
     (d e : Silent) (given : Option Taken) → Takes (port_of d) given (port_of e)
-    → Takes (port_of d) (swapped given) (port_of e)
+    → Takes (port_of d) (swap_taken given) (port_of e)
 takes d e None none = none
 takes d e (Some taken) one =
     record {

@@ -9,7 +9,7 @@ use Rattle.swap_base.specs.declared.Lease.{Lease}
 use Rattle.swap_wire.specs.declared.fabric.Sent.{Sent}
 use Rattle.swap_wire.specs.declared.fabric.Sent.TheVariants as sent_is
 use Rattle.swap_wire.specs.Fabric.{Parcel, write_parcel, read_parcel, Handed, Brought, FabricCall, Connect, Send, Take, FabricAnswer, carries_page, is_page, ends_keeping, changes_owing}
-use Rattle.swap_link.specs.Channel.{Channel, connected, sent, taken, taken_from, on_channel}
+use Rattle.swap_link.specs.Channel.{Channel, connect_after, send_after, take_after, taken_from, on_channel}
 use Rattle.swap_link.specs.Keeping.{Keeps, Owes}
 use Rattle.swap_link.specs.Harbor.{Harbor, of_harbor, no_channel, channel_of, with_channel, lender_of, ask, IsAsked, Moves, KeepsAt, OwesAt}
 use Rattle.swap_link.specs.lemmas.KeepLaws.{keeps-call, keeps-write}
@@ -64,8 +64,8 @@ kept_until f c r g l k i bytes moved kept =
 
 -- a write that is sent
 sent-keeps :
-    (ch : Channel) (k : Lease) (i : ℕ) (bytes : List ℕ) → (sent ch (write_parcel k i bytes)).0 ≡ sent_is.Sent
-    → Keeps (sent ch (write_parcel k i bytes)).1 k i bytes
+    (ch : Channel) (k : Lease) (i : ℕ) (bytes : List ℕ) → (send_after ch (write_parcel k i bytes)).0 ≡ sent_is.Sent
+    → Keeps (send_after ch (write_parcel k i bytes)).1 k i bytes
 sent-keeps ch k i bytes =
     cond_both ch.device_gone _ _ (λ (x : Sent × Channel). x.0 ≡ sent_is.Sent → Keeps x.1 k i bytes) (λ _ e. cc)
     (λ _ _. keeps-write ch k i bytes)
@@ -78,7 +78,7 @@ write_is_kept f l k i bytes g moved =
     subst P moved.1
     (λ e.
     subst (λ ch. Keeps ch k i bytes)
-    (sym (called f l (sent (channel_of f l) (write_parcel k i bytes)).1 moved.0.range))
+    (sym (called f l (send_after (channel_of f l) (write_parcel k i bytes)).1 moved.0.range))
     (sent-keeps (channel_of f l) k i bytes e))
     refl
 
@@ -98,12 +98,13 @@ pub new_link_owes_none : (f : Harbor) (l : Lender) (n : Link) (g : Harbor) → M
 new_link_owes_none f l n g moved =
     let P : Unit {0} × Harbor → Type 0 = λ x. OwesAt x.1 l [] in
     subst P moved.1
-    (subst (λ ch. Owes ch []) (sym (called f l (connected (channel_of f l) n) moved.0.range))
+    (subst (λ ch. Owes ch []) (sym (called f l (connect_after (channel_of f l) n) moved.0.range))
     (owes-connected (channel_of f l) n))
 
 sent-owes :
     (ch : Channel) (k : Lease) (i : ℕ) (bytes : List ℕ) (pages : List (List ℕ)) → Owes ch pages → Keeps ch k i bytes
-    → (sent ch (read_parcel k i)).0 ≡ sent_is.Sent → Owes (sent ch (read_parcel k i)).1 (pages ++ bytes ∷ [])
+    → (send_after ch (read_parcel k i)).0 ≡ sent_is.Sent
+    → Owes (send_after ch (read_parcel k i)).1 (pages ++ bytes ∷ [])
 sent-owes ch k i bytes pages owed kept =
     cond_both ch.device_gone _ _ (λ (x : Sent × Channel). x.0 ≡ sent_is.Sent → Owes x.1 (pages ++ bytes ∷ []))
     (λ _ e. cc)
@@ -118,7 +119,7 @@ read_is_owed f l k i bytes pages g moved owed kept =
     subst P moved.1
     (λ e.
     subst (λ ch. Owes ch (pages ++ bytes ∷ []))
-    (sym (called f l (sent (channel_of f l) (read_parcel k i)).1 moved.0.range))
+    (sym (called f l (send_after (channel_of f l) (read_parcel k i)).1 moved.0.range))
     (sent-owes (channel_of f l) k i bytes pages owed kept e))
     refl
 
@@ -130,7 +131,7 @@ paged f l p g page rest moved is owed =
     let P : Handed × Harbor → Type 0 = λ x. x.0 ≡ Brought p → OwesAt x.1 l rest × (page ≡ p.page) in
     subst P moved.1
     (λ e.
-    subst (λ ch. Owes ch rest × (page ≡ p.page)) (sym (called f l (taken (channel_of f l)).1 moved.0.range))
+    subst (λ ch. Owes ch rest × (page ≡ p.page)) (sym (called f l (take_after (channel_of f l)).1 moved.0.range))
     (paged-taken (channel_of f l) p page rest owed is e))
     refl
 
@@ -165,7 +166,7 @@ fits-taken_from ch (q ∷ ps) p page_bytes fit = λ e.
 fits-taken :
     (ch : Channel) (p : Parcel) (page_bytes : ℕ)
     → All (λ (q : Parcel). carries_page q.msg ≡ true → length q.page ≡ page_bytes) ch.to_device.parcels
-    → (taken ch).0 ≡ Brought p → carries_page p.msg ≡ true → length p.page ≡ page_bytes
+    → (take_after ch).0 ≡ Brought p → carries_page p.msg ≡ true → length p.page ≡ page_bytes
 fits-taken ch p page_bytes fit =
     cond_both ch.device_gone _ _
     (λ (x : Handed × Channel). x.0 ≡ Brought p → carries_page p.msg ≡ true → length p.page ≡ page_bytes) (λ _ e. cc)

@@ -11,9 +11,9 @@ use Rattle.swap_wire.specs.declared.fabric.Sent.{Sent}
 use Rattle.swap_wire.specs.declared.fabric.Gave.{Gave}
 use Rattle.swap_wire.specs.Fabric.{Parcel, write_parcel, Handed, FabricCall, Connect, Send, Take, End, Give, Cut, Crash, Host, same_lender, replaces, send_ends_keeping, ends_keeping}
 use Rattle.swap_lender.specs.Lender.{Lender}
-use Rattle.swap_lender.specs.Table.{Turn, quiet, took, serve, may_send, host}
-use Rattle.swap_link.specs.Lane.{Lane, appended}
-use Rattle.swap_link.specs.Channel.{Channel, sent, taken, taken_from, served, given, given_from, delivered, crashed, on_channel}
+use Rattle.swap_lender.specs.Table.{Turn, quiet_turn, took_after, serve, may_send, host}
+use Rattle.swap_link.specs.Lane.{Lane, append_after}
+use Rattle.swap_link.specs.Channel.{Channel, send_after, take_after, taken_from, serve_after, give_after, given_from, deliver_after, crash_after, on_channel}
 use Rattle.swap_link.specs.Fits.{IsSound, IsChannel}
 use Rattle.swap_link.specs.Keeping.{Unless, slot_page, left_by, left_after, Keeps, zero_page}
 use Rattle.swap_link.specs.Harbor.{lender_of}
@@ -36,8 +36,8 @@ and-second true b e h = h
 and-second false b e h = cc
 
 pub took-served :
-    (l : Lender) (n : Link) (m : Msg) (page : List ℕ) → may_send l n m ≡ true → took l n m page ≡ serve l n m page
-took-served l n m page may = cond-true (may_send l n m) (serve l n m page) (quiet l) may
+    (l : Lender) (n : Link) (m : Msg) (page : List ℕ) → may_send l n m ≡ true → took_after l n m page ≡ serve l n m page
+took-served l n m page may = cond-true (may_send l n m) (serve l n m page) (quiet_turn l) may
 
 -- a message more
 
@@ -56,7 +56,7 @@ left-kept k i _ page was e = refl
 
 keeps-append :
     (ch : Channel) (p : Parcel) (k : Lease) (i : ℕ) (bytes : List ℕ) → replaces k i p.msg ≡ false → Keeps ch k i bytes
-    → Keeps (record ch { to_lender = appended ch.to_lender p }) k i bytes
+    → Keeps (record ch { to_lender = append_after ch.to_lender p }) k i bytes
 keeps-append ch p k i bytes e kept =
     let Q : Lane → Type 0 = λ l. Keeps (record ch { to_lender = l }) k i bytes in
     cond_both ch.to_lender.ended _ _ Q (λ _. kept)
@@ -70,7 +70,7 @@ keeps-append ch p k i bytes e kept =
 
 pub keeps-write :
     (ch : Channel) (k : Lease) (i : ℕ) (bytes : List ℕ)
-    → Keeps (record ch { to_lender = appended ch.to_lender (write_parcel k i bytes) }) k i bytes
+    → Keeps (record ch { to_lender = append_after ch.to_lender (write_parcel k i bytes) }) k i bytes
 keeps-write ch k i bytes =
     let Q : Lane → Type 0 = λ l. Keeps (record ch { to_lender = l }) k i bytes in
     cond_both ch.to_lender.ended _ _ Q
@@ -89,7 +89,7 @@ keeps-write ch k i bytes =
 
 keeps-send :
     (ch : Channel) (p : Parcel) (k : Lease) (i : ℕ) (bytes : List ℕ) → Keeps ch k i bytes
-    → send_ends_keeping k i p (sent ch p).0 ≡ false → Keeps (sent ch p).1 k i bytes
+    → send_ends_keeping k i p (send_after ch p).0 ≡ false → Keeps (send_after ch p).1 k i bytes
 keeps-send ch p k i bytes kept =
     cond_both ch.device_gone _ _ (λ (x : Sent × Channel). send_ends_keeping k i p x.0 ≡ false → Keeps x.1 k i bytes)
     (λ _ e. cc) (λ _ e. keeps-append ch p k i bytes e kept)
@@ -102,7 +102,8 @@ keeps-taken_from ch [] k i bytes kept =
     (λ _. unless ch.lender_gone _ (λ _. tt)) (λ _. kept)
 keeps-taken_from ch (p ∷ ps) k i bytes kept = kept
 
-keeps-take : (ch : Channel) (k : Lease) (i : ℕ) (bytes : List ℕ) → Keeps ch k i bytes → Keeps (taken ch).1 k i bytes
+keeps-take : (ch : Channel) (k : Lease) (i : ℕ) (bytes : List ℕ) → Keeps ch k i bytes
+    → Keeps (take_after ch).1 k i bytes
 keeps-take ch k i bytes kept =
     cond_both ch.device_gone _ _ (λ (x : Handed × Channel). Keeps x.1 k i bytes) (λ _. kept)
     (λ _. keeps-taken_from ch ch.to_device.parcels k i bytes kept)
@@ -117,7 +118,7 @@ keeps-served : (ch : Channel) (p : Parcel) (k : Lease) (i : ℕ) (bytes : List �
     (Unless ch.to_lender.ended
     (left_after k i ch.to_lender.parcels (left_by k i p.msg p.page (slot_page ch.lender ch.number k i))
     ≡ Some bytes))
-    → Keeps (served ch p).1 k i bytes
+    → Keeps (serve_after ch p).1 k i bytes
 keeps-served ch p k i bytes s kept =
     cond_both (may_send ch.lender ch.number p.msg) _ _ (λ (x : Gave × Channel). Keeps x.1 k i bytes)
     (λ may.
@@ -149,19 +150,19 @@ keeps-given_from ch (p ∷ ps) k i bytes s e kept =
 
 keeps-give :
     (ch : Channel) (k : Lease) (i : ℕ) (bytes : List ℕ) → IsSound ch.lender → Keeps ch k i bytes
-    → Keeps (given ch).1 k i bytes
+    → Keeps (give_after ch).1 k i bytes
 keeps-give ch k i bytes s kept =
     cond_both ch.lender_gone _ _ (λ (x : Gave × Channel). Keeps x.1 k i bytes) (λ _. kept)
     (λ _. keeps-given_from ch ch.to_lender.parcels k i bytes s refl kept)
 
-keeps-crash : (ch : Channel) (k : Lease) (i : ℕ) (bytes : List ℕ) → Keeps (crashed ch) k i bytes
+keeps-crash : (ch : Channel) (k : Lease) (i : ℕ) (bytes : List ℕ) → Keeps (crash_after ch) k i bytes
 keeps-crash ch k i bytes =
     cond_both ch.lender_gone _ _ (λ (x : Channel). Keeps x k i bytes)
     (λ h. unless ch.lender_gone _ (λ f. absurd (both_ways ch.lender_gone f h))) (λ _. tt)
 
 keeps-host :
     (ch : Channel) (used word : ℕ) (k : Lease) (i : ℕ) (bytes : List ℕ) → Keeps ch k i bytes
-    → Keeps (delivered ch (host ch.lender used word)) k i bytes
+    → Keeps (deliver_after ch (host ch.lender used word)) k i bytes
 keeps-host ch used word k i bytes kept =
     unless-map ch.lender_gone _ _
     (unless-map ch.to_lender.ended _ _

@@ -17,10 +17,10 @@ use Rattle.swap_lender.specs.declared.SlotState.{SlotState}
 use Rattle.swap_lender.specs.declared.SlotState.TheVariants.{Free, Held}
 use Rattle.swap_lender.specs.declared.Notice.{Notice}
 use Rattle.swap_lender.specs.declared.Notice.TheVariants as notice
-use Rattle.swap_lender.specs.Lender.{Lender, slot_of, page_in, lends, free}
-use Rattle.swap_lender.specs.Table.{Turn, told, tell_slot, message_of, settle_with, due, serve, may_send, host, opens, measured, asked}
-use Rattle.swap_link.specs.Lane.{Lane, appended}
-use Rattle.swap_link.specs.Channel.{Channel, connected, sent, taken, taken_from, posted, forwarded, served, given, given_from, delivered, abandoned, severed, crashed, on_channel}
+use Rattle.swap_lender.specs.Lender.{Lender, slot_of, page_in, lends, slots_free}
+use Rattle.swap_lender.specs.Table.{Turn, parcels_told, tell_slot, message_of, settle_with, slots_due, serve, may_send, host, opens, measure_after, asked_slots}
+use Rattle.swap_link.specs.Lane.{Lane, append_after}
+use Rattle.swap_link.specs.Channel.{Channel, connect_after, send_after, take_after, taken_from, post_after, forward_after, serve_after, give_after, given_from, deliver_after, leave_after, cut_after, crash_after, on_channel}
 use Rattle.swap_link.specs.Fits.{IsSound, IsChannel}
 use Rattle.swap_link.specs.Keeping.{Unless, slot_page, left_by, left_after, Keeps, pages_in, Begins, GivenNone, IsGiven, FirstIs, AskedBy, ReadsOwed, zero_page, LaterOwed, Owes}
 use Rattle.swap_link.specs.Harbor.{lender_of}
@@ -199,7 +199,7 @@ reads-loose e next z S (q ∷ ps) pages h =
 
 later-append :
     (ch : Channel) (p : Parcel) (xs : List (List ℕ)) → is_read p.msg ≡ false → LaterOwed ch xs
-    → LaterOwed (record ch { to_lender = appended ch.to_lender p }) xs
+    → LaterOwed (record ch { to_lender = append_after ch.to_lender p }) xs
 later-append ch p xs plain h =
     let Q : Lane → Type 0 = λ l. LaterOwed (record ch { to_lender = l }) xs in
     cond_both ch.to_lender.ended _ _ Q (λ _. h)
@@ -209,7 +209,7 @@ later-append ch p xs plain h =
 
 owes-append :
     (ch : Channel) (p : Parcel) (pages : List (List ℕ)) → is_read p.msg ≡ false → Owes ch pages
-    → Owes (record ch { to_lender = appended ch.to_lender p }) pages
+    → Owes (record ch { to_lender = append_after ch.to_lender p }) pages
 owes-append ch p pages plain h =
     begins-map (pages_in ch.to_device.parcels) _ _ pages
     (λ xs. unless-map ch.lender_gone _ _ (unless-map ch.to_device.ended _ _ (later-append ch p xs plain))) h
@@ -217,7 +217,8 @@ owes-append ch p pages plain h =
 later-read :
     (ch : Channel) (k : Lease) (i : ℕ) (bytes : List ℕ) (xs : List (List ℕ))
     → Unless ch.to_lender.ended (left_after k i ch.to_lender.parcels (slot_page ch.lender ch.number k i) ≡ Some bytes)
-    → LaterOwed ch xs → LaterOwed (record ch { to_lender = appended ch.to_lender (read_parcel k i) }) (xs ++ bytes ∷ [])
+    → LaterOwed ch xs → LaterOwed (record ch { to_lender = append_after ch.to_lender (read_parcel k i) }) (xs
+    ++ bytes ∷ [])
 later-read ch k i bytes xs kept h =
     let Q : Lane → Type 0 = λ l. LaterOwed (record ch { to_lender = l }) (xs ++ bytes ∷ []) in
     let S : Lease → ℕ → Option (List ℕ) = λ k i. slot_page ch.lender ch.number k i in
@@ -242,7 +243,7 @@ later-read ch k i bytes xs kept h =
 
 pub owes-read :
     (ch : Channel) (k : Lease) (i : ℕ) (bytes : List ℕ) (pages : List (List ℕ)) → Keeps ch k i bytes → Owes ch pages
-    → Owes (record ch { to_lender = appended ch.to_lender (read_parcel k i) }) (pages ++ bytes ∷ [])
+    → Owes (record ch { to_lender = append_after ch.to_lender (read_parcel k i) }) (pages ++ bytes ∷ [])
 owes-read ch k i bytes pages kept h =
     begins-more (pages_in ch.to_device.parcels) _ _ pages (bytes ∷ [])
     (λ xs r.
@@ -255,8 +256,9 @@ owes-read ch k i bytes pages kept h =
     h
 
 owes-send :
-    (ch : Channel) (p : Parcel) (pages : List (List ℕ)) → Owes ch pages → send_changes_owing p (sent ch p).0 ≡ false
-    → Owes (sent ch p).1 pages
+    (ch : Channel) (p : Parcel) (pages : List (List ℕ)) → Owes ch pages
+    → send_changes_owing p (send_after ch p).0 ≡ false
+    → Owes (send_after ch p).1 pages
 owes-send ch p pages h =
     cond_both ch.device_gone _ _ (λ (x : Sent × Channel). send_changes_owing p x.0 ≡ false → Owes x.1 pages) (λ _ e. cc)
     (λ _ e. owes-append ch p pages e h)
@@ -275,8 +277,8 @@ owes-taken_from ch (p ∷ ps) pages is h = λ e.
     (subst (λ qs. Begins (pages_in qs) P pages) is h)
 
 owes-take :
-    (ch : Channel) (pages : List (List ℕ)) → Owes ch pages → take_changes_owing (taken ch).0 ≡ false
-    → Owes (taken ch).1 pages
+    (ch : Channel) (pages : List (List ℕ)) → Owes ch pages → take_changes_owing (take_after ch).0 ≡ false
+    → Owes (take_after ch).1 pages
 owes-take ch pages h =
     cond_both ch.device_gone _ _ (λ (x : Handed × Channel). take_changes_owing x.0 ≡ false → Owes x.1 pages) (λ _ _. h)
     (λ _. owes-taken_from ch ch.to_device.parcels pages refl h)
@@ -302,7 +304,7 @@ paged-taken_from ch (q ∷ ps) p page rest is h paged = λ e.
 
 pub paged-taken :
     (ch : Channel) (p : Parcel) (page : List ℕ) (rest : List (List ℕ)) → Owes ch (page ∷ rest) → is_page p.msg ≡ true
-    → (taken ch).0 ≡ Brought p → Owes (taken ch).1 rest × (page ≡ p.page)
+    → (take_after ch).0 ≡ Brought p → Owes (take_after ch).1 rest × (page ≡ p.page)
 paged-taken ch p page rest h paged =
     cond_both ch.device_gone _ _ (λ (x : Handed × Channel). x.0 ≡ Brought p → Owes x.1 rest × (page ≡ p.page))
     (λ _ e. cc) (λ _. paged-taken_from ch ch.to_device.parcels p page rest refl h paged)
@@ -315,7 +317,7 @@ Coming gone lane R pages = Begins (pages_in lane.parcels) (λ later. Unless gone
 coming-plain :
     (gone : Bool) (lane : Lane) (R : List (List ℕ) → Type 0) (p : Parcel) (pages : List (List ℕ))
     → is_page p.msg ≡ false
-    → Coming gone lane R pages → Coming gone (appended lane p) R pages
+    → Coming gone lane R pages → Coming gone (append_after lane p) R pages
 coming-plain gone lane R p pages plain h =
     let Q : Lane → Type 0 = λ l. Coming gone l R pages in
     cond_both lane.ended _ _ Q (λ _. h) (λ _. cond_both (nat_lt (length lane.parcels) lane.room) _ _ Q
@@ -327,7 +329,7 @@ coming-plain gone lane R p pages plain h =
 coming-page :
     (gone : Bool) (lane : Lane) (R : List (List ℕ) → Type 0) (p : Parcel) (pages : List (List ℕ)) → gone ≡ false
     → is_page p.msg ≡ true → Coming gone lane (FirstIs (λ page. page ≡ p.page) R) pages
-    → Coming gone (appended lane p) R pages
+    → Coming gone (append_after lane p) R pages
 coming-page gone lane R p pages stands paged h =
     let Q : Lane → Type 0 = λ l. Coming gone l R pages in
     cond_both lane.ended _ _ Q
@@ -359,10 +361,11 @@ IsPlain q = is_page q.1.msg ≡ false
 coming-forwarded :
     (gone : Bool) (n : Link) (lane : Lane) (R : List (List ℕ) → Type 0) (qs : List (Link × Parcel))
     (pages : List (List ℕ))
-    → All IsPlain qs → Coming gone lane R pages → Coming gone (forwarded n lane qs) R pages
+    → All IsPlain qs → Coming gone lane R pages → Coming gone (forward_after n lane qs) R pages
 coming-forwarded gone n lane R [] pages plain h = h
 coming-forwarded gone n lane R (q ∷ qs) pages plain h =
-    coming-forwarded gone n (posted n lane q.0 (parcel_of q.1.msg q.1.page)) R qs pages (All-tail IsPlain q qs plain)
+    coming-forwarded gone n (post_after n lane q.0 (parcel_of q.1.msg q.1.page)) R qs pages
+    (All-tail IsPlain q qs plain)
     (cond_both (q.0.0 == n.0) _ _ (λ l. Coming gone l R pages)
     (λ _. coming-plain gone lane R (parcel_of q.1.msg q.1.page) pages (All-head IsPlain q qs plain) h) (λ _. h))
 
@@ -379,10 +382,10 @@ tell-plain kind true Free = All-nil IsPlain
 tell-plain kind true (Held link slab lease evicting) =
     one-plain (link, parcel_of (message_of kind lease) []) (notice-plain kind lease)
 
-told-plain : (kind : Notice) (set from : ℕ) (slots : List SlotState) → All IsPlain (told kind set from slots)
+told-plain : (kind : Notice) (set from : ℕ) (slots : List SlotState) → All IsPlain (parcels_told kind set from slots)
 told-plain kind set from [] = All-nil IsPlain
 told-plain kind set from (s ∷ ss) =
-    All-append IsPlain (tell_slot kind (has set from) s) (told kind set (from + 1) ss)
+    All-append IsPlain (tell_slot kind (has set from) s) (parcels_told kind set (from + 1) ss)
     (tell-plain kind (has set from) s)
     (told-plain kind set (from + 1) ss)
 
@@ -392,7 +395,7 @@ settle-plain l (Some set) = told-plain notice.Evict set 0 l.slots
 
 serve-plain :
     (l : Lender) (n : Link) (m : Msg) (page : List ℕ) → is_read m ≡ false → All IsPlain (serve l n m page).parcels
-serve-plain l n (msg.Query slab) page e = one-plain (n, parcel_of (msg.Room slab (free l)) []) refl
+serve-plain l n (msg.Query slab) page e = one-plain (n, parcel_of (msg.Room slab (slots_free l)) []) refl
 serve-plain l n (msg.Borrow slab) page e =
     cond_both (lends l) _ _ (λ (t : Turn). All IsPlain t.parcels)
     (λ _. one-plain (n, parcel_of (msg.Lent slab (record { 0 = l.next_lease })) []) refl)
@@ -401,13 +404,14 @@ serve-plain l n (msg.Write lease place) page e = one-plain (n, parcel_of (msg.Wr
 serve-plain l n (msg.Read lease place) page e = cc
 serve-plain l n (msg.Rates lease value) page e =
     settle-plain (record l { round = option_map (answer (slot_of l n lease) value) l.round })
-    (due (option_map (answer (slot_of l n lease) value) l.round))
+    (slots_due (option_map (answer (slot_of l n lease) value) l.round))
 serve-plain l n _ page e = All-nil IsPlain
 
 host-plain : (l : Lender) (used word : ℕ) → All IsPlain (host l used word).parcels
 host-plain l used word =
-    cond_both (opens (measured l used)) _ _ (λ (t : Turn). All IsPlain t.parcels)
-    (λ _. told-plain notice.AskRates (asked (measured l used) word) 0 (measured l used).slots) (λ _. All-nil IsPlain)
+    cond_both (opens (measure_after l used)) _ _ (λ (t : Turn). All IsPlain t.parcels)
+    (λ _. told-plain notice.AskRates (asked_slots (measure_after l used) word) 0 (measure_after l used).slots)
+    (λ _. All-nil IsPlain)
 
 -- give
 
@@ -439,7 +443,7 @@ owes-plain :
     (pages : List (List ℕ))
     → IsSound l → may_send l n m ≡ true → is_read m ≡ false
     → Coming gone dev (Front l n ended ps m page) pages
-    → Coming gone (forwarded n dev (serve l n m page).parcels) (After (serve l n m page).lender n ended ps) pages
+    → Coming gone (forward_after n dev (serve l n m page).parcels) (After (serve l n m page).lender n ended ps) pages
 owes-plain l n m page ended ps dev gone pages s may plain h =
     coming-forwarded gone n dev (After (serve l n m page).lender n ended ps) (serve l n m page).parcels pages
     (serve-plain l n m page plain)
@@ -462,7 +466,7 @@ owes-serve :
     (pages : List (List ℕ))
     → IsSound l → may_send l n m ≡ true → gone ≡ false
     → Coming gone dev (Front l n ended ps m page) pages
-    → Coming gone (forwarded n dev (serve l n m page).parcels) (After (serve l n m page).lender n ended ps) pages
+    → Coming gone (forward_after n dev (serve l n m page).parcels) (After (serve l n m page).lender n ended ps) pages
 owes-serve l n (msg.Read k i) page ended ps dev gone pages s may stands h =
     let shown : slot_page l n k i ≡ Some (page_in l.contents (slot_of l n k) i) = cond-true _ _ _ may in
     let own : (n.0 == n.0) ≡ true = eq-eqb n.0 n.0 refl in
@@ -487,18 +491,18 @@ owes-serve l n _ page ended ps dev gone pages s may stands h = cc
 
 owes-abandon :
     (ch : Channel) (pages : List (List ℕ)) (R : List (List ℕ) → Type 0) → Coming ch.lender_gone ch.to_device R pages
-    → Owes (abandoned ch) pages
+    → Owes (leave_after ch) pages
 owes-abandon ch pages R h = begins-map (pages_in ch.to_device.parcels) _ _ pages (λ xs _. tt) h
 
 owes-served :
     (ch : Channel) (p : Parcel) (pages : List (List ℕ)) → IsSound ch.lender → ch.lender_gone ≡ false
     → Coming ch.lender_gone ch.to_device
     (Front ch.lender ch.number ch.to_lender.ended ch.to_lender.parcels p.msg p.page) pages
-    → Owes (served ch p).1 pages
+    → Owes (serve_after ch p).1 pages
 owes-served ch p pages s stands h =
     cond_both (may_send ch.lender ch.number p.msg) _ _ (λ (x : Gave × Channel). Owes x.1 pages)
     (λ may.
-    subst (λ (t : Turn). Owes (delivered ch t) pages) (sym (took-served ch.lender ch.number p.msg p.page may))
+    subst (λ (t : Turn). Owes (deliver_after ch t) pages) (sym (took-served ch.lender ch.number p.msg p.page may))
     (owes-serve ch.lender ch.number p.msg p.page ch.to_lender.ended ch.to_lender.parcels ch.to_device ch.lender_gone
     pages s may stands h))
     (λ _. owes-abandon ch pages _ h)
@@ -512,7 +516,7 @@ owes-given_from ch (p ∷ ps) pages s stands is h =
     owes-served (record ch { to_lender = record ch.to_lender { parcels = ps } }) p pages s stands
     (subst (λ qs. Coming ch.lender_gone ch.to_device (After ch.lender ch.number ch.to_lender.ended qs) pages) is h)
 
-owes-give : (ch : Channel) (pages : List (List ℕ)) → IsSound ch.lender → Owes ch pages → Owes (given ch).1 pages
+owes-give : (ch : Channel) (pages : List (List ℕ)) → IsSound ch.lender → Owes ch pages → Owes (give_after ch).1 pages
 owes-give ch pages s h =
     cond_both ch.lender_gone _ _ (λ (x : Gave × Channel). Owes x.1 pages) (λ _. h)
     (λ stands. owes-given_from ch ch.to_lender.parcels pages s stands refl h)
@@ -521,12 +525,12 @@ owes-give ch pages s h =
 
 owes-cut :
     (ch : Channel) (to_lender to_device : ℕ) (pages : List (List ℕ)) → Owes ch pages
-    → Owes (severed ch to_lender to_device).1 pages
+    → Owes (cut_after ch to_lender to_device).1 pages
 owes-cut ch to_lender to_device pages h =
     begins-map (pages_in (take to_device ch.to_device.parcels)) _ _ pages (λ xs _. unless ch.lender_gone _ (λ _. tt))
     (begins-cut ch.to_device.parcels to_device _ pages h)
 
-owes-crash : (ch : Channel) (pages : List (List ℕ)) → Owes ch pages → Owes (crashed ch) pages
+owes-crash : (ch : Channel) (pages : List (List ℕ)) → Owes ch pages → Owes (crash_after ch) pages
 owes-crash ch pages h =
     cond_both ch.lender_gone _ _ (λ (x : Channel). Owes x pages)
     (λ gone.
@@ -551,7 +555,7 @@ host-reads l n used word ended ps xs h =
 
 owes-host :
     (ch : Channel) (used word : ℕ) (pages : List (List ℕ)) → Owes ch pages
-    → Owes (delivered ch (host ch.lender used word)) pages
+    → Owes (deliver_after ch (host ch.lender used word)) pages
 owes-host ch used word pages h =
     coming-forwarded ch.lender_gone ch.number ch.to_device
     (After (host ch.lender used word).lender ch.number ch.to_lender.ended ch.to_lender.parcels)
@@ -563,7 +567,7 @@ owes-host ch used word pages h =
     (host-reads ch.lender ch.number used word ch.to_lender.ended ch.to_lender.parcels xs)))
     h)
 
-pub owes-connected : (ch : Channel) (n : Link) → Owes (connected ch n) []
+pub owes-connected : (ch : Channel) (n : Link) → Owes (connect_after ch n) []
 owes-connected ch n = refl
 
 pub owes-call :

@@ -16,8 +16,8 @@ use Rattle.swap_choice.specs.Slots.{has}
 use Rattle.swap_evict.specs.Rounds.{answer}
 use Rattle.swap_lender.specs.declared.SlotState.{SlotState}
 use Rattle.swap_lender.specs.declared.SlotState.TheVariants.{Free, Held}
-use Rattle.swap_lender.specs.Lender.{Lender, blank, is_free, has_lease, first_where, lends, holds, slot_of, page_in, with_page}
-use Rattle.swap_lender.specs.Table.{Turn, marked, mark_slot, settle_with, due, lend, write, may_reach, may_send, serve, done, host, measured, opens}
+use Rattle.swap_lender.specs.Lender.{Lender, blank_slab, is_free, has_lease, first_where, lends, holds, slot_of, page_in, with_page}
+use Rattle.swap_lender.specs.Table.{Turn, mark_slots, mark_slot, settle_with, slots_due, lend, write, may_reach, may_send, serve, done_after, host, measure_after, opens}
 use Rattle.swap_link.specs.Fits.{IsSound, lease_of, lease_at}
 use Rattle.swap_link.specs.Keeping.{slot_page, left_by, left_after}
 use Rattle.swap_link.specs.lemmas.Sound.{length-marked, some-same, fewer-free, lease-set, reached}
@@ -106,7 +106,7 @@ marked-has n k true (Held link slab lease evicting) = refl
 
 pub marked-first :
     (n : Link) (k : Lease) (set from : ℕ) (slots : List SlotState)
-    → first_where (has_lease n k) (marked set from slots) ≡ first_where (has_lease n k) slots
+    → first_where (has_lease n k) (mark_slots set from slots) ≡ first_where (has_lease n k) slots
 marked-first n k set from [] = refl
 marked-first n k set from (s ∷ ss) = rw (marked-has n k (has set from) s, marked-first n k set (from + 1) ss) refl
 
@@ -155,7 +155,7 @@ lend-other l n slab k i ne =
     (length-set l.slots (first_where is_free l.slots) (lent_slot l n slab)) refl
     (λ may.
     ap (λ slab. get_or slab i [])
-    (get_or-set_other l.contents (first_where is_free l.slots) (slot_of l n k) (blank l.lending) []
+    (get_or-set_other l.contents (first_where is_free l.slots) (slot_of l n k) (blank_slab l.lending) []
     (λ e.
     both_ways (has_lease n k (get_or l.slots (slot_of l n k) Free))
     (subst (λ s. has_lease n k (get_or l.slots s Free) ≡ false) (sym e) (lowest-has l.slots n k))
@@ -189,7 +189,8 @@ lent-zeros l n slab k i s e may =
     ltb-true i l.lending.pages_per_slab
     (and_parts (holds (lent_lender l n slab) n k) (nat_lt i l.lending.pages_per_slab) may).1 in
     ap (λ x. page_in (lent_lender l n slab).contents x i) at
-    ∙ ap (λ slab. get_or slab i []) (get_or-set_same l.contents (first_where is_free l.slots) (blank l.lending) [] lt)
+    ∙ ap (λ slab. get_or slab i []) (get_or-set_same l.contents (first_where is_free l.slots) (blank_slab l.lending) []
+    lt)
     ∙ get_or-replicate l.lending.pages_per_slab i (replicate l.lending.page_bytes 0) [] place
 
 -- the lease that is given
@@ -301,7 +302,7 @@ later-write l n k lease i place page s may =
 -- a slot that is given back
 
 abbrev pub done_lender : Lender → Link → Lease → Lender
-done_lender l n lease = (done l n lease).lender
+done_lender l n lease = (done_after l n lease).lender
 
 done-this :
     (l : Lender) (n : Link) (k lease : Lease) (i : ℕ) → IsSound l → slot_of l n lease < length l.slots → lease.0 ≡ k.0
@@ -360,7 +361,7 @@ later-serve l n (msg.Write lease place) page k i s may = later-write l n k lease
 later-serve l n (msg.Rates lease value) page k i s may =
     later-same k.0 l.next_lease _ _ _
     (slot_page-settle (record l { round = option_map (answer (slot_of l n lease) value) l.round })
-    (due (option_map (answer (slot_of l n lease) value) l.round)) n k i)
+    (slots_due (option_map (answer (slot_of l n lease) value) l.round)) n k i)
 later-serve l n (msg.Done lease) page k i s may =
     later-done l n k lease i page s
     (ltb-true (slot_of l n lease) (length l.slots) (and_parts (holds l n lease) _ may).0)
@@ -371,10 +372,10 @@ next-serve l n (msg.Borrow slab) page =
     cond_both (lends l) _ _ (λ (t : Turn). l.next_lease ≤ t.lender.next_lease) (λ _. omega arith) (λ _. omega arith)
 next-serve l n (msg.Rates lease value) page =
     let e : (settle_with (record l { round = option_map (answer (slot_of l n lease) value) l.round })
-    (due (option_map (answer (slot_of l n lease) value) l.round))).lender.next_lease
+    (slots_due (option_map (answer (slot_of l n lease) value) l.round))).lender.next_lease
     ≡ l.next_lease =
     next-settle (record l { round = option_map (answer (slot_of l n lease) value) l.round })
-    (due (option_map (answer (slot_of l n lease) value) l.round)) in
+    (slots_due (option_map (answer (slot_of l n lease) value) l.round)) in
     subst (λ x. l.next_lease ≤ x) (sym e) (omega arith)
 next-serve l n _ page = omega arith
 
@@ -382,9 +383,11 @@ pub slot_page-host :
     (l : Lender) (usage word : ℕ) (n : Link) (k : Lease) (i : ℕ)
     → slot_page (host l usage word).lender n k i ≡ slot_page l n k i
 slot_page-host l usage word n k i =
-    cond_both (opens (measured l usage)) _ _ (λ (t : Turn). slot_page t.lender n k i ≡ slot_page l n k i) (λ _. refl)
+    cond_both (opens (measure_after l usage)) _ _ (λ (t : Turn). slot_page t.lender n k i
+    ≡ slot_page l n k i) (λ _. refl)
     (λ _. refl)
 
 pub next-host : (l : Lender) (usage word : ℕ) → (host l usage word).lender.next_lease ≡ l.next_lease
 next-host l usage word =
-    cond_both (opens (measured l usage)) _ _ (λ (t : Turn). t.lender.next_lease ≡ l.next_lease) (λ _. refl) (λ _. refl)
+    cond_both (opens (measure_after l usage)) _ _ (λ (t : Turn). t.lender.next_lease
+    ≡ l.next_lease) (λ _. refl) (λ _. refl)

@@ -15,22 +15,22 @@ use Rattle.swap_evict.specs.Rounds.{answer}
 use Rattle.swap_lender.specs.declared.Lending.{Lending}
 use Rattle.swap_lender.specs.declared.SlotState.{SlotState}
 use Rattle.swap_lender.specs.declared.SlotState.TheVariants.{Free, Held}
-use Rattle.swap_lender.specs.Lender.{Lender, fresh, blank, is_free, is_of, first_where, lends, holds, slot_of}
-use Rattle.swap_lender.specs.Table.{Turn, marked, mark_slot, settle_with, due, greet_peer, lend, write, may_reach, may_send, serve, took, freed, left, without_peer, gone, arrive, has_room, restart, host, measured, opens}
+use Rattle.swap_lender.specs.Lender.{Lender, lender_at_start, blank_slab, is_free, is_of, first_where, lends, holds, slot_of}
+use Rattle.swap_lender.specs.Table.{Turn, mark_slots, mark_slot, settle_with, slots_due, greet_peer, lend, write, may_reach, may_send, serve, took_after, free_slot, round_left, without_peer, gone_after, arrive, has_room, restart, host, measure_after, opens}
 use Rattle.swap_base.specs.Sizes.{Sizes}
 use Rattle.swap_wire.specs.Fabric.{Parcel, Handed}
 use Rattle.swap_wire.specs.declared.fabric.Gave.{Gave}
 use Rattle.swap_wire.specs.declared.fabric.Gave.TheVariants as gave_is
 use Rattle.swap_lender.specs.declared.Served.TheVariants as served_is
-use Rattle.swap_lender.specs.Table.{quiet, answered}
-use Rattle.swap_link.specs.Channel.{Channel, taken, taken_from, served, given, given_from, reply_of, delivered, forwarded, abandoned}
-use Rattle.swap_lender.specs.Outbox.{Outgoing, IsReady, leaving}
+use Rattle.swap_lender.specs.Table.{quiet_turn, served_by}
+use Rattle.swap_link.specs.Channel.{Channel, take_after, taken_from, serve_after, give_after, given_from, reply_of, deliver_after, forward_after, leave_after}
+use Rattle.swap_lender.specs.Outbox.{OutboxView, IsReady, outbox_with}
 use Rattle.swap_link.specs.Lane.{Lane}
 use Rattle.swap_link.specs.Fits.{IsSound, IsAlone, ChannelFits, lease_of, lease_at}
 
 -- slots
 
-pub length-marked : (set from : ℕ) (slots : List SlotState) → length (marked set from slots) ≡ length slots
+pub length-marked : (set from : ℕ) (slots : List SlotState) → length (mark_slots set from slots) ≡ length slots
 length-marked set from [] = refl
 length-marked set from (s ∷ ss) = ap suc (length-marked set (from + 1) ss)
 
@@ -46,15 +46,15 @@ marked-lease false s = refl
 marked-lease true Free = refl
 marked-lease true (Held link slab lease evicting) = refl
 
-fewer-marked : (set from : ℕ) (slots : List SlotState) → IsFewer (marked set from slots) slots
+fewer-marked : (set from : ℕ) (slots : List SlotState) → IsFewer (mark_slots set from slots) slots
 fewer-marked set from [] i k e = e
 fewer-marked set from (s ∷ ss) zero k e = sym (marked-lease (has set from) s) ∙ e
 fewer-marked set from (s ∷ ss) (suc i) k e = fewer-marked set (from + 1) ss i k e
 
-freed-lease : (n : Link) (s : SlotState) (k : ℕ) → lease_of (freed n s) ≡ Some k → lease_of s ≡ Some k
+freed-lease : (n : Link) (s : SlotState) (k : ℕ) → lease_of (free_slot n s) ≡ Some k → lease_of s ≡ Some k
 freed-lease n s k = cond_both (is_of n s) Free s (λ x. lease_of x ≡ Some k → lease_of s ≡ Some k) (λ _ e. cc) (λ _ e. e)
 
-fewer-freed : (n : Link) (slots : List SlotState) → IsFewer (map (freed n) slots) slots
+fewer-freed : (n : Link) (slots : List SlotState) → IsFewer (map (free_slot n) slots) slots
 fewer-freed n [] i k e = e
 fewer-freed n (s ∷ ss) zero k e = freed-lease n s k e
 fewer-freed n (s ∷ ss) (suc i) k e = fewer-freed n ss i k e
@@ -81,13 +81,13 @@ none_leased zero i k e = cc
 none_leased (suc n) zero k e = cc
 none_leased (suc n) (suc i) k e = none_leased n i k e
 
-pub sound-fresh : (s : Lending) → IsSound (fresh s)
+pub sound-fresh : (s : Lending) → IsSound (lender_at_start s)
 sound-fresh s = record {
   given = λ i k e. absurd (none_leased s.spec.slots i k e);
   differ = λ i j k e _. absurd (none_leased s.spec.slots i k e);
-  slots = length-replicate s.spec.slots (blank s) ∙ sym (length-replicate s.spec.slots Free);
+  slots = length-replicate s.spec.slots (blank_slab s) ∙ sym (length-replicate s.spec.slots Free);
   places =
-      All-replicate (λ slab. length slab ≡ s.pages_per_slab) s.spec.slots (blank s)
+      All-replicate (λ slab. length slab ≡ s.pages_per_slab) s.spec.slots (blank_slab s)
       (length-replicate s.pages_per_slab (replicate s.page_bytes 0));
 }
 
@@ -115,28 +115,32 @@ lending-settle l (Some set) = refl
 
 abbrev pub after_leave : Lender → Link → Lender
 after_leave l n =
-    record l
-    { slots = map (freed n) l.slots; peers = without_peer n l.peers; round = option_map (left n l.slots) l.round }
+    record l {
+      slots = map (free_slot n) l.slots;
+      peers = without_peer n l.peers;
+      round = option_map (round_left n l.slots)
+          l.round;
+    }
 
-pub sound-gone : (l : Lender) (n : Link) → IsSound l → IsSound (gone l n).lender
+pub sound-gone : (l : Lender) (n : Link) → IsSound l → IsSound (gone_after l n).lender
 sound-gone l n s =
-    sound-settle (after_leave l n) (due (after_leave l n).round)
+    sound-settle (after_leave l n) (slots_due (after_leave l n).round)
     (record {
       given = λ i k e. s.given i k (fewer-freed n l.slots i k e);
       differ = λ i j k e f. s.differ i j k (fewer-freed n l.slots i k e) (fewer-freed n l.slots j k f);
-      slots = s.slots ∙ sym (length-map l.slots (freed n));
+      slots = s.slots ∙ sym (length-map l.slots (free_slot n));
       places = s.places;
     })
 
 forgotten : (n : Link) (greeted : Bool) → without_peer n (record { link = n; greeted = greeted } ∷ []) ≡ []
 forgotten n greeted = let e : (n.0 == n.0) ≡ true = eq-eqb n.0 n.0 refl in rw e refl
 
-pub peers-gone : (l : Lender) (n : Link) → IsAlone n false l.peers → (gone l n).lender.peers ≡ []
+pub peers-gone : (l : Lender) (n : Link) → IsAlone n false l.peers → (gone_after l n).lender.peers ≡ []
 peers-gone l n a =
-    peers-settle (after_leave l n) (due (after_leave l n).round) ∙ ap (without_peer n) a.1 ∙ forgotten n a.0
+    peers-settle (after_leave l n) (slots_due (after_leave l n).round) ∙ ap (without_peer n) a.1 ∙ forgotten n a.0
 
-pub lending-gone : (l : Lender) (n : Link) → (gone l n).lender.lending ≡ l.lending
-lending-gone l n = lending-settle (after_leave l n) (due (after_leave l n).round)
+pub lending-gone : (l : Lender) (n : Link) → (gone_after l n).lender.lending ≡ l.lending
+lending-gone l n = lending-settle (after_leave l n) (slots_due (after_leave l n).round)
 
 -- a link that arrives
 
@@ -152,17 +156,17 @@ arrived l n none one =
 
 pub sound-host : (l : Lender) (usage word : ℕ) → IsSound l → IsSound (host l usage word).lender
 sound-host l usage word s =
-    cond_both (opens (measured l usage)) _ _ (λ (t : Turn). IsSound t.lender)
+    cond_both (opens (measure_after l usage)) _ _ (λ (t : Turn). IsSound t.lender)
     (λ _. record { given = s.given; differ = s.differ; slots = s.slots; places = s.places })
     (λ _. record { given = s.given; differ = s.differ; slots = s.slots; places = s.places })
 
 pub peers-host : (l : Lender) (usage word : ℕ) → (host l usage word).lender.peers ≡ l.peers
 peers-host l usage word =
-    cond_both (opens (measured l usage)) _ _ (λ (t : Turn). t.lender.peers ≡ l.peers) (λ _. refl) (λ _. refl)
+    cond_both (opens (measure_after l usage)) _ _ (λ (t : Turn). t.lender.peers ≡ l.peers) (λ _. refl) (λ _. refl)
 
 pub lending-host : (l : Lender) (usage word : ℕ) → (host l usage word).lender.lending ≡ l.lending
 lending-host l usage word =
-    cond_both (opens (measured l usage)) _ _ (λ (t : Turn). t.lender.lending ≡ l.lending) (λ _. refl) (λ _. refl)
+    cond_both (opens (measure_after l usage)) _ _ (λ (t : Turn). t.lender.lending ≡ l.lending) (λ _. refl) (λ _. refl)
 
 -- a message that is served
 
@@ -191,10 +195,10 @@ sound-lend l n slab j s = record {
       lent-differ l n slab j s i i' k (lease-set l.slots j (Held n slab (record { 0 = l.next_lease }) false) i k e)
       (lease-set l.slots j (Held n slab (record { 0 = l.next_lease }) false) i' k f);
   slots =
-      length-set l.contents j (blank l.lending) ∙ s.slots
+      length-set l.contents j (blank_slab l.lending) ∙ s.slots
       ∙ sym (length-set l.slots j (Held n slab (record { 0 = l.next_lease }) false));
   places =
-      All-set (λ slab. length slab ≡ l.lending.pages_per_slab) l.contents j (blank l.lending)
+      All-set (λ slab. length slab ≡ l.lending.pages_per_slab) l.contents j (blank_slab l.lending)
       (length-replicate l.lending.pages_per_slab (replicate l.lending.page_bytes 0)) s.places;
 }
 
@@ -266,7 +270,7 @@ alone-serve l n (msg.Read lease place) page a = a
 alone-serve l n (msg.Rates lease value) page a = (
   a.0,
   peers-settle (record l { round = option_map (answer (slot_of l n lease) value) l.round })
-      (due (option_map (answer (slot_of l n lease) value) l.round))
+      (slots_due (option_map (answer (slot_of l n lease) value) l.round))
       ∙ a.1,
 )
 alone-serve l n (msg.Done lease) page a = a
@@ -277,11 +281,12 @@ lending-serve l n (msg.Borrow slab) page =
     cond_both (lends l) _ _ (λ (t : Turn). t.lender.lending ≡ l.lending) (λ _. refl) (λ _. refl)
 lending-serve l n (msg.Rates lease value) page =
     lending-settle (record l { round = option_map (answer (slot_of l n lease) value) l.round })
-    (due (option_map (answer (slot_of l n lease) value) l.round))
+    (slots_due (option_map (answer (slot_of l n lease) value) l.round))
 lending-serve l n _ page = refl
 
 -- only a write reads the page that stands with a message
-pub took-page : (l : Lender) (n : Link) (m : Msg) (page : List ℕ) → took l n m (parcel_of m page).page ≡ took l n m page
+pub took-page : (l : Lender) (n : Link) (m : Msg) (page : List ℕ)
+    → took_after l n m (parcel_of m page).page ≡ took_after l n m page
 took-page l n (msg.Write lease place) page = refl
 took-page l n (msg.PageIs lease place) page = refl
 took-page l n _ page = refl
@@ -289,9 +294,9 @@ took-page l n _ page = refl
 -- what a channel keeps, by its moves
 
 pub fits-gone :
-    (sizes : Sizes) (l : Lender) (n : Link) (a b : Lane) (g : Bool) (o : Outgoing) → ChannelFits sizes l n a b g o
+    (sizes : Sizes) (l : Lender) (n : Link) (a b : Lane) (g : Bool) (o : OutboxView) → ChannelFits sizes l n a b g o
     → g ≡ false
-    → (m : Lender) → m ≡ (gone l n).lender → (p : Outgoing) → IsReady p l.lending → (a' b' : Lane)
+    → (m : Lender) → m ≡ (gone_after l n).lender → (p : OutboxView) → IsReady p l.lending → (a' b' : Lane)
     → a'.page_bytes ≡ a.page_bytes → b'.page_bytes ≡ b.page_bytes → ChannelFits sizes m n a' b' true p
 fits-gone sizes l n a b g o f stands m e p ready a' b' pa pb =
     let lending : m.lending ≡ l.lending = ap (λ (k : Lender). k.lending) e ∙ lending-gone l n in
@@ -307,9 +312,9 @@ fits-gone sizes l n a b g o f stands m e p ready a' b' pa pb =
     }
 
 pub fits-host :
-    (sizes : Sizes) (l : Lender) (n : Link) (a b : Lane) (g : Bool) (o : Outgoing) (usage word : ℕ)
+    (sizes : Sizes) (l : Lender) (n : Link) (a b : Lane) (g : Bool) (o : OutboxView) (usage word : ℕ)
     → ChannelFits sizes l n a b g o
-    → (m : Lender) → m ≡ (host l usage word).lender → (p : Outgoing) → IsReady p l.lending → (b' : Lane)
+    → (m : Lender) → m ≡ (host l usage word).lender → (p : OutboxView) → IsReady p l.lending → (b' : Lane)
     → b'.page_bytes ≡ b.page_bytes → ChannelFits sizes m n a b' g p
 fits-host sizes l n a b g o usage word f m e p ready b' pb =
     let lending : m.lending ≡ l.lending = ap (λ (k : Lender). k.lending) e ∙ lending-host l usage word in
@@ -325,13 +330,13 @@ fits-host sizes l n a b g o usage word f m e p ready b' pb =
     }
 
 pub fits-serve :
-    (sizes : Sizes) (l : Lender) (n : Link) (a b : Lane) (g : Bool) (o : Outgoing) (t : Msg) (page : List ℕ)
+    (sizes : Sizes) (l : Lender) (n : Link) (a b : Lane) (g : Bool) (o : OutboxView) (t : Msg) (page : List ℕ)
     → ChannelFits sizes l n a b g o → g ≡ false → may_send l n t ≡ true
-    → (m : Lender) → m ≡ (took l n t page).lender → (p : Outgoing) → IsReady p l.lending → (b' : Lane)
+    → (m : Lender) → m ≡ (took_after l n t page).lender → (p : OutboxView) → IsReady p l.lending → (b' : Lane)
     → b'.page_bytes ≡ b.page_bytes → ChannelFits sizes m n a b' g p
 fits-serve sizes l n a b g o t page f stands may m e p ready b' pb =
     let e' : m ≡ (serve l n t page).lender =
-    e ∙ ap (λ (u : Turn). u.lender) (cond-true (may_send l n t) (serve l n t page) (quiet l) may) in
+    e ∙ ap (λ (u : Turn). u.lender) (cond-true (may_send l n t) (serve l n t page) (quiet_turn l) may) in
     let lending : m.lending ≡ l.lending = ap (λ (k : Lender). k.lending) e' ∙ lending-serve l n t page in
     let alone : IsAlone n false l.peers = subst (λ h. IsAlone n h l.peers) stands f.alone in
     record {
@@ -347,7 +352,7 @@ fits-serve sizes l n a b g o t page f stands may m e p ready b' pb =
     }
 
 pub fits-connect :
-    (sizes : Sizes) (l : Lender) (old n : Link) (a b : Lane) (o : Outgoing) → ChannelFits sizes l old a b true o
+    (sizes : Sizes) (l : Lender) (old n : Link) (a b : Lane) (o : OutboxView) → ChannelFits sizes l old a b true o
     → (m : Lender) → m ≡ arrive l n
     → (a' b' : Lane) → a'.page_bytes ≡ a.page_bytes → b'.page_bytes ≡ b.page_bytes → ChannelFits sizes m n a' b' false o
 fits-connect sizes l old n a b o f m e a' b' pa pb =
@@ -364,51 +369,54 @@ fits-connect sizes l old n a b o f m e a' b' pa pb =
 
 -- an outbox that was emptied is ready again
 pub ready-again :
-    (s : Lending) (o p q : Outgoing) (parcels : List (Link × Parcel)) (evicted : ℕ) → IsReady o s
-    → p ≡ leaving o parcels evicted → q ≡ leaving p [] p.evicted → IsReady q s
+    (s : Lending) (o p q : OutboxView) (parcels : List (Link × Parcel)) (evicted : ℕ) → IsReady o s
+    → p ≡ outbox_with o parcels evicted → q ≡ outbox_with p [] p.evicted → IsReady q s
 ready-again s o p q parcels evicted r e d =
-    let is : q ≡ leaving o [] evicted = d ∙ ap (λ x. leaving x [] x.evicted) e in
+    let is : q ≡ outbox_with o [] evicted = d ∙ ap (λ x. outbox_with x [] x.evicted) e in
     subst (λ x. IsReady x s) (sym is) (record { empty = refl; slots = r.slots; page = r.page })
 
 -- a message that is served
 
-pub fine : (b : Bool) → answered b ≡ served_is.Fine → b ≡ true
+pub fine : (b : Bool) → served_by b ≡ served_is.Fine → b ≡ true
 fine true e = refl
 fine false e = cc
 
 pub served-fine : (c : Channel) (m : Msg) (page : List ℕ) → may_send c.lender c.number m ≡ true
-    → served c (parcel_of m page)
+    → serve_after c (parcel_of m page)
     ≡ (
-      gave_is.Got m (reply_of (took c.lender c.number m page).parcels) (took c.lender c.number m page).evicted,
-      delivered c (took c.lender c.number m page),
+      gave_is.Got m (reply_of (took_after c.lender c.number m page).parcels)
+          (took_after c.lender c.number m page).evicted,
+      deliver_after c (took_after c.lender c.number m page),
     )
 served-fine c m page may =
-    let F : Turn → Gave × Channel = λ t. (gave_is.Got m (reply_of t.parcels) t.evicted, delivered c t) in
-    cond-true (may_send c.lender c.number m) (F (took c.lender c.number m (parcel_of m page).page))
-    (gave_is.Ended m, abandoned c) may
+    let F : Turn → Gave × Channel = λ t. (gave_is.Got m (reply_of t.parcels) t.evicted, deliver_after c t) in
+    cond-true (may_send c.lender c.number m) (F (took_after c.lender c.number m (parcel_of m page).page))
+    (gave_is.Ended m, leave_after c) may
     ∙ ap F (took-page c.lender c.number m page)
 
 pub served-by_parts : (c : Channel) (m : Msg) (page : List ℕ) → may_send c.lender c.number m ≡ true
-    → (r : Option Msg) (evicted : ℕ) (l : Lender) (d : Lane) → r ≡ reply_of (took c.lender c.number m page).parcels
-    → evicted ≡ (took c.lender c.number m page).evicted → l ≡ (took c.lender c.number m page).lender
-    → d ≡ forwarded c.number c.to_device (took c.lender c.number m page).parcels
-    → (gave_is.Got m r evicted, record c { lender = l; to_device = d }) ≡ served c (parcel_of m page)
+    → (r : Option Msg) (evicted : ℕ) (l : Lender) (d : Lane)
+    → r ≡ reply_of (took_after c.lender c.number m page).parcels
+    → evicted ≡ (took_after c.lender c.number m page).evicted → l ≡ (took_after c.lender c.number m page).lender
+    → d ≡ forward_after c.number c.to_device (took_after c.lender c.number m page).parcels
+    → (gave_is.Got m r evicted, record c { lender = l; to_device = d }) ≡ serve_after c (parcel_of m page)
 served-by_parts c m page may r evicted l d er ee el ed =
     let F : Option Msg → ℕ → Lender → Lane → Gave × Channel =
     λ r e l d. (gave_is.Got m r e, record c { lender = l; to_device = d }) in
-    ap (λ x. F x evicted l d) er ∙ ap (λ x. F (reply_of (took c.lender c.number m page).parcels) x l d) ee
-    ∙ ap (λ x. F (reply_of (took c.lender c.number m page).parcels) (took c.lender c.number m page).evicted x d) el
+    ap (λ x. F x evicted l d) er ∙ ap (λ x. F (reply_of (took_after c.lender c.number m page).parcels) x l d) ee
+    ∙ ap (λ x. F (reply_of (took_after c.lender c.number m page).parcels) (took_after c.lender c.number m page).evicted
+    x d) el
     ∙ ap
     (λ x.
-    F (reply_of (took c.lender c.number m page).parcels) (took c.lender c.number m page).evicted
-    (took c.lender c.number m page).lender x)
+    F (reply_of (took_after c.lender c.number m page).parcels) (took_after c.lender c.number m page).evicted
+    (took_after c.lender c.number m page).lender x)
     ed
     ∙ sym (served-fine c m page may)
 
 -- a lender that starts anew, and a message that changes nothing
 
 pub fits-crash :
-    (sizes : Sizes) (l : Lender) (n : Link) (a b : Lane) (g : Bool) (o : Outgoing) → ChannelFits sizes l n a b g o
+    (sizes : Sizes) (l : Lender) (n : Link) (a b : Lane) (g : Bool) (o : OutboxView) → ChannelFits sizes l n a b g o
     → (m : Lender) → m ≡ restart l
     → (h : Bool) → h ≡ true → (a' b' : Lane) → a'.page_bytes ≡ a.page_bytes → b'.page_bytes ≡ b.page_bytes
     → ChannelFits sizes m n a' b' h o
@@ -424,21 +432,22 @@ fits-crash sizes l n a b g o f m e h gone_now a' b' pa pb =
       ready = subst (λ s. IsReady o s) (sym lending) f.ready;
     }
 
-pub not_fine : (b : Bool) → answered b ≡ served_is.End → b ≡ false
+pub not_fine : (b : Bool) → served_by b ≡ served_is.End → b ≡ false
 not_fine true e = cc
 not_fine false e = refl
 
 pub fits-refused :
-    (sizes : Sizes) (l : Lender) (n : Link) (a b : Lane) (g : Bool) (o : Outgoing) (t : Msg) (page : List ℕ)
+    (sizes : Sizes) (l : Lender) (n : Link) (a b : Lane) (g : Bool) (o : OutboxView) (t : Msg) (page : List ℕ)
     → ChannelFits sizes l n a b g o → may_send l n t ≡ false
-    → (m : Lender) → m ≡ (took l n t page).lender → (p : Outgoing)
-    → p ≡ leaving o (took l n t page).parcels (took l n t page).evicted → ChannelFits sizes m n a b g p
+    → (m : Lender) → m ≡ (took_after l n t page).lender → (p : OutboxView)
+    → p ≡ outbox_with o (took_after l n t page).parcels (took_after l n t page).evicted → ChannelFits sizes m n a b g p
 fits-refused sizes l n a b g o t page f may m em p ep =
-    let same : took l n t page ≡ quiet l = cond-false (may_send l n t) (serve l n t page) (quiet l) may in
+    let same : took_after l n t page ≡ quiet_turn l =
+    cond-false (may_send l n t) (serve l n t page) (quiet_turn l) may in
     let lender : m ≡ l = em ∙ ap (λ (u : Turn). u.lender) same in
-    let outbox : p ≡ leaving o [] 0 = ep ∙ ap (λ (u : Turn). leaving o u.parcels u.evicted) same in
+    let outbox : p ≡ outbox_with o [] 0 = ep ∙ ap (λ (u : Turn). outbox_with o u.parcels u.evicted) same in
     subst (λ x. ChannelFits sizes m n a b g x) (sym outbox)
-    (subst (λ k. ChannelFits sizes k n a b g (leaving o [] 0)) (sym lender) (record {
+    (subst (λ k. ChannelFits sizes k n a b g (outbox_with o [] 0)) (sym lender) (record {
       sound = f.sound;
       alone = f.alone;
       one = f.one;
@@ -455,7 +464,7 @@ sizes-taken_from ch [] =
     cond_both ch.to_device.ended _ _ (λ (x : Handed × Channel). x.1.sizes ≡ ch.sizes) (λ _. refl) (λ _. refl)
 sizes-taken_from ch (p ∷ ps) = refl
 
-pub sizes-taken : (ch : Channel) → (taken ch).1.sizes ≡ ch.sizes
+pub sizes-taken : (ch : Channel) → (take_after ch).1.sizes ≡ ch.sizes
 sizes-taken ch =
     cond_both ch.device_gone _ _ (λ (x : Handed × Channel). x.1.sizes ≡ ch.sizes) (λ _. refl)
     (λ _. sizes-taken_from ch ch.to_device.parcels)
@@ -467,7 +476,7 @@ sizes-given_from ch (p ∷ ps) =
     cond_both (may_send ch.lender ch.number p.msg) _ _ (λ (x : Gave × Channel). x.1.sizes ≡ ch.sizes) (λ _. refl)
     (λ _. refl)
 
-pub sizes-given : (ch : Channel) → (given ch).1.sizes ≡ ch.sizes
+pub sizes-given : (ch : Channel) → (give_after ch).1.sizes ≡ ch.sizes
 sizes-given ch =
     cond_both ch.lender_gone _ _ (λ (x : Gave × Channel). x.1.sizes ≡ ch.sizes) (λ _. refl)
     (λ _. sizes-given_from ch ch.to_lender.parcels)

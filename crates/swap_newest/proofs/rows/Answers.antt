@@ -2,7 +2,7 @@
 use Rattle.std.proofs.Common.{◌≡◌, ℕ, Bool, true, false, List, [], ◌∷◌, refl, sym, ap, lit<, lit≤, Option, None, Some}
 use Rattle.std.specs.Prelude.{◌==◌}
 use Rattle.swap_base.specs.declared.Slab.{Slab}
-use Rattle.swap_newest.specs.Rows.{sizes, page, slab, lender, spec, revoked, lost_events, unread_events, behind, given_up}
+use Rattle.swap_newest.specs.Rows.{sizes, page, slab, lender, spec, revoke_events, lost_events, unread_events, read_behind_events, given_up}
 use Rattle.swap_choice.specs.Slots.{slots}
 use Rattle.swap_choice.specs.Least.{least_of, rank}
 use Rattle.swap_world.specs.Laws.{AreInputs}
@@ -47,7 +47,7 @@ returns-clause-owned_fails c = (
 
 -- the events of a row name what there is
 
-revoked_fine : AreInputs sizes (spec 3 1 0 ∷ []) revoked
+revoked_fine : AreInputs sizes (spec 3 1 0 ∷ []) revoke_events
 revoked_fine = (
   (lit< tt, tt),
   (
@@ -224,7 +224,7 @@ unread_fine = (
   ),
 )
 
-behind_fine : AreInputs sizes (spec 4 1 1 ∷ []) behind
+behind_fine : AreInputs sizes (spec 4 1 1 ∷ []) read_behind_events
 behind_fine = (
   (lit< tt, tt),
   (
@@ -286,7 +286,7 @@ given_fine = (
 
 pub returns-clause-revoked : goal.returns-clause-revoked
 unfolding slots least_of rank
-returns-clause-revoked c = record { inputs = revoked_fine; lent = λ n. always_lent sizes (spec 3 1 0 ∷ []) revoked n (lit≤ tt) revoked_fine; bit = refl }
+returns-clause-revoked c = record { inputs = revoked_fine; lent = λ n. always_lent sizes (spec 3 1 0 ∷ []) revoke_events n (lit≤ tt) revoked_fine; bit = refl }
 
 pub returns-clause-reply_lost : goal.returns-clause-reply_lost
 returns-clause-reply_lost c = record { inputs = lost_fine; lent = λ n. always_lent sizes (spec 4 1 1 ∷ []) lost_events n (lit≤ tt) lost_fine; bit = refl }
@@ -297,7 +297,7 @@ returns-clause-loss_unread c =
 
 pub returns-clause-read_behind : goal.returns-clause-read_behind
 returns-clause-read_behind c =
-    (record { inputs = behind_fine; lent = λ n. always_lent sizes (spec 4 1 1 ∷ []) behind n (lit≤ tt) behind_fine; bit = refl }, refl, refl)
+    (record { inputs = behind_fine; lent = λ n. always_lent sizes (spec 4 1 1 ∷ []) read_behind_events n (lit≤ tt) behind_fine; bit = refl }, refl, refl)
 
 pub returns-clause-given_up : goal.returns-clause-given_up
 unfolding slots least_of rank

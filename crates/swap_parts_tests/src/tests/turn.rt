@@ -1,6 +1,6 @@
 ghost use Rattle.std.specs.Prelude.{◌≡◌, ◌<◌, []};
 ghost use Rattle.swap_turn.specs.Turns.{IsEarlier, Extends};
-ghost use Rattle.swap_turn.specs.Standing.{IsFreeOf};
+ghost use Rattle.swap_turn.specs.PassView.{IsFreeOf};
 
 use std::alloc::Global;
 use std::process::Abort;

@@ -12,7 +12,7 @@ use Rattle.swap_bits.specs.Bits.{has, is_in_range}
 use Rattle.swap_bits.specs.lemmas.Taken.{takes_range, length-without_range}
 use Rattle.swap_slabs.specs.declared.SlabState.{SlabState}
 use Rattle.swap_slabs.specs.Slabs.{state_of, is_at}
-use Rattle.swap_remote.specs.Remote.{Remote, evicted, left_from}
+use Rattle.swap_remote.specs.Remote.{Remote, evicted_after, left_from}
 
 -- a slab's pages are those in its range
 pub in_slab : (e n q : ℕ) → 0 < e → q / e ≡ n → is_in_range (n * e) (n * e + e) q ≡ true
@@ -48,7 +48,8 @@ range_ends e slabs n within =
 -- the bits of a slab that is taken back are cleared, and no other
 pub evicted_bit :
     (s : Sizes) (r : Remote) (slab : Slab) (q : ℕ) → slab.0 < s.slabs → length r.bits ≡ pages_of s
-    → 0 < s.pages_per_slab → has (evicted s r slab).bits q ≡ (if slab_of s q == slab.0 then false else has r.bits q)
+    → 0 < s.pages_per_slab → has (evicted_after s r slab).bits q
+    ≡ (if slab_of s q == slab.0 then false else has r.bits q)
 evicted_bit s r slab q within len some =
     let ends : slab.0 * s.pages_per_slab + s.pages_per_slab ≤ length r.bits =
     subst (λ n. slab.0 * s.pages_per_slab + s.pages_per_slab ≤ n) (sym len)
@@ -68,7 +69,7 @@ evicted_bit s r slab q within len some =
 
 pub length-evicted :
     (s : Sizes) (r : Remote) (slab : Slab) → slab.0 < s.slabs → length r.bits ≡ pages_of s
-    → length (evicted s r slab).bits ≡ length r.bits
+    → length (evicted_after s r slab).bits ≡ length r.bits
 length-evicted s r slab within len =
     length-without_range r.bits (slab.0 * s.pages_per_slab) (slab.0 * s.pages_per_slab + s.pages_per_slab)
     (le-add_right (slab.0 * s.pages_per_slab) s.pages_per_slab)

@@ -1,7 +1,7 @@
 use Rattle.std.proofs.Common.{◌≡◌, ◌⊎◌, inl, inr, ap, sym, ◌∙◌, Option, Some}
 use Rattle.swap_base.specs.declared.EntryNo.{EntryNo}
 use Rattle.swap_base.specs.declared.Lender.{Lender}
-use Rattle.swap_record.specs.History.{named}
+use Rattle.swap_record.specs.History.{row_named}
 use Rattle.swap_wire.specs.declared.Seen.{Seen}
 use Rattle.swap_wire.specs.declared.Seen.TheVariants as seen
 use Rattle.swap_world.specs.Runs.{entry_seen}
@@ -17,5 +17,5 @@ returns-in-Done c = record {
   seen = c.seen_numbers.ensures;
   entry =
       λ n row of at. c.row_fits.ensures row
-      (ap (λ (e : EntryNo). named c.args.history.now.history e.0) (sym (same c.args.seen c.in-Done.entry n c.in-Done.is of)) ∙ at);
+      (ap (λ (e : EntryNo). row_named c.args.history.now.history e.0) (sym (same c.args.seen c.in-Done.entry n c.in-Done.is of)) ∙ at);
 }

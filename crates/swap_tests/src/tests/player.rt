@@ -2,8 +2,8 @@
 //! hears.
 ghost use Rattle.std.specs.Prelude.{◌≡◌, [], IfOk};
 ghost use Rattle.swap_base.specs.Sizes.{pages_of};
-ghost use Rattle.swap_table.specs.Device.{new};
-ghost use Rattle.swap_turn.specs.Standing.{IsFreeOf};
+ghost use Rattle.swap_table.specs.Device.{device_at_start};
+ghost use Rattle.swap_turn.specs.PassView.{IsFreeOf};
 
 use std::alloc::Global;
 use std::marker::Brand;
@@ -65,7 +65,7 @@ fn call_once<N: Naming<MemDisk, Harbor>, R: Wait + Abort>(
           calls = 1;
           number = 1;
         } }
-    requires fresh { world.core.device ≡ new world.core.device.sizes 0 }
+    requires fresh { world.core.device ≡ device_at_start world.core.device.sizes 0 }
     requires sizes { (world.core.device.sizes.callers ≡ 2)
         × (world.core.device.sizes.page_bytes ≡ 8) × (pages_of world.core.device.sizes ≡ 8) }
 {
@@ -93,7 +93,7 @@ fn call_once<N: Naming<MemDisk, Harbor>, R: Wait + Abort>(
 
 /// A world of two callers and eight pages over a disk alone.
 fn world_alone(alloc: Global, geometry: Geometry) -> Result<World<MemDisk, Harbor>, NoMemory>
-    ensures { IfOk result (λ w. w.core.device ≡ new geometry 0) }
+    ensures { IfOk result (λ w. w.core.device ≡ device_at_start geometry 0) }
 {
     let disk = MemDisk::make(alloc, &geometry)?;
     let harbor = Harbor::make(alloc, &geometry, &[])?;

@@ -1,6 +1,6 @@
 use Rattle.std.proofs.Common.{◌≡◌, ◌<◌, ap, sym, ◌∙◌, subst, true, Some}
 use Rattle.swap_base.specs.Sizes.{Sizes, pages_of}
-use Rattle.swap_disk.specs.Drive.{Drive}
+use Rattle.swap_disk.specs.MemDiskView.{MemDiskView}
 use Rattle.swap_disk.specs.Port.{oldest_write_in, writes_in}
 use Rattle.swap_link.specs.Harbor.{Harbor}
 use Rattle.swap_table.specs.Device.{Core}
@@ -12,10 +12,11 @@ use Rattle.swap_drill.proofs.steps.end_oldest_write.Goals as goal
 pub make-requires-clause-range : goal.make-requires-clause-range
 make-requires-clause-range c =
     let same : c.disk-disk.result.now ≡ c.device.result.now.disk =
-    c.disk-disk.ensures ∙ ap (λ (k : Core Drive Harbor). k.disk) (c.device-2.ensures ∙ sym c.device.ensures) in
+    c.disk-disk.ensures ∙ ap (λ (k : Core MemDiskView Harbor). k.disk) (c.device-2.ensures ∙ sym c.device.ensures) in
     let oldest : oldest_write_in c.device.result.now.disk.disk.flights ≡ Some c.in-Some.oldest =
-    ap (λ (d : Drive). oldest_write_in d.disk.flights) (sym same) ∙ sym c.oldest_write.ensures ∙ c.in-Some.is in
-    let sizes : c.device.result.now.device.sizes ≡ drill_sizes = ap (λ (k : Core Drive Harbor). k.device.sizes) c.device.ensures ∙ c.requires.ready.sizes in
+    ap (λ (d : MemDiskView). oldest_write_in d.disk.flights) (sym same) ∙ sym c.oldest_write.ensures ∙ c.in-Some.is in
+    let sizes : c.device.result.now.device.sizes ≡ drill_sizes =
+    ap (λ (k : Core MemDiskView Harbor). k.device.sizes) c.device.ensures ∙ c.requires.ready.sizes in
     subst (λ (s : Sizes). c.in-Some.oldest.0 < pages_of s) sizes
     (oldest_within true
     (pages_of c.device.result.now.device.sizes) c.device.result.now.device.sizes.callers c.device.result.now.device.queue c.device.result.now.device.calls
@@ -35,7 +36,7 @@ returns-else-writes_in_flight-gt3-clause-reach c =
 
 pub returns-in-Some-clause-reach : goal.returns-in-Some-clause-reach
 returns-in-Some-clause-reach c =
-    let same : c.disk-disk.result.now ≡ c.args.world.now.core.disk = c.disk-disk.ensures ∙ ap (λ (k : Core Drive Harbor). k.disk) c.device-2.ensures in
+    let same : c.disk-disk.result.now ≡ c.args.world.now.core.disk = c.disk-disk.ensures ∙ ap (λ (k : Core MemDiskView Harbor). k.disk) c.device-2.ensures in
     write_ended (world_in c.args.world.now) (world_in c.make.new.world) c.args.world.now.core.disk.disk.flights c.in-Some.oldest c.writes_in_flight.result
-    (c.writes_in_flight.ensures ∙ ap (λ (d : Drive). writes_in d.disk.flights) same) c.if-writes_in_flight-gt3.true
-    (ap (λ (d : Drive). oldest_write_in d.disk.flights) (sym same) ∙ sym c.oldest_write.ensures ∙ c.in-Some.is) c.make.ensures.reach
+    (c.writes_in_flight.ensures ∙ ap (λ (d : MemDiskView). writes_in d.disk.flights) same) c.if-writes_in_flight-gt3.true
+    (ap (λ (d : MemDiskView). oldest_write_in d.disk.flights) (sym same) ∙ sym c.oldest_write.ensures ∙ c.in-Some.is) c.make.ensures.reach

@@ -1,5 +1,5 @@
 use Rattle.std.proofs.Common.{min, subst, ap, ◌∙◌}
-use Rattle.swap_evict.specs.Rounds.{Round, IsOpen, IsEvicted, ready}
+use Rattle.swap_evict.specs.Rounds.{Round, IsOpen, IsEvicted, slots_to_evict}
 use Rattle.swap_evict.proofs.Bits.{open_from, evicted_from, none_ready, some_ready}
 use Rattle.swap_evict.proofs.EvictRound.ready.Goals as goal
 
@@ -23,7 +23,7 @@ pub returns-then-self-ne0-clause-value : goal.returns-then-self-ne0-clause-value
 returns-then-self-ne0-clause-value c =
     let s = c.self.inside in
     let round : Round = record { asked = s.asked; count = s.count; answered = s.answered; gone = s.gone; values = s.values } in
-    none_ready round c.if-self-ne0.true ∙ ap ready c.self.view_is
+    none_ready round c.if-self-ne0.true ∙ ap slots_to_evict c.self.view_is
 
 pub returns-clause-value : goal.returns-clause-value
 returns-clause-value c =
@@ -31,4 +31,4 @@ returns-clause-value c =
     let round : Round = record { asked = s.asked; count = s.count; answered = s.answered; gone = s.gone; values = s.values } in
     some_ready round c.least.result c.min-count.result c.if-self-ne0.false
     (c.min-count.ensures ∙ ap (λ n. min s.count n) c.slot_count.ensures) c.least.ensures.value
-    ∙ ap ready c.self.view_is
+    ∙ ap slots_to_evict c.self.view_is

@@ -1,5 +1,5 @@
 use Rattle.std.proofs.Common.{◌∙◌, ap}
-use Rattle.swap_disk.specs.Drive.{new_drive}
+use Rattle.swap_disk.specs.MemDiskView.{new_drive}
 use Rattle.swap_script.specs.Reading.{Script}
 use Rattle.swap_hosted.proofs.Sides.{over_drive}
 use Rattle.swap_hosted.proofs.ports.over_memory.Goals as goal

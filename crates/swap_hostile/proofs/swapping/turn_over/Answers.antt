@@ -1,11 +1,11 @@
 use Rattle.std.proofs.Common.{rules}
 use Rattle.std.proofs.lemmas.List.Edits.{map_over_more}
 use Rattle.std.proofs.lemmas.List.{take_all, drop_all}
-use Rattle.swap_hostile.specs.Swapping.{turned}
+use Rattle.swap_hostile.specs.Swapping.{turn_byte}
 use Rattle.swap_hostile.proofs.swapping.turn_over.Goals as goal
 
 pub loop-i-preserved : goal.loop-i-preserved
-loop-i-preserved c = search (rules, map_over_more turned)
+loop-i-preserved c = search (rules, map_over_more turn_byte)
 
 pub returns : goal.returns
 returns c = search (rules, take_all, drop_all)

@@ -1,12 +1,12 @@
 use Rattle.std.proofs.Common.{◌≡◌, length}
-use Rattle.swap_lender.specs.Outbox.{leaving}
-use Rattle.swap_link.specs.Channel.{forwarded}
+use Rattle.swap_lender.specs.Outbox.{outbox_with}
+use Rattle.swap_link.specs.Channel.{forward_after}
 use Rattle.swap_link.proofs.channel.post_all.Given as goal
 
 abbrev pub invariant-loop-link : goal.invariant-loop-link
 invariant-loop-link l =
-    (l.outbox ≡ leaving l.initial.outbox l.outbox.parcels l.initial.outbox.evicted)
-    × (forwarded l.number l.lane l.outbox.parcels ≡ forwarded l.number l.initial.lane l.initial.outbox.parcels)
+    (l.outbox ≡ outbox_with l.initial.outbox l.outbox.parcels l.initial.outbox.evicted)
+    × (forward_after l.number l.lane l.outbox.parcels ≡ forward_after l.number l.initial.lane l.initial.outbox.parcels)
     × (l.lane.page_bytes ≡ l.initial.lane.page_bytes)
 
 abbrev pub decreases-loop-link : goal.decreases-loop-link

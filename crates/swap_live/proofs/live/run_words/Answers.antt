@@ -1,5 +1,5 @@
 use Rattle.std.proofs.Common.{◌∙◌, Some, map, refl, ap}
-use Rattle.swap_options.specs.Play.{asked}
+use Rattle.swap_options.specs.Play.{play_asked}
 use Rattle.swap_live.specs.declared.live.LiveCommand.{LiveCommand}
 use Rattle.swap_live.specs.Live.{command_is, command_of}
 use Rattle.swap_live.proofs.Living.{keeps_same, lent, played, wanted}
@@ -20,7 +20,7 @@ returns-in-Ok-Play g c =
     record {
       ends =
           played g.H.Disk.DiskPort g.H.Net.Fabric _ _ _ _ (command_of (map (λ word. word.now) c.args.words.now))
-          (asked c.in-Ok-Play.options) _ _ _ c.run_play.result
+          (play_asked c.in-Ok-Play.options) _ _ _ c.run_play.result
           (c.in-Ok-Play.ensures.command ∙ ap (λ (x : LiveCommand). Some (command_is x)) is) c.run_play.ensures.ends;
     }
 

@@ -1,5 +1,5 @@
 use Rattle.std.proofs.Common.{◌≡◌, ◌∷◌, length, refl, ap, ◌∙◌}
-use Rattle.swap_lender.specs.Outbox.{Outgoing}
+use Rattle.swap_lender.specs.Outbox.{OutboxView}
 use Rattle.swap_node.specs.Boards.{Board}
 use Rattle.swap_node.proofs.Telling.{tell_one, tell_none}
 use Rattle.swap_node.proofs.send.tell_all.Goals as goal
@@ -14,7 +14,7 @@ telling-preserved g c =
           c.telling.invariant.told m b
           (tell_one g.K.Sink.taken g.K.Sink.faults c.telling.core c.gone.new.self m c.telling.lines c.next_failed.new.self c.put_all.new.lines b
           c.in-Some.link c.gone.new.out.parcels first rest c.gone.ensures.state
-          (ap (λ (o : Outgoing). o.parcels) c.gone.ensures.outbox) c.put_all.ensures.puts t);
+          (ap (λ (o : OutboxView). o.parcels) c.gone.ensures.outbox) c.put_all.ensures.puts t);
       lending = c.gone.ensures.lending ∙ c.telling.invariant.lending;
       out =
           rw (c.put_all.ensures.out, c.gone.ensures.outbox)

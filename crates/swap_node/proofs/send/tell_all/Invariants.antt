@@ -1,12 +1,12 @@
 use Rattle.std.proofs.Common.{◌≡◌, length}
 use Rattle.swap_lender.specs.Lender.{Lender}
 use Rattle.swap_lender.specs.Outbox.{IsReady}
-use Rattle.swap_node.specs.Boards.{Board, unsettled}
-use Rattle.swap_node.specs.Office.{Told}
+use Rattle.swap_node.specs.Boards.{Board, count_unsettled}
+use Rattle.swap_node.specs.NodeView.{Told}
 use Rattle.swap_node.proofs.send.tell_all.Given as goal
 
 abbrev pub decreases-telling : goal.decreases-telling
-decreases-telling g l = unsettled l.lines
+decreases-telling g l = count_unsettled l.lines
 
 abbrev pub invariant-telling : goal.invariant-telling
 invariant-telling g l = record {

@@ -1,5 +1,5 @@
 use Rattle.std.proofs.Common.{◌≡◌, ◌<◌, arith, sym, ap, ◌∙◌, Some}
-use Rattle.swap_places.specs.Line.{Line, stands, behind}
+use Rattle.swap_places.specs.Line.{Line, stands, number_behind}
 use Rattle.swap_places.proofs.Lines.{next_stands}
 use Rattle.swap_places.proofs.Moves.{at, link_read, within, none_next, some_next}
 use Rattle.swap_places.proofs.Line.next.Goals as goal
@@ -22,7 +22,7 @@ returns-then-next-self-clause-number c =
     sym
     (none_next c.self.inside.after.items c.self.inside.before.items c.self.inside.bound c.self.inside.count c.args.number c.self.invariant
     (ap (λ (l : Line). stands l.numbers c.args.number) c.self.view_is ∙ c.requires) (sym next ∙ c.if-next-self.true))
-    ∙ ap (λ (l : Line). behind c.args.number l.numbers) c.self.view_is
+    ∙ ap (λ (l : Line). number_behind c.args.number l.numbers) c.self.view_is
 
 pub returns-else-next-self-clause-number : goal.returns-else-next-self-clause-number
 returns-else-next-self-clause-number c =
@@ -36,7 +36,7 @@ returns-else-next-self-clause-number c =
     ∙ sym
     (some_next c.self.inside.after.items c.self.inside.before.items c.self.inside.bound c.self.inside.count c.args.number c.self.invariant
     (ap (λ (l : Line). stands l.numbers c.args.number) c.self.view_is ∙ c.requires) (λ e. c.if-next-self.false (next ∙ e)))
-    ∙ ap (λ (l : Line). behind c.args.number l.numbers) c.self.view_is
+    ∙ ap (λ (l : Line). number_behind c.args.number l.numbers) c.self.view_is
 
 pub returns-else-next-self-clause-stands : goal.returns-else-next-self-clause-stands
 returns-else-next-self-clause-stands c =

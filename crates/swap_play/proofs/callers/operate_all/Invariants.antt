@@ -1,5 +1,5 @@
 use Rattle.std.proofs.Common.{◌≡◌}
-use Rattle.swap_turn.specs.Standing.{IsFreeOf}
+use Rattle.swap_turn.specs.PassView.{IsFreeOf}
 use Rattle.swap_play.proofs.callers.operate_all.Given as goal
 
 abbrev pub invariant-events : goal.invariant-events

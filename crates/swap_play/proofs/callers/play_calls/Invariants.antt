@@ -1,6 +1,6 @@
 use Rattle.std.proofs.Common.{◌≡◌, length}
 use Rattle.swap_record.specs.History.{History}
-use Rattle.swap_turn.specs.Standing.{IsFreeOf}
+use Rattle.swap_turn.specs.PassView.{IsFreeOf}
 use Rattle.swap_play.specs.Callers.{AreCallsOf, Plays, caller}
 use Rattle.swap_play.proofs.callers.play_calls.Given as goal
 

@@ -1,6 +1,6 @@
 use Rattle.std.proofs.Common.{rules, ◌≡◌, ◌<◌, ◌+◌, length, slice_index_or, sym, ap, subst, arith}
 use Rattle.swap_turn.specs.declared.lock.Pass.{Pass}
-use Rattle.swap_turn.specs.Standing.{IsFreeOf}
+use Rattle.swap_turn.specs.PassView.{IsFreeOf}
 use Rattle.swap_play.specs.Callers.{IsOver}
 use Rattle.swap_play.specs.declared.callers.Ticket.{Ticket}
 use Rattle.swap_play.proofs.Ticketing.{as_long, mapped_at, mapped_all}

@@ -2,7 +2,7 @@ use Rattle.std.proofs.Common.{rules, arith, ◌≡◌, ◌-◌, ◌+◌, ◌<◌
 use Rattle.swap_turn.specs.Turns.{entries_of}
 use Rattle.swap_turn.specs.declared.view.View.{View}
 use Rattle.swap_turn.specs.Turns.{fewer_left, next_given, numbers_from}
-use Rattle.swap_turn.specs.Standing.{LockId, newcomer, standing_of}
+use Rattle.swap_turn.specs.PassView.{LockId, pass_at_start, standing_of}
 use Rattle.swap_turn.proofs.Seats.{splits}
 use Rattle.swap_turn.proofs.Dealing.{dealt-left, dealt-fewer, dealt-given, dealt-last, seated_is, standing_is, pushed, newcomers_free}
 use Rattle.swap_turn.proofs.lock.deal.Goals as goal
@@ -64,10 +64,10 @@ all_dealt g c =
     let same : old ≡ z = search rules in
     let whole : (k - 1) + 1 ≡ k = omega arith in
     c.push_reserved-2.ensures.items
-    ∙ (pushed id log (k - 1) _ _ (inv.2 ∙ (λ j. map (newcomer (record { table = same j; seats = k }) log) (numbers_from 0 (last j))))
+    ∙ (pushed id log (k - 1) _ _ (inv.2 ∙ (λ j. map (pass_at_start (record { table = same j; seats = k }) log) (numbers_from 0 (last j))))
     (ap (λ t. standing_of t (k - 1) c.into_badge-2.result.views) lock
     ∙ standing_is z (k - 1) k log (entries_of (k - 1) log) _ _ c.into_badge-2.ensures.2 (is ∙ dealt-last k log i last))
-    ∙ ap (λ (n : ℕ). map (newcomer id log) (numbers_from 0 n)) whole)
+    ∙ ap (λ (n : ℕ). map (pass_at_start id log) (numbers_from 0 n)) whole)
 
 pub returns-clause-passes : goal.returns-clause-passes
 returns-clause-passes g c = all_dealt g c

@@ -2,7 +2,7 @@ use Rattle.std.proofs.Common.{rules, ◌≡◌, ◌∷◌, ◌++◌, [], ap, sym
 use Rattle.std.specs.Prelude.{IsSome, All}
 use mathlib.Core.Option.{some-injective}
 use Rattle.swap_turn.specs.Turns.{entries_of}
-use Rattle.swap_turn.specs.Standing.{IsFreeOf}
+use Rattle.swap_turn.specs.PassView.{IsFreeOf}
 use Rattle.swap_turn.specs.Turns.{taken_in}
 use Rattle.swap_turn.proofs.Seats.{joins, ends}
 use Rattle.swap_turn.proofs.Ending.{gathers_next, gathered, of_pairs, all_front, all_last, emptied}

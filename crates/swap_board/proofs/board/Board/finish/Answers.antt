@@ -5,7 +5,7 @@ use Rattle.swap_wire.specs.Fabric.{FabricOf}
 use Rattle.swap_wire.specs.declared.Event.TheVariants as event
 use Rattle.swap_table.specs.Device.{Device}
 use Rattle.swap_board.specs.Acts.{Makes, Made, Player}
-use Rattle.swap_board.specs.Boards.{BoardOf}
+use Rattle.swap_board.specs.Boards.{BoardView}
 use Rattle.swap_board.specs.Works.{IsSame}
 use Rattle.swap_board.proofs.Acts.{makes_after}
 use Rattle.swap_board.proofs.Boards.{board_same, board_finished, finish_adds}

@@ -1,5 +1,5 @@
 use Rattle.std.proofs.Common.{ap, ◌∙◌}
-use Rattle.swap_calls.specs.Calls.{Calls, CallTable, newer_if_reads}
+use Rattle.swap_calls.specs.Calls.{Calls, CallsView, newer_if_reads}
 use Rattle.swap_calls.specs.Kept.{calls_in}
 use Rattle.swap_calls.proofs.InMemory.{swept, each_state, each_whole, newer_keeps}
 use Rattle.swap_calls.proofs.table.Calls.paged_out.Goals as goal
@@ -13,7 +13,7 @@ invariant_of-self c =
 
 pub returns : goal.returns
 returns c =
-    let table : Calls → CallTable = λ cs. record { calls = cs; page_bytes = c.self.inside.page_bytes } in
+    let table : Calls → CallsView = λ cs. record { calls = cs; page_bytes = c.self.inside.page_bytes } in
     let is =
     swept c.self.inside.calls c.note_page_out.new.calls c.deref_mut.result.now
     (newer_if_reads c.args.page) c.note_page_out.ensures c.deref_mut.ensures.value in

@@ -1,5 +1,5 @@
 use Rattle.std.proofs.Common.{◌≡◌, ◌-◌, ◌*◌, ◌+◌}
-use Rattle.swap_device.specs.State.{IsReady, LeavesRest, fallen}
+use Rattle.swap_device.specs.State.{IsReady, LeavesRest, lose_in_turn}
 use Rattle.swap_device.proofs.Falls.{ComesOf}
 use Rattle.swap_device.proofs.machine.Machine.+losing.Given as goal
 
@@ -15,7 +15,8 @@ decreases-choose g l = 3 * l.more + 1
 abbrev pub invariant-fall-loop-number : goal.invariant-fall-loop-number
 invariant-fall-loop-number g l = record {
   comes : ComesOf g.D.DiskPort.moves g.F.Fabric.moves
-      (fallen (l.more - 1)) l.slabs l.number l.lender l.self.device l.self.disk l.self.fabric l.initial.self.device l.initial.self.disk l.initial.self.fabric;
+      (lose_in_turn (l.more - 1)) l.slabs l.number l.lender l.self.device l.self.disk l.self.fabric l.initial.self.device l.initial.self.disk
+      l.initial.self.fabric;
   slabs : l.self.device.sizes.slabs ≡ l.slabs;
   ready : IsReady g.F.Fabric l.self;
   rest : LeavesRest l.initial.self l.self;

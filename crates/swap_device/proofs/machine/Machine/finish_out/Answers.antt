@@ -1,5 +1,5 @@
 use Rattle.std.proofs.Common.{sym, ap, ◌∙◌, subst}
-use Rattle.swap_table.specs.Device.{Core, accept}
+use Rattle.swap_table.specs.Device.{Core, accept_program}
 use Rattle.swap_queue.specs.Queue.{has_room}
 use Rattle.swap_calls.specs.Calls.{call_of}
 use Rattle.swap_table.specs.Ports.{Along}
@@ -16,7 +16,7 @@ returns-then-has_room-clause-moved g c =
     let moved =
     subst (λ b.
     Along g.D.DiskPort.moves g.F.Fabric.moves
-    (accept c.args.self.now.device c.args.caller c.args.page b) c.args.self.now.disk c.args.self.now.fabric c.accept-sent.new.self.disk
+    (accept_program c.args.self.now.device c.args.caller c.args.page b) c.args.self.now.disk c.args.self.now.fabric c.accept-sent.new.self.disk
     c.accept-sent.new.self.fabric
     (c.accept-sent.new.self.device, c.accept-sent.result.1))
     kept c.accept-sent.ensures.moved in

@@ -2,7 +2,7 @@ use Rattle.std.proofs.Common.{sym, ap, ◌∙◌, subst}
 use Rattle.swap_table.specs.Device.{Core}
 use Rattle.swap_rings.specs.Rings.{is_up, oldest, ring_of}
 use Rattle.swap_table.specs.Ports.{Along}
-use Rattle.swap_table.specs.Device.{understood}
+use Rattle.swap_table.specs.Device.{understand}
 use Rattle.swap_device.specs.State.{IsServed, heard_of}
 use Rattle.swap_device.proofs.Served.{served}
 use Rattle.swap_device.proofs.Programs.{takes_lost, takes_message, lose_from}
@@ -30,7 +30,7 @@ returns-in-Got-clause-moved g c =
     let understood =
     subst (λ (x : Core g.row.D.Denot g.row.F.Denot).
     Along g.D.DiskPort.moves g.F.Fabric.moves
-    (understood x.device c.args.lender c.in-Got.msg
+    (understand x.device c.args.lender c.in-Got.msg
     (heard_of x.device c.args.lender c.in-Got.msg c.take.new.page (oldest (ring_of x.device.remote.links c.args.lender))))
     x.disk c.take.new.self.fabric c.understand.new.self.disk c.understand.new.self.fabric
     (c.understand.new.self.device, c.understand.result))

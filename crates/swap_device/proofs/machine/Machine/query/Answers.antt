@@ -1,7 +1,7 @@
 use Rattle.std.proofs.Common.{◌<◌, sym, ap, ◌∙◌, subst}
 use Rattle.swap_table.specs.Device.{Device, Core, may_ask}
 use Rattle.swap_slabs.specs.Slabs.{state_of}
-use Rattle.swap_device.specs.State.{Standing}
+use Rattle.swap_device.specs.State.{StateView}
 use Rattle.swap_device.proofs.Programs.{asked_alone, asks_down, lose_from}
 use Rattle.swap_device.proofs.machine.Machine.query.Goals as goal
 
@@ -11,7 +11,7 @@ returns-in-Sent-clause-asking g c = λ sent none.
     let same = ap (λ (x : Core g.row.D.Denot g.row.F.Denot). x.device) (c.self-in-Sent.view_is ∙ c.send.ensures.rest) in
     let slab = subst (λ (x : Device). c.args.slab.0 < x.sizes.slabs) (sym same) c.requires.slab in
     let within = subst (λ n. c.args.slab.0 < n) (sym c.keeps_remote.ensures.slabs_len) slab in
-    ap (λ (x : Standing). state_of x.device.remote.slabs c.args.slab) c.query_sent.ensures
+    ap (λ (x : StateView). state_of x.device.remote.slabs c.args.slab) c.query_sent.ensures
     ∙ asked_alone d.remote c.args.slab c.args.first c.args.lender within none
 
 pub returns-in-Down-clause-moved : goal.returns-in-Down-clause-moved

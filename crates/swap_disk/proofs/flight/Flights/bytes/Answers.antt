@@ -4,7 +4,7 @@ use Rattle.std.proofs.lemmas.List.{get_or_default}
 use Rattle.swap_base.specs.declared.DiskWhich.TheVariants as which
 use Rattle.swap_base.specs.Sizes.{pages_of}
 use Rattle.swap_disk.specs.Disk.{Write}
-use Rattle.swap_disk.specs.Flights.{Flying, bytes_kept}
+use Rattle.swap_disk.specs.Flights.{FlightsView, bytes_kept}
 use Rattle.swap_disk.proofs.Numbers.{at_write, seen_at, writing}
 use Rattle.swap_disk.proofs.flight.Flights.bytes.Goals as goal
 
@@ -49,11 +49,11 @@ returns-clause-len c =
     let held : get_or c.self.inside.kept.items c.args.page.0 None ≡ Some c.unwrap.result.now =
     sym slot ∙ sym c.as_ref.ensures.value ∙ ap option_copied c.unwrap.ensures in
     ap length (c.bytes.ensures ∙ sym (ap bytes_kept held)) ∙ (c.self.invariant.0.kept_fits c.args.page.0 at.waits).1
-    ∙ ap (λ (f : Flying). f.sizes.page_bytes) c.self.view_is
+    ∙ ap (λ (f : FlightsView). f.sizes.page_bytes) c.self.view_is
 
 pub returns-clause-within : goal.returns-clause-within
 returns-clause-within c =
     let at =
     writing c.self.inside.geometry c.self.inside.order c.self.inside.writes c.self.inside.reading.items c.self.inside.kept.items _ c.args.self.now c.args.page
     c.self.invariant.0 c.self.view_is c.keeps.ensures.line.below c.requires in
-    subst (λ (f : Flying). c.args.page.0 < pages_of f.sizes) c.self.view_is at.low
+    subst (λ (f : FlightsView). c.args.page.0 < pages_of f.sizes) c.self.view_is at.low

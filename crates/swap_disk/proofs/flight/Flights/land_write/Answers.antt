@@ -1,8 +1,8 @@
 use Rattle.std.proofs.Common.{◌≡◌, List, get_or, set, is_some, sym, ap, ◌∙◌, arith, None, Some}
 use Rattle.std.proofs.lemmas.List.{get_or_default}
 use Rattle.swap_base.specs.declared.DiskWhich.TheVariants as which
-use Rattle.swap_disk.specs.Disk.{Flight, without}
-use Rattle.swap_disk.specs.Flights.{Flying}
+use Rattle.swap_disk.specs.Disk.{Flight, without_flight}
+use Rattle.swap_disk.specs.Flights.{FlightsView}
 use Rattle.swap_disk.proofs.Numbers.{length-without, writing}
 use Rattle.swap_disk.proofs.FlightMoves.{landed_kept, write_landed}
 use Rattle.swap_disk.proofs.flight.Flights.land_write.Goals as goal
@@ -82,4 +82,4 @@ returns c =
     c.self.invariant.0 c.keeps.ensures.line.once c.keeps-2.ensures.line.once at.low at.flies took c.push_reserved.ensures.items c.leave.ensures.numbers
     c.leave-2.ensures.numbers
     (ap (λ o. set c.self.inside.kept.items c.args.page.0 o) c.take.ensures.after))
-    ∙ ap (λ (f : Flying). record { sizes = f.sizes; flights = without (which.Write c.args.page) f.flights }) c.self.view_is
+    ∙ ap (λ (f : FlightsView). record { sizes = f.sizes; flights = without_flight (which.Write c.args.page) f.flights }) c.self.view_is

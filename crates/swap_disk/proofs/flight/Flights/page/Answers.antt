@@ -6,7 +6,7 @@ use Rattle.swap_base.specs.declared.DiskWhich.TheVariants as which
 use Rattle.swap_base.specs.Sizes.{pages_of}
 use Rattle.swap_places.specs.Line.{stands}
 use Rattle.swap_disk.specs.Disk.{Flight, page_of}
-use Rattle.swap_disk.specs.Flights.{Flying, number_of, is_known, flight_at, page_read}
+use Rattle.swap_disk.specs.Flights.{FlightsView, number_of, is_known, flight_at, page_read}
 use Rattle.swap_disk.proofs.Numbers.{at_write, at_caller, seen_in, seen_at}
 use Rattle.swap_disk.proofs.flight.Flights.page.Goals as goal
 
@@ -42,7 +42,7 @@ returns-in-Write-clause-within c =
     c.self.invariant.0.order_bound c.keeps.ensures.line.below c.args.which c.requires in
     let known : is_known c.self.inside.geometry (which.Write c.in-Write.page) ≡ true =
     subst (λ w. is_known c.self.inside.geometry w ≡ true) c.in-Write.is in'.0 in
-    subst (λ (f : Flying). c.in-Write.page.0 < pages_of f.sizes) c.self.view_is (ltb-true c.in-Write.page.0 (pages_of c.self.inside.geometry) known)
+    subst (λ (f : FlightsView). c.in-Write.page.0 < pages_of f.sizes) c.self.view_is (ltb-true c.in-Write.page.0 (pages_of c.self.inside.geometry) known)
 
 pub returns-in-Read-clause-page : goal.returns-in-Read-clause-page
 returns-in-Read-clause-page c =
@@ -76,5 +76,5 @@ returns-in-Read-clause-within c =
     omega (arith, ltb-true c.in-Read.caller.0 c.self.inside.geometry.callers known, c.self.invariant.0.reading_len) in
     let read : c.index.result.now ≡ page_read c.self.inside.reading.items c.in-Read.caller.0 =
     c.index.ensures ∙ get_or_default c.self.inside.reading.items c.in-Read.caller.0 c.index.result.now (record { 0 = 0 }) within in
-    subst (λ (f : Flying). c.index.result.now.0 < pages_of f.sizes) c.self.view_is
+    subst (λ (f : FlightsView). c.index.result.now.0 < pages_of f.sizes) c.self.view_is
     (subst (λ (p : Page). p.0 < pages_of c.self.inside.geometry) (sym read) (c.self.invariant.0.reads_fit c.in-Read.caller.0 there))

@@ -5,7 +5,7 @@ use Rattle.swap_base.specs.Sizes.{pages_of}
 use Rattle.swap_places.specs.Line.{stands}
 use Rattle.swap_disk.specs.Disk.{Flight, Write}
 use Rattle.swap_disk.specs.Port.{writes_in}
-use Rattle.swap_disk.specs.Flights.{Flying, flights_in}
+use Rattle.swap_disk.specs.Flights.{FlightsView, flights_in}
 use Rattle.swap_disk.proofs.Numbers.{page_stands, writes_counted, seen_out}
 use Rattle.swap_disk.proofs.FlightMoves.{write_kept, write_flies}
 use Rattle.swap_disk.proofs.flight.Flights.start_write.Goals as goal
@@ -14,7 +14,7 @@ pub unwrap-buffer-requires : goal.unwrap-buffer-requires
 unwrap-buffer-requires c =
     let room_in : writes_in (flights_in c.self.inside.geometry c.self.inside.reading.items c.self.inside.kept.items c.self.inside.order.numbers)
     < c.self.inside.geometry.queue =
-    subst (λ (f : Flying). writes_in f.flights < f.sizes.queue) (sym c.self.view_is) c.requires.room in
+    subst (λ (f : FlightsView). writes_in f.flights < f.sizes.queue) (sym c.self.view_is) c.requires.room in
     let some_spare : 0 < length c.self.inside.spare.items =
     omega (
       arith,
@@ -29,7 +29,7 @@ pub fill-requires : goal.fill-requires
 fill-requires c =
     let room_in : writes_in (flights_in c.self.inside.geometry c.self.inside.reading.items c.self.inside.kept.items c.self.inside.order.numbers)
     < c.self.inside.geometry.queue =
-    subst (λ (f : Flying). writes_in f.flights < f.sizes.queue) (sym c.self.view_is) c.requires.room in
+    subst (λ (f : FlightsView). writes_in f.flights < f.sizes.queue) (sym c.self.view_is) c.requires.room in
     let some_spare : 0 < length c.self.inside.spare.items =
     omega (
       arith,
@@ -41,7 +41,7 @@ fill-requires c =
     let popped : c.self.inside.spare.items ≡ c.pop.new.self.items ++ c.unwrap-buffer.result ∷ [] =
     c.pop.ensures.items ∙ ap (λ (o : Option (List ℕ)). c.pop.new.self.items ++ option_to_list o) c.unwrap-buffer.ensures in
     let long : length c.args.bytes.now ≡ c.self.inside.geometry.page_bytes =
-    subst (λ (f : Flying). length c.args.bytes.now ≡ f.sizes.page_bytes) (sym c.self.view_is) c.requires.bytes in
+    subst (λ (f : FlightsView). length c.args.bytes.now ≡ f.sizes.page_bytes) (sym c.self.view_is) c.requires.bytes in
     let last : length c.unwrap-buffer.result ≡ c.self.inside.geometry.page_bytes =
     ap length
     (sym
@@ -54,7 +54,7 @@ fill-requires c =
 pub enter-requires-clause-out : goal.enter-requires-clause-out
 enter-requires-clause-out c =
     let within : c.args.page.0 < pages_of c.self.inside.geometry =
-    subst (λ (f : Flying). c.args.page.0 < pages_of f.sizes) (sym c.self.view_is) c.requires.page in
+    subst (λ (f : FlightsView). c.args.page.0 < pages_of f.sizes) (sym c.self.view_is) c.requires.page in
     let out : stands c.self.inside.order.numbers c.args.page.0 ≡ false =
     seen_out c.self.inside.geometry c.self.inside.reading.items c.self.inside.kept.items c.self.inside.order c.args.self.now c.self.view_is
     c.self.invariant.0.order_bound c.keeps.ensures.line.below
@@ -64,7 +64,7 @@ enter-requires-clause-out c =
 pub enter-requires-2-clause-out : goal.enter-requires-2-clause-out
 enter-requires-2-clause-out c =
     let within : c.args.page.0 < pages_of c.self.inside.geometry =
-    subst (λ (f : Flying). c.args.page.0 < pages_of f.sizes) (sym c.self.view_is) c.requires.page in
+    subst (λ (f : FlightsView). c.args.page.0 < pages_of f.sizes) (sym c.self.view_is) c.requires.page in
     let out : stands c.self.inside.order.numbers c.args.page.0 ≡ false =
     seen_out c.self.inside.geometry c.self.inside.reading.items c.self.inside.kept.items c.self.inside.order c.args.self.now c.self.view_is
     c.self.invariant.0.order_bound c.keeps.ensures.line.below
@@ -75,7 +75,7 @@ enter-requires-2-clause-out c =
 pub invariant_of-self : goal.invariant_of-self
 invariant_of-self c =
     let within : c.args.page.0 < pages_of c.self.inside.geometry =
-    subst (λ (f : Flying). c.args.page.0 < pages_of f.sizes) (sym c.self.view_is) c.requires.page in
+    subst (λ (f : FlightsView). c.args.page.0 < pages_of f.sizes) (sym c.self.view_is) c.requires.page in
     let out : stands c.self.inside.order.numbers c.args.page.0 ≡ false =
     seen_out c.self.inside.geometry c.self.inside.reading.items c.self.inside.kept.items c.self.inside.order c.args.self.now c.self.view_is
     c.self.invariant.0.order_bound c.keeps.ensures.line.below
@@ -83,7 +83,7 @@ invariant_of-self c =
     let popped : c.self.inside.spare.items ≡ c.pop.new.self.items ++ c.unwrap-buffer.result ∷ [] =
     c.pop.ensures.items ∙ ap (λ (o : Option (List ℕ)). c.pop.new.self.items ++ option_to_list o) c.unwrap-buffer.ensures in
     let long : length c.args.bytes.now ≡ c.self.inside.geometry.page_bytes =
-    subst (λ (f : Flying). length c.args.bytes.now ≡ f.sizes.page_bytes) (sym c.self.view_is) c.requires.bytes in (
+    subst (λ (f : FlightsView). length c.args.bytes.now ≡ f.sizes.page_bytes) (sym c.self.view_is) c.requires.bytes in (
       write_kept c.is_a_line.ensures.enter c.self.inside.geometry c.self.inside.order c.self.inside.writes c.enter.new.self c.enter-2.new.self
           c.self.inside.reading.items c.self.inside.kept.items
           (set c.self.inside.kept.items c.args.page.0 (Some c.fill.new.self)) c.self.inside.spare.items c.pop.new.self.items c.args.page c.fill.new.self
@@ -95,7 +95,7 @@ invariant_of-self c =
 pub returns : goal.returns
 returns c =
     let within : c.args.page.0 < pages_of c.self.inside.geometry =
-    subst (λ (f : Flying). c.args.page.0 < pages_of f.sizes) (sym c.self.view_is) c.requires.page in
+    subst (λ (f : FlightsView). c.args.page.0 < pages_of f.sizes) (sym c.self.view_is) c.requires.page in
     let out : stands c.self.inside.order.numbers c.args.page.0 ≡ false =
     seen_out c.self.inside.geometry c.self.inside.reading.items c.self.inside.kept.items c.self.inside.order c.args.self.now c.self.view_is
     c.self.invariant.0.order_bound c.keeps.ensures.line.below
@@ -103,7 +103,7 @@ returns c =
     let popped : c.self.inside.spare.items ≡ c.pop.new.self.items ++ c.unwrap-buffer.result ∷ [] =
     c.pop.ensures.items ∙ ap (λ (o : Option (List ℕ)). c.pop.new.self.items ++ option_to_list o) c.unwrap-buffer.ensures in
     let long : length c.args.bytes.now ≡ c.self.inside.geometry.page_bytes =
-    subst (λ (f : Flying). length c.args.bytes.now ≡ f.sizes.page_bytes) (sym c.self.view_is) c.requires.bytes in
+    subst (λ (f : FlightsView). length c.args.bytes.now ≡ f.sizes.page_bytes) (sym c.self.view_is) c.requires.bytes in
     ap (λ (l : List Flight). record { sizes = c.self.inside.geometry; flights = l })
     (write_flies c.is_a_line.ensures.enter c.self.inside.geometry c.self.inside.order c.self.inside.writes c.enter.new.self c.enter-2.new.self
     c.self.inside.reading.items c.self.inside.kept.items
@@ -118,4 +118,4 @@ returns c =
           flights_in c.self.inside.geometry c.self.inside.reading.items c.self.inside.kept.items c.self.inside.order.numbers ++ Write c.args.page bs ∷ [];
     })
     c.fill.ensures
-    ∙ ap (λ (f : Flying). record { sizes = f.sizes; flights = f.flights ++ Write c.args.page c.args.bytes.now ∷ [] }) c.self.view_is
+    ∙ ap (λ (f : FlightsView). record { sizes = f.sizes; flights = f.flights ++ Write c.args.page c.args.bytes.now ∷ [] }) c.self.view_is

@@ -1,6 +1,6 @@
 use Rattle.std.proofs.Common.{[], ◌∷◌, sym, ap, ◌∙◌, subst}
-use Rattle.swap_disk.specs.Disk.{Write, started}
-use Rattle.swap_disk.specs.Drive.{Drive, IsDrive}
+use Rattle.swap_disk.specs.Disk.{Write, start_after}
+use Rattle.swap_disk.specs.MemDiskView.{MemDiskView, IsDrive}
 use Rattle.swap_disk.proofs.DriveMoves.{is_drive, start_is, start_holds}
 use Rattle.swap_disk.proofs.mem_disk.MemDiskDiskPort.start_write.Goals as goal
 
@@ -11,10 +11,10 @@ invariant_of-self c =
 
 pub returns : goal.returns
 returns c =
-    let D : Drive → Drive = λ d. record { sizes = d.sizes; disk = started d.disk (Write c.args.page c.args.bytes.now ∷ []) } in (
-      subst (λ (d : Drive). IsDrive d) c.self.view_is
+    let D : MemDiskView → MemDiskView = λ d. record { sizes = d.sizes; disk = start_after d.disk (Write c.args.page c.args.bytes.now ∷ []) } in (
+      subst (λ (d : MemDiskView). IsDrive d) c.self.view_is
           (is_drive c.self.inside.blocks c.self.inside.flights c.self.inside.ended c.self.inside.faults c.self.invariant),
-      ap (λ (d : Drive). (tt, d))
+      ap (λ (d : MemDiskView). (tt, d))
           (ap D (sym c.self.view_is)
           ∙ start_is c.self.inside.blocks c.self.inside.flights c.start_write.new.self c.self.inside.ended c.self.inside.faults
           (Write c.args.page c.args.bytes.now ∷ []) c.self.invariant c.start_write.ensures),

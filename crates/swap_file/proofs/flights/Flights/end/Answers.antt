@@ -1,7 +1,7 @@
 use Rattle.std.proofs.Common.{◌≡◌, List, position, refl, sym, ap, ◌∙◌, subst, arith, Option, None, Some}
 use Rattle.swap_disk.specs.Disk.{Flight}
 use Rattle.swap_file.specs.declared.flights.Flying.{Flying}
-use Rattle.swap_file.specs.Flights.{Roster, is_flying, flights_of, Leaves, Holds}
+use Rattle.swap_file.specs.Flights.{FlightsView, is_flying, flights_of, Leaves, Holds}
 use Rattle.swap_file.proofs.Ends.{find_none, leaves}
 use Rattle.swap_file.proofs.Room.{holds_without}
 use Rattle.swap_file.proofs.flights.Flights.end.Goals as goal
@@ -11,11 +11,11 @@ returns-in_err-place c =
     let lost : position (is_flying c.args.which) c.self.inside.list.items ≡ None =
     sym (c.place_of.ensures ∙ ap (λ (l : List Flying). position (is_flying c.args.which) l) c.deref.ensures.value) ∙ c.in_err-place.was in
     subst (λ (o : Option Flying). Leaves c.args.which c.args.self.now o c.args.self.now) (sym c.from_residual.ensures)
-    (subst (λ (r : Roster). Leaves c.args.which r None r) c.self.view_is (find_none c.args.which c.self.inside.list.items lost, refl))
+    (subst (λ (r : FlightsView). Leaves c.args.which r None r) c.self.view_is (find_none c.args.which c.self.inside.list.items lost, refl))
 
 pub invariant_of-self : goal.invariant_of-self
 invariant_of-self c =
-    let F : List Flight → Roster = λ fs. record { flights = fs; queue = c.self.inside.queue; callers = c.self.inside.callers } in
+    let F : List Flight → FlightsView = λ fs. record { flights = fs; queue = c.self.inside.queue; callers = c.self.inside.callers } in
     let found : position (is_flying c.args.which) c.self.inside.list.items ≡ Some c.in_ok-place.place =
     sym (c.place_of.ensures ∙ ap (λ (l : List Flying). position (is_flying c.args.which) l) c.deref.ensures.value) ∙ c.in_ok-place.was in
     let left =
@@ -27,10 +27,10 @@ invariant_of-self c =
 
 pub returns : goal.returns
 returns c =
-    let F : List Flight → Roster = λ fs. record { flights = fs; queue = c.self.inside.queue; callers = c.self.inside.callers } in
+    let F : List Flight → FlightsView = λ fs. record { flights = fs; queue = c.self.inside.queue; callers = c.self.inside.callers } in
     let found : position (is_flying c.args.which) c.self.inside.list.items ≡ Some c.in_ok-place.place =
     sym (c.place_of.ensures ∙ ap (λ (l : List Flying). position (is_flying c.args.which) l) c.deref.ensures.value) ∙ c.in_ok-place.was in
     let left =
     leaves c.args.which c.self.inside.list.items c.in_ok-place.place c.remove.result c.remove.new.self.items found c.remove.ensures.value
     c.remove.ensures.items in
-    subst (λ (r : Roster). Leaves c.args.which r (Some c.remove.result) (F (flights_of c.remove.new.self.items))) c.self.view_is (left.0, ap F left.1)
+    subst (λ (r : FlightsView). Leaves c.args.which r (Some c.remove.result) (F (flights_of c.remove.new.self.items))) c.self.view_is (left.0, ap F left.1)

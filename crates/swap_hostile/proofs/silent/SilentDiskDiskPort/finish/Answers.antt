@@ -1,5 +1,5 @@
 use Rattle.std.proofs.Common.{refl, subst}
-use Rattle.swap_disk.specs.Drive.{IsDrive}
+use Rattle.swap_disk.specs.MemDiskView.{IsDrive}
 use Rattle.swap_hostile.specs.Silent.{Silent}
 use Rattle.swap_hostile.proofs.silent.SilentDiskDiskPort.finish.Goals as goal
 

@@ -1,6 +1,6 @@
 use Rattle.std.proofs.Common.{◌<◌, sym, ap, ◌∙◌, subst, arith}
 use Rattle.swap_base.specs.declared.DiskWhich.TheVariants as which
-use Rattle.swap_disk.specs.Drive.{Drive, IsDrive}
+use Rattle.swap_disk.specs.MemDiskView.{MemDiskView, IsDrive}
 use Rattle.swap_disk.specs.Port.{IsFree, writes_in, StartWrite}
 use Rattle.swap_hostile.specs.Silent.{Silent, port_of, ask}
 use Rattle.swap_hostile.specs.lemmas.SilentLaws.{free_behind, writes_hidden, drive_keeps}
@@ -22,7 +22,7 @@ invariant_of-self c = drive_keeps c.self.inside.disk c.start_write.new.self (Sta
 
 pub returns : goal.returns
 returns c =
-    let S : Drive → Silent = λ d. record { drive = d; failing = c.self.inside.failing.items; ended = c.self.inside.ended } in (
+    let S : MemDiskView → Silent = λ d. record { drive = d; failing = c.self.inside.failing.items; ended = c.self.inside.ended } in (
       subst (λ (d : Silent). IsDrive d.drive) c.self.view_is c.self.invariant,
-      ap (λ d. ask d (StartWrite c.args.page c.args.bytes.now)) (sym c.self.view_is) ∙ ap (λ (r : Unit {0} × Drive). (tt, S r.1)) c.start_write.ensures.1,
+      ap (λ d. ask d (StartWrite c.args.page c.args.bytes.now)) (sym c.self.view_is) ∙ ap (λ (r : Unit {0} × MemDiskView). (tt, S r.1)) c.start_write.ensures.1,
     )

@@ -1,8 +1,8 @@
 use Rattle.std.proofs.Common.{◌≡◌, true, sym, ap, ◌∙◌}
 use Rattle.swap_wire.specs.Fabric.{parcel_of}
-use Rattle.swap_lender.specs.Outbox.{Outgoing}
+use Rattle.swap_lender.specs.Outbox.{OutboxView}
 use Rattle.swap_lender.specs.Table.{may_send}
-use Rattle.swap_link.specs.Channel.{Channel, channel_in, served, reply_of, forwarded}
+use Rattle.swap_link.specs.Channel.{Channel, channel_in, serve_after, reply_of, forward_after}
 use Rattle.swap_link.specs.lemmas.Sound.{fits-serve, ready-again, fine, not_fine, fits-refused, served-by_parts}
 use Rattle.swap_link.proofs.channel.Channel.serve.Goals as goal
 
@@ -24,11 +24,11 @@ returns-in-Fine c =
     c.self.inside.lender_gone)
     c.args.msg c.args.page.now may
     c.reply-reply.result c.evicted-evicted.result c.took.new.self c.reply-reply.new.lane
-    (c.reply-reply.ensures.reply ∙ ap (λ (o : Outgoing). reply_of o.parcels) c.took.ensures.outbox)
-    (c.evicted-evicted.ensures ∙ ap (λ (o : Outgoing). o.evicted) c.took.ensures.outbox)
+    (c.reply-reply.ensures.reply ∙ ap (λ (o : OutboxView). reply_of o.parcels) c.took.ensures.outbox)
+    (c.evicted-evicted.ensures ∙ ap (λ (o : OutboxView). o.evicted) c.took.ensures.outbox)
     c.took.ensures.state
-    (c.reply-reply.ensures.lane ∙ ap (λ (o : Outgoing). forwarded c.self.inside.number c.self.inside.to_device o.parcels) c.took.ensures.outbox)
-    ∙ ap (λ ch. served ch (parcel_of c.args.msg c.args.page.now)) c.self.view_is
+    (c.reply-reply.ensures.lane ∙ ap (λ (o : OutboxView). forward_after c.self.inside.number c.self.inside.to_device o.parcels) c.took.ensures.outbox)
+    ∙ ap (λ ch. serve_after ch (parcel_of c.args.msg c.args.page.now)) c.self.view_is
 
 pub invariant_of-self-in-End : goal.invariant_of-self-in-End
 invariant_of-self-in-End c =

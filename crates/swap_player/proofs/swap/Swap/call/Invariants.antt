@@ -1,5 +1,5 @@
 use Rattle.std.proofs.Common.{◌≡◌}
-use Rattle.swap_turn.specs.Standing.{IsFreeOf}
+use Rattle.swap_turn.specs.PassView.{IsFreeOf}
 use Rattle.swap_player.specs.Turns.{Looked}
 use Rattle.swap_player.proofs.swap.Swap.call.Given as goal
 

@@ -1,8 +1,8 @@
 use Rattle.std.proofs.Common.{◌≡◌, ℕ, ◌<◌, length, refl, sym, ap, ◌∙◌, arith, is_some, Option, Some, option_map}
 use Rattle.std.proofs.lemmas.Bool.{false≢true}
-use Rattle.swap_queue.specs.Queue.{Copy, flying, done}
-use Rattle.swap_queue.specs.Backlog.{Backlog}
-use Rattle.swap_queue.specs.Cells.{queue_in, longer}
+use Rattle.swap_queue.specs.Queue.{Copy, flying, done_after}
+use Rattle.swap_queue.specs.BehindView.{BehindView}
+use Rattle.swap_queue.specs.Cells.{queue_in, line_with}
 use Rattle.swap_queue.proofs.Steps.{flying_found, flying_entry, entry_told, line_room, done_step}
 use Rattle.swap_queue.proofs.Landings.{flies_in, flying_low, in_table, landing}
 use Rattle.swap_queue.proofs.behind.Behind.done.Goals as goal
@@ -33,11 +33,11 @@ join-requires c =
     c.unwrap-place.result c.is_some-waits.result _ _ c.requires c.find-2.ensures c.unwrap-place.ensures c.find.ensures c.is_some-waits.ensures in
     let moved =
     done_step c.self.inside.geometry c.self.inside.store.cells c.land-entry.new.self.cells c.self.inside.line.items
-    (longer c.self.inside.line.items c.args.page c.is_some-waits.result) c.args.page c.unwrap-place.result c.is_some-waits.result c.self.invariant.0 at.flies
+    (line_with c.self.inside.line.items c.args.page c.is_some-waits.result) c.args.page c.unwrap-place.result c.is_some-waits.result c.self.invariant.0 at.flies
     at.found c.land-entry.ensures.cells at.next refl in
     let room_left : length c.self.inside.line.items < c.self.inside.geometry.queue =
     line_room c.self.inside.geometry c.land-entry.new.self.cells c.self.inside.line.items c.args.page c.is_some-waits.result
-    (done (queue_in c.self.inside.geometry c.self.inside.store.cells c.self.inside.line.items) c.args.page) moved joins in
+    (done_after (queue_in c.self.inside.geometry c.self.inside.store.cells c.self.inside.line.items) c.args.page) moved joins in
     omega (arith, room_left, c.self.invariant.1, c.self.inside.line.ok)
 
 pub invariant_of-self : goal.invariant_of-self
@@ -58,7 +58,7 @@ returns-clause-queue c =
     let moved =
     done_step c.self.inside.geometry c.self.inside.store.cells c.land-entry.new.self.cells c.self.inside.line.items c.join.new.line.items c.args.page
     c.unwrap-place.result c.is_some-waits.result c.self.invariant.0 at.flies at.found c.land-entry.ensures.cells at.next c.join.ensures.items in
-    moved.is ∙ ap (λ (b : Backlog). done b.queue c.args.page) c.self.view_is
+    moved.is ∙ ap (λ (b : BehindView). done_after b.queue c.args.page) c.self.view_is
 
 pub returns-clause-entry : goal.returns-clause-entry
 returns-clause-entry c =
@@ -66,7 +66,7 @@ returns-clause-entry c =
     landing c.self.inside.geometry c.self.inside.store c.self.inside.line.items _ c.args.self.now c.args.page c.self.invariant c.self.view_is
     c.unwrap-place.result c.is_some-waits.result _ _ c.requires c.find-2.ensures c.unwrap-place.ensures c.find.ensures c.is_some-waits.ensures in
     let entry : option_map (λ (copy : Copy). copy.entry) (flying c.args.self.now.queue c.args.page) ≡ Some c.land-entry.result =
-    ap (λ (b : Backlog). option_map (λ (copy : Copy). copy.entry) (flying b.queue c.args.page)) (sym c.self.view_is)
+    ap (λ (b : BehindView). option_map (λ (copy : Copy). copy.entry) (flying b.queue c.args.page)) (sym c.self.view_is)
     ∙ flying_entry c.self.inside.geometry c.self.inside.store.cells c.self.inside.line.items c.self.invariant.0 c.args.page c.unwrap-place.result
     c.land-entry.result at.flies at.found c.land-entry.ensures.entry in
     entry_told (flying c.args.self.now.queue c.args.page) c.land-entry.result entry

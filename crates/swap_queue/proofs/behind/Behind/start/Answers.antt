@@ -2,7 +2,7 @@ use Rattle.std.proofs.Common.{◌≡◌, ◌<◌, ℕ, false, ◌∷◌, ◌++�
 use Rattle.std.proofs.lemmas.List.Quantifiers.{position-Some}
 use Rattle.swap_base.specs.declared.Page.{Page}
 use Rattle.swap_queue.specs.Queue.{Queue, flying, front, start}
-use Rattle.swap_queue.specs.Backlog.{Backlog, started_answer, started_bytes}
+use Rattle.swap_queue.specs.BehindView.{BehindView, started_answer, started_bytes}
 use Rattle.swap_queue.specs.Cells.{free_cell, is_for}
 use Rattle.swap_queue.proofs.Copies.{cell_at, used_for}
 use Rattle.swap_queue.proofs.Steps.{front_flies, front_place, front_range, front_alone, front_found, started_entry, started_copy, start_step}
@@ -43,7 +43,7 @@ give-entry-requires-clause-length c =
     let found : position (is_for false c.in_ok-page.page.0) c.self.inside.store.cells ≡ Some c.unwrap-place.result =
     sym c.find.ensures ∙ c.unwrap-place.ensures in
     let at = position-Some (is_for false c.in_ok-page.page.0) c.self.inside.store.cells c.unwrap-place.result free_cell found in
-    c.requires ∙ ap (λ (b : Backlog). b.sizes.page_bytes) (sym c.self.view_is) ∙ sym (c.self.invariant.0.sized c.unwrap-place.result at.0)
+    c.requires ∙ ap (λ (b : BehindView). b.sizes.page_bytes) (sym c.self.view_is) ∙ sym (c.self.invariant.0.sized c.unwrap-place.result at.0)
 
 pub launch-requires-clause-page : goal.launch-requires-clause-page
 launch-requires-clause-page c =
@@ -83,7 +83,7 @@ returns-clause-front c =
     let found : position (is_for false c.in_ok-page.page.0) c.self.inside.store.cells ≡ Some c.unwrap-place.result =
     sym c.find.ensures ∙ c.unwrap-place.ensures in
     let front_is =
-    ap (λ (b : Backlog). front b.queue) (sym c.self.view_is)
+    ap (λ (b : BehindView). front b.queue) (sym c.self.view_is)
     ∙ front_found c.self.inside.geometry c.self.inside.store.cells c.self.inside.line.items c.pop_front.new.self.items c.self.invariant.0 c.in_ok-page.page
     c.unwrap-place.result first found in
     sym
@@ -99,7 +99,7 @@ returns-clause-bytes c =
     sym c.find.ensures ∙ c.unwrap-place.ensures in
     let at = position-Some (is_for false c.in_ok-page.page.0) c.self.inside.store.cells c.unwrap-place.result free_cell found in
     let front_is =
-    ap (λ (b : Backlog). front b.queue) (sym c.self.view_is)
+    ap (λ (b : BehindView). front b.queue) (sym c.self.view_is)
     ∙ front_found c.self.inside.geometry c.self.inside.store.cells c.self.inside.line.items c.pop_front.new.self.items c.self.invariant.0 c.in_ok-page.page
     c.unwrap-place.result first found in
     c.give-entry.ensures.bytes
@@ -118,7 +118,7 @@ returns-clause-queue c =
     let moved =
     start_step c.self.inside.geometry c.self.inside.store.cells c.launch.new.self.cells c.self.inside.line.items c.pop_front.new.self.items c.in_ok-page.page
     c.unwrap-place.result c.self.invariant.0 first found c.launch.ensures.cells in
-    moved.is ∙ ap (λ (b : Backlog). start b.queue) c.self.view_is
+    moved.is ∙ ap (λ (b : BehindView). start b.queue) c.self.view_is
 
 pub returns-clause-flies : goal.returns-clause-flies
 returns-clause-flies c =

@@ -2,7 +2,7 @@ use Rattle.std.proofs.Common.{◌≡◌, ◌<◌, ℕ, length, ap, sym, ◌∙�
 use Rattle.std.specs.Prelude.{vec_capacity}
 use Rattle.swap_queue.specs.declared.store.Spot.{Spot}
 use Rattle.swap_queue.specs.Cells.{Kept, is_for}
-use Rattle.swap_queue.specs.Stored.{Stored, IsStored, IsPlaceFor, HasRoom, IsSized, spot_in}
+use Rattle.swap_queue.specs.Stored.{StoreView, IsStored, IsPlaceFor, HasRoom, IsSized, spot_in}
 use Rattle.swap_queue.proofs.Copies.{cell_at}
 use Rattle.swap_queue.proofs.StoredSteps.{cell_read, spot_read, takes_place, put_stored, room_free}
 use Rattle.swap_queue.proofs.store.Store.put.Goals as goal
@@ -10,10 +10,11 @@ use Rattle.swap_queue.proofs.store.Store.put.Goals as goal
 pub take_place-place-requires : goal.take_place-place-requires
 take_place-place-requires c =
     λ none.
-    let lt : c.args.page.0 < length c.self.inside.spots.items = subst (λ (s : Stored). c.args.page.0 < s.pages) (sym c.self.view_is) c.requires.page in
+    let lt : c.args.page.0 < length c.self.inside.spots.items = subst (λ (s : StoreView). c.args.page.0 < s.pages) (sym c.self.view_is) c.requires.page in
     let spot : c.index-spot.result.now ≡ spot_in c.self.inside.cells.items c.args.page.0 =
     spot_read c.self.inside.cells.items c.self.inside.spots.items _ _ c.args.page.0 c.index-spot.result.now c.self.invariant lt c.index-spot.ensures in
-    let room : HasRoom c.self.inside.cells.items c.args.page.0 = subst (λ (s : Stored). HasRoom s.cells c.args.page.0) (sym c.self.view_is) c.requires.room in
+    let room : HasRoom c.self.inside.cells.items c.args.page.0 =
+    subst (λ (s : StoreView). HasRoom s.cells c.args.page.0) (sym c.self.view_is) c.requires.room in
     let some : 0 < length c.self.inside.free.items =
     room_free c.self.inside.cells.items c.self.inside.spots.items c.self.inside.free.items
     (vec_capacity c.self.inside.free) c.args.page.0 c.index-spot.result.now.next c.self.invariant room (ap (λ (x : Spot). x.next) spot) none in
@@ -21,7 +22,7 @@ take_place-place-requires c =
 
 pub index_mut-cell-requires : goal.index_mut-cell-requires
 index_mut-cell-requires c =
-    let lt : c.args.page.0 < length c.self.inside.spots.items = subst (λ (s : Stored). c.args.page.0 < s.pages) (sym c.self.view_is) c.requires.page in
+    let lt : c.args.page.0 < length c.self.inside.spots.items = subst (λ (s : StoreView). c.args.page.0 < s.pages) (sym c.self.view_is) c.requires.page in
     let spot : c.index-spot.result.now ≡ spot_in c.self.inside.cells.items c.args.page.0 =
     spot_read c.self.inside.cells.items c.self.inside.spots.items _ _ c.args.page.0 c.index-spot.result.now c.self.invariant lt c.index-spot.ensures in
     let place : IsPlaceFor c.self.inside.cells.items c.args.page.0 c.take_place-place.result =
@@ -33,7 +34,7 @@ index_mut-cell-requires c =
 
 pub keep-requires : goal.keep-requires
 keep-requires c =
-    let lt : c.args.page.0 < length c.self.inside.spots.items = subst (λ (s : Stored). c.args.page.0 < s.pages) (sym c.self.view_is) c.requires.page in
+    let lt : c.args.page.0 < length c.self.inside.spots.items = subst (λ (s : StoreView). c.args.page.0 < s.pages) (sym c.self.view_is) c.requires.page in
     let spot : c.index-spot.result.now ≡ spot_in c.self.inside.cells.items c.args.page.0 =
     spot_read c.self.inside.cells.items c.self.inside.spots.items _ _ c.args.page.0 c.index-spot.result.now c.self.invariant lt c.index-spot.ensures in
     let place : IsPlaceFor c.self.inside.cells.items c.args.page.0 c.take_place-place.result =
@@ -44,12 +45,12 @@ keep-requires c =
     let read : c.index_mut-cell.result.now ≡ cell_at c.self.inside.cells.items c.take_place-place.result =
     cell_read c.self.inside.cells.items c.take_place-place.result c.index_mut-cell.result.now place.0 c.index_mut-cell.ensures.value in
     let sized : IsSized c.self.inside.cells.items (length c.args.bytes.now) =
-    subst (λ (s : Stored). IsSized s.cells (length c.args.bytes.now)) (sym c.self.view_is) c.requires.sized in
+    subst (λ (s : StoreView). IsSized s.cells (length c.args.bytes.now)) (sym c.self.view_is) c.requires.sized in
     sym (ap (λ (x : Kept). length x.bytes) read ∙ sized c.take_place-place.result place.0)
 
 pub invariant_of-self : goal.invariant_of-self
 invariant_of-self c =
-    let lt : c.args.page.0 < length c.self.inside.spots.items = subst (λ (s : Stored). c.args.page.0 < s.pages) (sym c.self.view_is) c.requires.page in
+    let lt : c.args.page.0 < length c.self.inside.spots.items = subst (λ (s : StoreView). c.args.page.0 < s.pages) (sym c.self.view_is) c.requires.page in
     let spot : c.index-spot.result.now ≡ spot_in c.self.inside.cells.items c.args.page.0 =
     spot_read c.self.inside.cells.items c.self.inside.spots.items _ _ c.args.page.0 c.index-spot.result.now c.self.invariant lt c.index-spot.ensures in
     let next : c.index-spot.result.now.next ≡ position (is_for false c.args.page.0) c.self.inside.cells.items = ap (λ (x : Spot). x.next) spot in
@@ -72,10 +73,10 @@ invariant_of-self c =
 
 pub returns-clause-place : goal.returns-clause-place
 returns-clause-place c =
-    let lt : c.args.page.0 < length c.self.inside.spots.items = subst (λ (s : Stored). c.args.page.0 < s.pages) (sym c.self.view_is) c.requires.page in
+    let lt : c.args.page.0 < length c.self.inside.spots.items = subst (λ (s : StoreView). c.args.page.0 < s.pages) (sym c.self.view_is) c.requires.page in
     let spot : c.index-spot.result.now ≡ spot_in c.self.inside.cells.items c.args.page.0 =
     spot_read c.self.inside.cells.items c.self.inside.spots.items _ _ c.args.page.0 c.index-spot.result.now c.self.invariant lt c.index-spot.ensures in
-    subst (λ (s : Stored). IsPlaceFor s.cells c.args.page.0 c.take_place-place.result) c.self.view_is
+    subst (λ (s : StoreView). IsPlaceFor s.cells c.args.page.0 c.take_place-place.result) c.self.view_is
     (takes_place c.self.inside.cells.items c.self.inside.spots.items c.self.inside.free.items
     (vec_capacity c.self.inside.free) c.args.page c.take_place-place.result c.self.invariant lt c.index-spot.result.now.next c.take_place-place.new.free.items
     (ap (λ (x : Spot). x.next) spot) c.take_place-place.ensures.taken)

@@ -1,7 +1,7 @@
 use Rattle.std.proofs.Common.{◌≡◌, ℕ, ◌+◌, List, sym, ap, subst, ◌∙◌, arith, slice_range}
 use Rattle.std.specs.Vec.{with_items}
 use Rattle.std.proofs.lemmas.List.{with_items_is}
-use Rattle.swap_wire.specs.Decoding.{Waits, taken, fed}
+use Rattle.swap_wire.specs.Decoding.{Waits, bytes_taken, feed_after}
 use Rattle.swap_serve.specs.Hearing.{Hearing}
 use Rattle.swap_serve.specs.Steps.{Fills}
 use Rattle.swap_serve.proofs.Heard.{fills_fed, fills_read, within_range}
@@ -14,8 +14,10 @@ returns-then-self g c =
     let xs = c.self.inside.bytes.items in
     let F : List ℕ → List ℕ = λ l. slice_range l at end in
     let waits : Waits c.self.inside.decoder = subst (λ (x : Hearing g.row.S.Denot). Waits x.decoder) (sym c.self.view_is) c.requires in
-    let n_is : c.feed.result ≡ taken c.self.inside.decoder (F xs) = c.feed.ensures.taken ∙ ap (λ l. taken c.self.inside.decoder (F l)) c.deref.ensures.value in
-    let e_is : c.feed.new.self ≡ fed c.self.inside.decoder (F xs) = c.feed.ensures.kept ∙ ap (λ l. fed c.self.inside.decoder (F l)) c.deref.ensures.value in
+    let n_is : c.feed.result ≡ bytes_taken c.self.inside.decoder (F xs) =
+    c.feed.ensures.taken ∙ ap (λ l. bytes_taken c.self.inside.decoder (F l)) c.deref.ensures.value in
+    let e_is : c.feed.new.self ≡ feed_after c.self.inside.decoder (F xs) =
+    c.feed.ensures.kept ∙ ap (λ l. feed_after c.self.inside.decoder (F l)) c.deref.ensures.value in
     subst (λ (x : Hearing g.row.S.Denot).
     Fills g.S.Source.left g.S.Source.faults x
     (record { reader = c.self.inside.reader; decoder = c.feed.new.self; ahead = slice_range xs (at + c.feed.result) end; ear = c.self.inside.ear }))

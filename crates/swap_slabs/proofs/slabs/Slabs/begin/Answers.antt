@@ -4,7 +4,7 @@ use Rattle.swap_slabs.specs.declared.SlabState.TheVariants.{Mapped}
 use Rattle.swap_slabs.specs.declared.TheConstants.{MOST_LENDERS, MOST_FLYING}
 use Rattle.swap_slabs.specs.Slabs.{state_of, is_mapped, flying_of, lender_of, leased_of}
 use Rattle.swap_slabs.specs.Kept.{StateFits}
-use Rattle.swap_slabs.specs.Rows.{one}
+use Rattle.swap_slabs.specs.Rows.{one_if}
 use Rattle.swap_slabs.proofs.RowReads.{state_read}
 use Rattle.swap_slabs.proofs.Moves.{fits_kept}
 use Rattle.swap_slabs.proofs.slabs.Slabs.begin.Goals as goal
@@ -22,4 +22,4 @@ invariant_of-self c =
     fits_kept c.self.inside.states.items c.args.slab
     (Mapped c.in-Mapped.lender c.in-Mapped.lease (c.in-Mapped.flying + 1)) c.self.inside.rows.items c.self.inside.mapped c.self.inside.mapped lt
     c.self.invariant
-    (range.0, omega (arith, fewer)) (sym (ap lender_of was)) (sym (ap leased_of was)) (omega (arith, ap (λ s. one (is_mapped s)) was))
+    (range.0, omega (arith, fewer)) (sym (ap lender_of was)) (sym (ap leased_of was)) (omega (arith, ap (λ s. one_if (is_mapped s)) was))

@@ -2,7 +2,7 @@ use Rattle.std.proofs.Common.{◌≡◌, ◌<◌, true, false, List, length, sym
 use Rattle.swap_places.specs.Line.{stands}
 use Rattle.swap_slabs.specs.declared.SlabState.{SlabState}
 use Rattle.swap_slabs.specs.Slabs.{state_of, is_local}
-use Rattle.swap_slabs.specs.Rows.{LenderRow, SetsBorrowing}
+use Rattle.swap_slabs.specs.Rows.{RowView, SetsBorrowing}
 use Rattle.swap_slabs.proofs.RowReads.{row_read}
 use Rattle.swap_slabs.proofs.Moves.{borrow_fits, borrow_room}
 use Rattle.swap_slabs.proofs.slabs.Slabs.borrow_from.Goals as goal
@@ -16,7 +16,7 @@ borrow-requires-clause-below c =
     let read =
     row_read c.self.inside.states.items c.self.inside.rows.items c.self.inside.mapped c.args.lender c.self.invariant c.requires.lender
     c.index_mut-row.result.now c.index_mut-row.ensures.value in
-    subst (λ (r : LenderRow). c.args.slab.0 < r.room) (sym read)
+    subst (λ (r : RowView). c.args.slab.0 < r.room) (sym read)
     (borrow_room c.self.inside.states.items c.args.slab c.self.inside.rows.items c.self.inside.mapped c.args.lender lt c.self.invariant local
     c.requires.lender).0
 
@@ -29,7 +29,7 @@ borrow-requires-clause-out c =
     let read =
     row_read c.self.inside.states.items c.self.inside.rows.items c.self.inside.mapped c.args.lender c.self.invariant c.requires.lender
     c.index_mut-row.result.now c.index_mut-row.ensures.value in
-    subst (λ (r : LenderRow). stands r.borrowing c.args.slab.0 ≡ false) (sym read)
+    subst (λ (r : RowView). stands r.borrowing c.args.slab.0 ≡ false) (sym read)
     (borrow_room c.self.inside.states.items c.args.slab c.self.inside.rows.items c.self.inside.mapped c.args.lender lt c.self.invariant local
     c.requires.lender).1
 

@@ -5,7 +5,7 @@ use Rattle.swap_slabs.specs.declared.SlabState.TheVariants.{Borrowing}
 use Rattle.swap_slabs.specs.declared.TheConstants.{MOST_LENDERS}
 use Rattle.swap_slabs.specs.Slabs.{state_of, by_lease}
 use Rattle.swap_slabs.specs.Kept.{StateFits, IsNew}
-use Rattle.swap_slabs.specs.Rows.{LenderRow, SetsBorrowing}
+use Rattle.swap_slabs.specs.Rows.{RowView, SetsBorrowing}
 use Rattle.swap_slabs.proofs.RowReads.{row_read, state_read}
 use Rattle.swap_slabs.proofs.Moves.{lent_fits, lent_room, borrowing_there}
 use Rattle.swap_slabs.proofs.slabs.Slabs.lent.Goals as goal
@@ -33,7 +33,7 @@ answer-requires c =
     let read =
     row_read c.self.inside.states.items c.self.inside.rows.items c.self.inside.mapped c.in-Borrowing.lender c.self.invariant within c.index_mut-row.result.now
     c.index_mut-row.ensures.value in
-    subst (λ (r : LenderRow). stands r.borrowing c.args.slab.0 ≡ true) (sym read)
+    subst (λ (r : RowView). stands r.borrowing c.args.slab.0 ≡ true) (sym read)
     (borrowing_there c.self.inside.states.items c.args.slab c.self.inside.rows.items c.self.inside.mapped c.in-Borrowing.lender c.self.invariant was within)
 
 pub add-requires : goal.add-requires
@@ -46,7 +46,7 @@ add-requires c =
     let read =
     row_read c.self.inside.states.items c.self.inside.rows.items c.self.inside.mapped c.in-Borrowing.lender c.self.invariant within c.index_mut-row.result.now
     c.index_mut-row.ensures.value in
-    let R : LenderRow → Type 0 = λ r. length r.leases < r.room in
+    let R : RowView → Type 0 = λ r. length r.leases < r.room in
     let room : R c.index_mut-row.result.now =
     subst R (sym read)
     (lent_room c.self.inside.states.items c.args.slab c.self.inside.rows.items c.self.inside.mapped c.in-Borrowing.lender c.args.lease lt c.self.invariant was

@@ -3,7 +3,7 @@ use Rattle.std.specs.Option.{IfSome}
 use Rattle.swap_base.specs.declared.Slab.{Slab}
 use Rattle.swap_slabs.specs.declared.SlabState.{SlabState}
 use Rattle.swap_slabs.specs.Slabs.{state_of, is_at, holds}
-use Rattle.swap_slabs.specs.Rows.{LenderRow, row_of, slab_of_row}
+use Rattle.swap_slabs.specs.Rows.{RowView, row_of, slab_of_row}
 use Rattle.swap_slabs.proofs.RowReads.{row_read}
 use Rattle.swap_slabs.proofs.Held.{slab_at, slab_if_held, at_within}
 use Rattle.swap_slabs.proofs.slabs.Slabs.one_at.Goals as goal
@@ -17,7 +17,7 @@ returns-clause-some c =
     let read =
     row_read c.self.inside.states.items c.self.inside.rows.items c.self.inside.mapped c.args.lender c.self.invariant c.requires c.index-row.result.now
     c.index-row.ensures in
-    ap is_some c.slab.ensures ∙ ap (λ (r : LenderRow). is_some (slab_of_row r)) read
+    ap is_some c.slab.ensures ∙ ap (λ (r : RowView). is_some (slab_of_row r)) read
     ∙ slab_if_held c.self.inside.states.items c.args.lender (row_of c.self.inside.rows.items c.args.lender) (c.self.invariant.row c.args.lender c.requires)
     ∙ ap (λ (l : List SlabState). holds l c.args.lender) c.self.view_is
 
@@ -30,7 +30,7 @@ returns-clause-at c =
     (λ s found.
     subst (λ (l : List SlabState). is_at c.args.lender (state_of l s) ≡ true) c.self.view_is
     (slab_at c.self.inside.states.items c.args.lender (row_of c.self.inside.rows.items c.args.lender) (c.self.invariant.row c.args.lender c.requires) s
-    (sym (c.slab.ensures ∙ ap (λ (r : LenderRow). slab_of_row r) read) ∙ found)))
+    (sym (c.slab.ensures ∙ ap (λ (r : RowView). slab_of_row r) read) ∙ found)))
 
 pub returns-clause-within : goal.returns-clause-within
 returns-clause-within c =
@@ -42,4 +42,4 @@ returns-clause-within c =
     subst (λ (l : List SlabState). s.0 < length l) c.self.view_is
     (at_within c.self.inside.states.items c.args.lender s
     (slab_at c.self.inside.states.items c.args.lender (row_of c.self.inside.rows.items c.args.lender) (c.self.invariant.row c.args.lender c.requires) s
-    (sym (c.slab.ensures ∙ ap (λ (r : LenderRow). slab_of_row r) read) ∙ found))))
+    (sym (c.slab.ensures ∙ ap (λ (r : RowView). slab_of_row r) read) ∙ found))))

@@ -1,6 +1,6 @@
 use Rattle.std.proofs.Common.{ap, ◌∙◌, subst}
 use Rattle.swap_wire.specs.declared.decoder.Next.{Next}
-use Rattle.swap_wire.specs.Decoding.{Decoding, page_in, Answers}
+use Rattle.swap_wire.specs.Decoding.{DecoderView, page_in, Answers}
 use Rattle.swap_wire.proofs.Answering.{called, must_give, must_wait, must_fail, same_pages}
 use Rattle.swap_wire.proofs.decoder.Decoder.next.Goals as goal
 
@@ -42,7 +42,7 @@ returns-clause-page_bytes c =
     let after_is =
     (called c.args.self.now c.step.result c.step.new.self c.args.page.now c.step.new.page c.step.ensures.page_bytes c.step.ensures.bytes c.step.ensures.bad
     c.step.ensures.told c.step.ensures.left c.step.ensures.page).after_is in
-    ap (λ (d : Decoding). d.page_bytes) after_is ∙ same_pages c.args.self.now c.step.result (page_in c.args.self.now c.step.result c.step.new.page)
+    ap (λ (d : DecoderView). d.page_bytes) after_is ∙ same_pages c.args.self.now c.step.result (page_in c.args.self.now c.step.result c.step.new.page)
 
 pub returns-clause-got : goal.returns-clause-got
 returns-clause-got c =

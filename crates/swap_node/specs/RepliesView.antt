@@ -5,7 +5,7 @@ use Rattle.swap_io.specs.Causes.{Rose, AppendsFront}
 use Rattle.swap_wire.specs.Frames.{frame, page_with}
 use Rattle.swap_wire.specs.Fabric.{Parcel}
 
-pub record Outlet (K : Type 0) : Type 0 where
+pub record RepliesView (K : Type 0) : Type 0 where
   pub sink : K
   pub page_bytes : ℕ
   pub failed : Bool
@@ -21,7 +21,7 @@ module _ {K : Type 0} (taken : K → Option (List ℕ)) (faults : K → ℕ) whe
   Leaves sink bytes now false = Appends (taken sink) (taken now) bytes
 
   -- a frame is put on an outlet
-  pub record Puts (before : Outlet K) (bytes : List ℕ) (now : Outlet K) : Type 0 where
+  pub record Puts (before : RepliesView K) (bytes : List ℕ) (now : RepliesView K) : Type 0 where
     pub leaves : Leaves before.sink bytes now.sink now.failed
     pub later : faults before.sink ≤ faults now.sink
     pub page_bytes : now.page_bytes ≡ before.page_bytes

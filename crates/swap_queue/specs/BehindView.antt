@@ -8,11 +8,11 @@ use Rattle.swap_queue.specs.declared.Failed.TheVariants as fate
 use Rattle.swap_queue.specs.Queue.{Copy, Queue, empty}
 
 -- the sizes that it is made for, and its copies and line
-pub record Backlog : Type 0 where
+pub record BehindView : Type 0 where
   pub sizes : Sizes
   pub queue : Queue
 
-abbrev pub new_backlog : Sizes → Backlog
+abbrev pub new_backlog : Sizes → BehindView
 new_backlog s = record { sizes = s; queue = empty (pages_of s) s.queue }
 
 -- a copy's bytes, or those that a buffer had
