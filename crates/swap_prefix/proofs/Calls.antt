@@ -15,7 +15,7 @@ use Rattle.swap_link.specs.Channel.{Channel, connect_after, reply_of, deliver_af
 use Rattle.swap_link.specs.Harbor.{Harbor, channel_of, lender_of, ask}
 use Rattle.swap_link.specs.lemmas.HarborLaws.{called, same_channel, other_channel}
 use Rattle.swap_prefix.specs.Calls.{Made, calls_made, lenders_after, connects, first_page, told_by, served_by, answered_by, taken_by, told_sent, lender_took, lender_sent, device_took}
-use Rattle.swap_prefix.specs.Laws.{IsPrefix, NoneConnects, connect_after, LinksHandOnAPrefix, Carries, OnlyAnEndIsLost, IsServed, WhatIsTakenIsServed}
+use Rattle.swap_prefix.specs.Laws.{IsPrefix, NoneConnects, harbor_after_connect, LinksHandOnAPrefix, Carries, OnlyAnEndIsLost, IsServed, WhatIsTakenIsServed}
 use Rattle.swap_prefix.proofs.Lanes.{carries_none, as_was}
 use Rattle.swap_prefix.proofs.Links.{Carried, carried_on}
 
@@ -91,7 +91,7 @@ each_call h (c ∷ cs) l s t u v lt none held =
     }
 
 -- a new link carries nothing
-new_link : (h : Harbor) (l : Lender) (n : Link) → l.0 < length h.channels → Carried (channel_of (connect_after h l n) l) [] [] [] []
+new_link : (h : Harbor) (l : Lender) (n : Link) → l.0 < length h.channels → Carried (channel_of (harbor_after_connect h l n) l) [] [] [] []
 new_link h l n lt =
     let ch : Channel = connect_after (channel_of h l) n in
     let none : Carried ch [] [] [] [] = record { to_lender = carries_none ch.to_lender refl; to_device = carries_none ch.to_device refl } in
@@ -99,7 +99,7 @@ new_link h l n lt =
 
 pub only_an_end_is_lost : OnlyAnEndIsLost
 only_an_end_is_lost h l n cs lt none =
-    let k = each_call (connect_after h l n) cs l [] [] [] [] (still_there h (Connect l n) l lt) none (new_link h l n lt) in
+    let k = each_call (harbor_after_connect h l n) cs l [] [] [] [] (still_there h (Connect l n) l lt) none (new_link h l n lt) in
     record { to_lender = k.to_lender; to_device = k.to_device }
 
 -- what is taken is a prefix of what was sent

@@ -28,14 +28,14 @@ pub record HandsOnAPrefix (l : Lender) (ms : List Made) : Type 0 where
   pub to_device : IsPrefix (device_took l ms) (lender_sent l ms)
 
 -- the lenders after a connect of one of them
-abbrev pub connect_after : Harbor → Lender → Link → Harbor
-connect_after h l n = (ask h (Connect l n)).1
+abbrev pub harbor_after_connect : Harbor → Lender → Link → Harbor
+harbor_after_connect h l n = (ask h (Connect l n)).1
 
 -- whatever state the lenders are in, and whatever is called after a connect of one of them, until its next connect
 abbrev pub LinksHandOnAPrefix : Type 0
 LinksHandOnAPrefix =
     (h : Harbor) (l : Lender) (n : Link) (cs : List FabricCall) → l.0 < length h.channels → NoneConnects l cs
-    → HandsOnAPrefix l (calls_made (connect_after h l n) cs)
+    → HandsOnAPrefix l (calls_made (harbor_after_connect h l n) cs)
 
 -- What was sent is what was taken, then what is under way, then what was dropped. Nothing is dropped before the list
 -- has ended.
@@ -52,7 +52,7 @@ pub record CarriesAll (ch : Channel) (l : Lender) (ms : List Made) : Type 0 wher
 abbrev pub OnlyAnEndIsLost : Type 0
 OnlyAnEndIsLost =
     (h : Harbor) (l : Lender) (n : Link) (cs : List FabricCall) → l.0 < length h.channels → NoneConnects l cs
-    → CarriesAll (channel_of (lenders_after (connect_after h l n) cs) l) l (calls_made (connect_after h l n) cs)
+    → CarriesAll (channel_of (lenders_after (harbor_after_connect h l n) cs) l) l (calls_made (harbor_after_connect h l n) cs)
 
 -- a lender that answers a message made of it, with the page of the first under way, what its table says
 pub record IsServed (ch now : Channel) (m : Msg) (said : Option Msg) (went : ℕ) : Type 0 where

@@ -14,7 +14,7 @@ use Rattle.swap_lender.specs.declared.SlotState.TheVariants.{Held}
 use Rattle.swap_lender.specs.declared.SlotState.{SlotState}
 use Rattle.swap_link.specs.Channel.{Channel}
 use Rattle.swap_link.specs.Harbor.{Harbor, new_channel, channel_of, with_channel, ask}
-use Rattle.swap_prefix.specs.Laws.{connect_after}
+use Rattle.swap_prefix.specs.Laws.{harbor_after_connect}
 use Rattle.swap_prefix.specs.Calls.{Made, calls_made, lenders_after, told_sent, lender_took, lender_sent, device_took}
 
 -- two lenders of a slot each; a list between device and lender has room for three messages
@@ -114,7 +114,7 @@ seen h cs =
 
 -- the lenders after a first connect, and what is seen from it on
 abbrev connected_lenders : Harbor
-connected_lenders = connect_after lenders lender (record { 0 = 0 })
+connected_lenders = harbor_after_connect lenders lender (record { 0 = 0 })
 
 abbrev from_a_connect : List FabricCall → List Parcel → List Parcel → List Parcel → List Parcel → Type 0
 from_a_connect cs told served sent taken =
@@ -196,7 +196,7 @@ old_link = send hello ∷ send query ∷ send borrow ∷ give ∷ give ∷ []
 
 abbrev pub ConnectOverALink : Type 0
 ConnectOverALink =
-    seen (connect_after (lenders_after connected_lenders old_link) lender (record { 0 = 1 }))
+    seen (harbor_after_connect (lenders_after connected_lenders old_link) lender (record { 0 = 1 }))
     (take ∷ give ∷ send hello ∷ give ∷ take ∷ [])
     ≡ record { told = hello ∷ []; served = hello ∷ []; sent = []; taken = [] }
 
