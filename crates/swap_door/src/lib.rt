@@ -1,6 +1,7 @@
 //! Doors that links come in by over TCP.
 #![tactic(auto)]
 
+mod outgoing;
 mod streams;
 mod tcp_door;
 

@@ -3,10 +3,13 @@ ghost use Rattle.swap_io.specs.Causes.{Rose};
 ghost use Rattle.swap_door.specs.SocketAddresses.{IsAddressOf};
 ghost use Rattle.swap_sock.specs.declared.host.HostFault.TheVariants as fault;
 
+use crate::streams::make_ends;
 use crate::{TcpSink, TcpSource};
+use std::alloc::Global;
 use std::io;
 use std::io::ErrorKind;
 use std::net::{Ipv4Addr, Net, SocketAddr, SocketAddrV4, TcpListener, TcpStream};
+use std::sync::Wait;
 use std::time::Duration;
 use swap_sock::{Address, Door, HostFault, LinkEnd};
 
@@ -22,8 +25,10 @@ pub fn socket_address(address: &Address) -> SocketAddr
 }
 
 /// A door where links come in over TCP. It tells no more than their number.
-#[derive(Debug, Drop)]
-pub struct TcpDoor {
+#[derive(Drop)]
+pub struct TcpDoor<R: Wait + Copy> {
+    rt: R,
+    alloc: Global,
     listener: TcpListener,
     asked: u64,
     gave: u64,
@@ -31,17 +36,19 @@ pub struct TcpDoor {
     faults: u64,
 }
 
-impl TcpDoor {
+impl<R: Wait + Copy> TcpDoor<R> {
     /// Listens at an address. `Failed` where the system refuses that.
-    pub fn open<R>(rt: &R, address: &Address) -> Result<TcpDoor, HostFault>
+    pub fn open(rt: R, alloc: Global, address: &Address) -> Result<TcpDoor<R>, HostFault>
     where
         R: Net<Stream = TcpStream, Listener = TcpListener>,
         ensures { IfOk result (λ d. d.faults ≡ 0) }
     {
-        let Ok(listener) = TcpListener::bind(rt, socket_address(address)) else {
+        let Ok(listener) = TcpListener::bind(&rt, socket_address(address)) else {
             return Err(HostFault::Failed);
         };
         Ok(TcpDoor {
+            rt,
+            alloc,
             listener,
             asked: 0,
             gave: 0,
@@ -86,29 +93,32 @@ fn both_ways(listener: &TcpListener) -> io::Result<(TcpStream, TcpStream)> {
     Ok((reader, writer))
 }
 
-impl Door for TcpDoor {
+impl<R: Wait + Copy + Send + 'static> Door for TcpDoor<R> {
     ghost use Rattle.swap_sock.specs.Dealings.{left_by, got_back};
     ghost use Rattle.swap_door.specs.TcpLinks.{tcp_links};
 
-    type Reader = TcpSource;
+    type Reader = TcpSource<R>;
 
-    type Writer = TcpSink;
+    type Writer = TcpSink<R>;
 
     ghost faults = { λ d. d.faults };
 
     ghost links = { λ d. tcp_links d.asked d.gave d.back };
 
-    fn next(&mut self) -> Result<(TcpSource, TcpSink), HostFault> {
+    fn next(&mut self) -> Result<(TcpSource<R>, TcpSink<R>), HostFault> {
         self.asked = self.asked.saturating_add(1);
         let Ok((reader, writer)) = both_ways(&self.listener) else {
             self.faults = self.faults.saturating_add(1);
             return Err(HostFault::Failed);
         };
+        let Ok(ends) = make_ends(self.rt, self.alloc, reader, writer) else {
+            return Err(HostFault::NoMemory);
+        };
         self.gave = self.gave.saturating_add(1);
-        Ok((TcpSource::make(reader), TcpSink::make(writer)))
+        Ok(ends)
     }
 
-    fn back(&mut self, reader: TcpSource, end: LinkEnd<TcpSink>)
+    fn back(&mut self, reader: TcpSource<R>, end: LinkEnd<TcpSink<R>>)
         ensures later { self.old.faults ≤ self.new.faults }
         ensures links { tcp_links self.new.asked self.new.gave self.new.back
             ≡ got_back (left_by reader end)

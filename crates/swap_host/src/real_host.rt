@@ -121,7 +121,12 @@ fn open_net<R: Wait + Copy>(
 
 impl<R> Host for RealHost<R>
 where
-    R: Wait + Files<File = File> + Net<Stream = TcpStream, Listener = TcpListener> + Copy,
+    R: Wait
+        + Files<File = File>
+        + Net<Stream = TcpStream, Listener = TcpListener>
+        + Copy
+        + Send
+        + 'static,
 {
     ghost use Rattle.swap_sock.specs.Dealings.{untold};
 
@@ -129,7 +134,7 @@ where
 
     type Net = SocketFabric<R>;
 
-    type Entrance = TcpDoor;
+    type Entrance = TcpDoor<R>;
 
     ghost faults = { λ h. h.faults };
 
@@ -171,9 +176,9 @@ where
         }
     }
 
-    fn door(&mut self, address: &Address) -> Result<TcpDoor, HostFault> {
+    fn door(&mut self, address: &Address) -> Result<TcpDoor<R>, HostFault> {
         self.doors.ask();
-        match TcpDoor::open(&self.rt, address) {
+        match TcpDoor::open(self.rt, self.alloc, address) {
             Ok(door) => {
                 self.doors.give();
                 Ok(door)
@@ -193,7 +198,7 @@ where
         self.nets.take_back();
     }
 
-    fn door_back(&mut self, door: TcpDoor) {
+    fn door_back(&mut self, door: TcpDoor<R>) {
         if 0 < door.faults() {
             self.faults = self.faults.saturating_add(1);
         }
