@@ -17,7 +17,7 @@ use Rattle.swap_turn.specs.Turns.{entries_of}
 use Rattle.swap_world.specs.Answered.{AnswersAll, AnswersEach, calls_of}
 use Rattle.swap_world.specs.Runs.{WorldView, IsReached, made_of}
 use Rattle.swap_world.specs.Laws.{Began, Holds, HoldsAfterEach}
-use Rattle.swap_world.proofs.Reached.{reached_known}
+use Rattle.swap_world.proofs.ReachedGoesOn.{reached_known}
 use Rattle.swap_board.specs.Acts.{Makes}
 use Rattle.swap_board.specs.Boards.{Named}
 use Rattle.swap_play.specs.Callers.{HavePlayed, calls_logged, events_of}

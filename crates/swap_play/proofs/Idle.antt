@@ -3,7 +3,7 @@ use Rattle.std.proofs.Common.{◌≡◌, ℕ, zero, suc, count_by, replicate, re
 use Rattle.swap_base.specs.Sizes.{Sizes}
 use Rattle.swap_calls.specs.Calls.{idle_call}
 use Rattle.swap_table.specs.Device.{device_at_start}
-use Rattle.swap_table.proofs.Lists.{count_by-cons}
+use Rattle.swap_base.proofs.Lists.{count_by-cons}
 use Rattle.swap_world.specs.Runs.{busy_callers, is_busy_call}
 
 none_busy : (n : ℕ) → count_by is_busy_call (replicate n idle_call) ≡ 0

@@ -14,7 +14,7 @@ use Rattle.swap_table.specs.declared.DiskStep.{DiskStep}
 use Rattle.swap_world.specs.Answered.{is_call_of, is_busy, with_call, calls_of}
 use Rattle.swap_world.specs.Rounds.{is_part}
 use Rattle.swap_world.specs.Runs.{IsRun, begin, effect, without, polled, with_polled, has_effect, Written, Alone, Together, HasParts, made_of, logged_of}
-use Rattle.swap_world.proofs.Parts.{part_no_call}
+use Rattle.swap_world.proofs.RoundsKeepPlans.{part_no_call}
 use Rattle.swap_play.specs.Callers.{calls_logged, events_of}
 use Rattle.swap_play.proofs.Calling.{AreOf}
 

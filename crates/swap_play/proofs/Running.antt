@@ -18,25 +18,18 @@ use Rattle.swap_table.specs.declared.DiskStep.{DiskStep}
 use Rattle.swap_table.specs.Promises.{FollowsItsMoves, Promises}
 use Rattle.swap_world.specs.World.{IsStep, IsEvent}
 use Rattle.swap_world.specs.Rounds.{round_plan, round_seen, AlongPlan}
-use Rattle.swap_world.specs.Runs.{IsRun, effect, without, polled, has_effect, event_of, made_with, Written, Alone, Together, written_with, HasParts, made_of, logged_of}
+use Rattle.swap_world.specs.Runs.{IsRun, effect, without, polled, has_effect, event_of, Written, Alone, Together, written_with, made_of, logged_of}
 use Rattle.swap_world.specs.Laws.{Began}
-use Rattle.swap_world.proofs.Effects.{comes_to_stays}
-use Rattle.swap_world.proofs.Parts.{AreParts, round_parts, splits, Splits, by_program, by_plan, Ran, plan_runs}
-use Rattle.swap_world.proofs.Steps.{step_comes, run_known}
+use Rattle.swap_world.proofs.DeviceStaysWithoutEffect.{comes_to_stays}
+use Rattle.swap_world.proofs.RoundsKeepPlans.{AreParts, round_parts, splits, Splits, by_program, by_plan, Ran, plan_runs}
+use Rattle.swap_world.proofs.EventsKeepWhatHolds.{step_comes, run_known}
 use Rattle.swap_board.specs.Acts.{Act, IsActed, opens, makes, polls, line_if, line_with, lines_of}
 use Rattle.swap_play.specs.Running.{RunsTo, ActsAreRuns}
+use Rattle.swap_world.proofs.ReachedGoesOn.{made_written, parts_written}
 
 polled_logged : (written : List Written) (e : Option Event) (s : Seen) → logged_of written ++ line_with e s ≡ logged_of (written_with e s written)
 polled_logged written None s = append-nil (logged_of written)
 polled_logged written (Some e) s = refl
-
-polled_made : (written : List Written) (e : Option Event) (s : Seen) → made_of (written_with e s written) ≡ made_with e s (made_of written)
-polled_made written None s = refl
-polled_made written (Some e) s = refl
-
-polled_parts : (written : List Written) (e : Option Event) (s : Seen) → AllByRecursion HasParts written → AllByRecursion HasParts (written_with e s written)
-polled_parts written None s parts = parts
-polled_parts written (Some e) s parts = (tt, parts)
 
 module _ {D F : Type 0} (disk : DiskMeaning D) (follows : FollowsItsMoves disk) (fabric : FabricMeaning F) (laws : Promises fabric) (s : Sizes) (n : ℕ)
     (first : D) (first_fabric : F) (began : Began disk fabric s n first first_fabric) where
@@ -104,10 +97,10 @@ module _ {D F : Type 0} (disk : DiskMeaning D) (follows : FollowsItsMoves disk) 
       → Along disk.moves fabric.moves (disk_take d) k f k' f' (d', step) → To log d k f → To (log ++ line_with (event_of step) (see_disk step)) d' k' f'
   polls_once log d k f step d' k' f' along r = record {
     written = written_with (event_of step) (see_disk step) r.written;
-    parts = polled_parts r.written (event_of step) (see_disk step) r.parts;
+    parts = parts_written r.written (event_of step) (see_disk step) r.parts;
     run =
         let P : List (Input × Seen) → Type 0 = λ made. IsRun disk.moves fabric.moves (device_at_start s n) first first_fabric made d' k' f' in
-        subst P (sym (polled_made r.written (event_of step) (see_disk step))) (polled step d' k' f' r.run along);
+        subst P (sym (made_written r.written (event_of step) (see_disk step))) (polled step d' k' f' r.run along);
     logged = ap (λ l. l ++ line_with (event_of step) (see_disk step)) r.logged ∙ polled_logged r.written (event_of step) (see_disk step);
   }
 

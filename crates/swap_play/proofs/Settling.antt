@@ -96,7 +96,3 @@ module _ {D F : Type 0} where
     history = now.history
         ∙ was.history;
   }
-
-pub not_so : (b : Bool) → not b ≡ true → b ≡ false
-not_so true is = cc
-not_so false is = refl

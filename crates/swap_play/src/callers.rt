@@ -126,30 +126,10 @@ fn operate_all<D: DiskPort + Drop, F: Fabric + Drop, N: Naming<D, F>, R: Wait>(
     unreachable!()
 }
 
-// Of the seats of callers and of the operator: how many aren't over, and how many of those haven't
-// begun.
-#[derive(Drop)]
-struct Counts {
-    busy: AtomicU32,
-    waiting: AtomicU32,
-}
-
-impl Counts {
-    // Counts a caller, or the operator, as begun.
-    fn begin(&self) {
-        self.waiting.fetch_sub(1, Ordering::SeqCst);
-    }
-
-    // Whether a pump may leave that found nothing to do for so many rounds.
-    fn let_go(&self, idle: u32) -> bool {
-        self.busy.load(Ordering::SeqCst) == 0
-            || idle >= PATIENCE && self.waiting.load(Ordering::SeqCst) != 0
-    }
-}
-
-// For so many rounds without an effect a pump waits for seats that haven't begun. Where threads
-// can't be made they may stand behind the pump, in its own thread, and begin only when it has left.
-const PATIENCE: u32 = 10_000;
+// After so many rounds without an effect a pump leaves. Each step of a call works at every point
+// itself, so none waits for a pump; and where threads can't be made, seats may stand behind the
+// pump in its own thread, and begin only when it has left.
+const PATIENCE: u32 = 64;
 
 // For how many rounds a pump has found nothing to do, after one more.
 fn idle_after<T>(idle: u32, first: &Pumped<T>, second: &Pumped<T>) -> u32 {
@@ -161,14 +141,13 @@ fn idle_after<T>(idle: u32, first: &Pumped<T>, second: &Pumped<T>) -> u32 {
 }
 
 // A pump's thread at the disk, or at a lender's link: it works until no caller, and no operator, is
-// busy, or until it has found nothing to do for so long that those who haven't begun may wait for
-// it.
+// busy, or until it has found nothing to do for so long that it isn't needed.
 fn pump_while_busy<D: DiskPort + Drop, F: Fabric + Drop, N: Naming<D, F>, G: Gate, R: Wait>(
     rt: &R,
     swap: &Swap<D, F, N>,
     pass: &mut Pass,
     points: (Point, Point),
-    counts: &Counts,
+    busy: &AtomicU32,
     gate: &G,
 )
     requires pass { IsFreeOf swap.now pass.old }
@@ -177,7 +156,7 @@ fn pump_while_busy<D: DiskPort + Drop, F: Fabric + Drop, N: Naming<D, F>, G: Gat
 {
     let mut idle: u32 = 0;
     'turns: for _ in rt.forever() {
-        if counts.let_go(idle) {
+        if busy.load(Ordering::SeqCst) == 0 || idle >= PATIENCE {
             return;
         }
         let first = swap.pump(rt, pass, points.0, gate);
@@ -210,7 +189,7 @@ fn play_seat<D: DiskPort + Drop, F: Fabric + Drop, N: Naming<D, F>, G: Gate, R: 
     swap: &Swap<D, F, N>,
     trace: &Trace<'_>,
     mut pass: Pass,
-    counts: &Counts,
+    busy: &AtomicU32,
     gate: &G,
 ) -> (Pass, bool)
     requires sizes { trace.now.sizes ≡ N.named.sizes }
@@ -222,12 +201,10 @@ fn play_seat<D: DiskPort + Drop, F: Fabric + Drop, N: Naming<D, F>, G: Gate, R: 
     let callers = trace.script().geometry().callers();
     let number = pass.number();
     if number < callers {
-        counts.begin();
         let done = play_caller(rt, alloc, swap, trace, &mut pass, gate);
         return (pass, done);
     }
     if number == callers {
-        counts.begin();
         let done = operate_all(rt, swap, &mut pass);
         return (pass, done);
     }
@@ -236,7 +213,7 @@ fn play_seat<D: DiskPort + Drop, F: Fabric + Drop, N: Naming<D, F>, G: Gate, R: 
         swap,
         &mut pass,
         points_of(number - callers - 1),
-        counts,
+        busy,
         gate,
     );
     (pass, true)
@@ -306,11 +283,8 @@ pub(crate) fn play_seats<
         (slice_index_or v.items i d)) }
 {
     let callers = trace.script().geometry().callers();
-    let counts = Counts {
-        busy: AtomicU32::new(callers + 1),
-        waiting: AtomicU32::new(callers + 1),
-    };
-    let Ok(seats) = tickets_of(alloc, passes, callers, &counts.busy) else {
+    let busy = AtomicU32::new(callers + 1);
+    let Ok(seats) = tickets_of(alloc, passes, callers, &busy) else {
         return None;
     };
     let Ok(overs) = thread::map_vec(
@@ -324,7 +298,7 @@ pub(crate) fn play_seats<
             ensures { IsOver swap.entry.now trace.entry.now seat.entry.0 result }
         {
             let (pass, ticket) = seat;
-            let over = play_seat(rt, alloc, swap, trace, pass, &counts, gate);
+            let over = play_seat(rt, alloc, swap, trace, pass, &busy, gate);
             drop(ticket);
             over
         },

@@ -8,11 +8,11 @@ use Rattle.swap_wire.specs.declared.Event.TheVariants as event
 use Rattle.swap_record.specs.History.{History, Row}
 use Rattle.swap_turn.specs.Turns.{IsEarlier, Extends, added_since}
 use Rattle.swap_turn.specs.PassView.{PassView, after_turn}
-use Rattle.swap_board.specs.Boards.{IsCall, IsAnswered}
+use Rattle.swap_board.specs.Boards.{IsAnswered}
 use Rattle.swap_player.specs.declared.paging.SwapFault.{SwapFault}
 use Rattle.swap_player.specs.declared.paging.SwapFault.TheVariants as fault
 use Rattle.swap_player.specs.declared.paging.Ended.{Ended}
-use Rattle.swap_player.specs.Turns.{caller_of, AddsOne, IsSpent, EndsBy, Ends, Answered, Looked, PagesBy, Pages, Turns}
+use Rattle.swap_player.specs.Turns.{caller_of, AddsOne, IsSpent, EndsBy, Ends, Answered, Looked, PagesBy, Turns}
 
 pub none_extends : (c : ℕ) (H now : History) → now ≡ H → Extends c H now
 none_extends c H now same = record { added = []; whole = sym same; own = All-nil _ }

@@ -17,7 +17,7 @@ use Rattle.swap_table.specs.Fits.{IsFaithfulOver, GivesWhatItMay, MayGive}
 use Rattle.swap_table.specs.Promises.{FollowsItsMoves, Promises}
 use Rattle.swap_world.specs.Runs.{IsReached, made_of}
 use Rattle.swap_world.specs.Laws.{Began, Holds, HoldsAfterEach}
-use Rattle.swap_world.proofs.Reached.{reached_known}
+use Rattle.swap_world.proofs.ReachedGoesOn.{reached_known}
 use Rattle.swap_player.specs.Seen.{IsWell, IsWellBy}
 use Rattle.swap_player.specs.declared.paging.SwapFault.{SwapFault}
 use Rattle.swap_player.specs.declared.paging.SwapFault.TheVariants as fault

@@ -1,7 +1,6 @@
 -- What a call over the lock does to its pass.
 use Rattle.std.specs.Prelude.{◌≡◌, ◌⊎◌, ◌+◌, ◌<◌, ℕ, Bool, true, false, List, [], ◌∷◌, length, MatchOption, Option, None, Some, Result, Ok, Err}
 use Rattle.swap_base.specs.declared.EntryNo.{EntryNo}
-use Rattle.swap_base.specs.declared.Page.{Page}
 use Rattle.swap_base.specs.declared.Caller.{Caller}
 use Rattle.swap_wire.specs.declared.Event.{Event}
 use Rattle.swap_wire.specs.declared.Event.TheVariants as event

@@ -2,6 +2,7 @@
 #![tactic(auto)]
 
 mod paging;
+mod points;
 mod swap;
 
 pub use paging::SwapFault;

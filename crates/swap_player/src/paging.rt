@@ -4,13 +4,15 @@ ghost use Rattle.swap_wire.specs.Input.{IsInRange};
 ghost use Rattle.swap_calls.specs.Calls.{call_of, is_idle};
 ghost use Rattle.swap_world.specs.Runs.{StandsIn};
 ghost use Rattle.swap_board.specs.Boards.{IsCall, IsOfIdle};
+ghost use Rattle.swap_board.specs.Works.{IsPoint};
 ghost use Rattle.swap_turn.specs.PassView.{IsFreeOf};
 ghost use Rattle.swap_player.specs.Seen.{IsWell};
 ghost use Rattle.swap_player.specs.Turns.{ended_of, IsEnded, IsOpen, IsSpentAs, caller_of, Ends, Turns, Gives};
 
+use crate::points::OpenPoints;
 use std::sync::Wait;
-use swap_base::{Caller, EntryNo, NoMemory};
-use swap_board::{Begun, Board, Naming};
+use swap_base::{Caller, EntryNo, Lender, NoMemory};
+use swap_board::{Begun, Board, Naming, Point};
 use swap_calls::CallState;
 use swap_device::DeviceCore;
 use swap_disk::DiskPort;
@@ -179,9 +181,40 @@ fn go_on<D: DiskPort, F: Fabric, N: Naming<D, F>>(
     }
 }
 
-// A step of a call.
-fn step<D: DiskPort, F: Fabric, N: Naming<D, F>>(
+// Works at a point, where it is one of these.
+fn work_at<D: DiskPort, F: Fabric, N: Naming<D, F>>(
     board: &mut Board<D, F, N>,
+    points: OpenPoints,
+    point: Point,
+)
+    requires { IsPoint N.named.lenders point }
+    ensures { board.new.world.core.device.history ≡ board.old.world.core.device.history }
+{
+    if points.has(point) {
+        let _ = board.pump(point);
+    }
+}
+
+// Works at these points: first at the disk, then at each link.
+fn work_at_all<D: DiskPort, F: Fabric, N: Naming<D, F>>(
+    board: &mut Board<D, F, N>,
+    points: OpenPoints,
+)
+    ensures { board.new.world.core.device.history ≡ board.old.world.core.device.history }
+{
+    board.is_named();
+    let lenders = board.world().lenders();
+    work_at(board, points, Point::Disk);
+    'links: for lender in 0..lenders {
+        work_at(board, points, Point::Give(Lender(lender)));
+        work_at(board, points, Point::Take(Lender(lender)));
+    }
+}
+
+// A step of a call, behind the work at these points.
+fn take_step<D: DiskPort, F: Fabric, N: Naming<D, F>>(
+    board: &mut Board<D, F, N>,
+    points: OpenPoints,
     is_first: bool,
     event: &Event,
     page: &mut [u8],
@@ -193,6 +226,7 @@ fn step<D: DiskPort, F: Fabric, N: Naming<D, F>>(
         board.old.world.core.device.history board.new.world.core.device.history }
     ensures gives { Gives result board.new.world.core.device.history page.old page.new }
 {
+    work_at_all(board, points);
     if is_first {
         begin(board, event, page)
     } else {
@@ -211,8 +245,9 @@ fn holds<D: DiskPort, F: Fabric, N: Naming<D, F>>(board: &Board<D, F, N>)
 }
 
 // A step of a call, with what is known of the history after it.
-fn take_step<D: DiskPort, F: Fabric, N: Naming<D, F>>(
+fn step_well<D: DiskPort, F: Fabric, N: Naming<D, F>>(
     board: &mut Board<D, F, N>,
+    points: OpenPoints,
     is_first: bool,
     event: &Event,
     page: &mut [u8],
@@ -225,7 +260,7 @@ fn take_step<D: DiskPort, F: Fabric, N: Naming<D, F>>(
     ensures gives { Gives result board.new.world.core.device.history page.old page.new }
     ensures well { IsWell D.DiskPort F.Fabric N.named.sizes board.new.world.core.device.history }
 {
-    let ended = step(board, is_first, event, page);
+    let ended = take_step(board, points, is_first, event, page);
     holds(board);
     ended
 }
@@ -235,6 +270,7 @@ pub(crate) fn turn<D: DiskPort + Drop, F: Fabric + Drop, N: Naming<D, F>, R: Wai
     rt: &R,
     lock: &TurnLock<Board<D, F, N>>,
     pass: &mut Pass,
+    points: OpenPoints,
     is_first: bool,
     event: &Event,
     page: &mut [u8],
@@ -251,7 +287,7 @@ pub(crate) fn turn<D: DiskPort + Drop, F: Fabric + Drop, N: Naming<D, F>, R: Wai
     ensures well { IsWell D.DiskPort F.Fabric N.named.sizes pass.new.seen }
 {
     let mut taken = lock.take(rt, pass);
-    let ended = take_step(taken.value(), is_first, event, page);
+    let ended = step_well(taken.value(), points, is_first, event, page);
     lock.give(pass, taken);
     ended
 }

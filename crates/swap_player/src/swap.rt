@@ -11,8 +11,11 @@ ghost use Rattle.swap_board.specs.Works.{IsPoint};
 ghost use Rattle.swap_player.specs.Pumped.{OperatedBy, PumpedAs, PumpedBy};
 ghost use Rattle.swap_player.specs.Seen.{IsWellBy};
 ghost use Rattle.swap_player.specs.Turns.{caller_of, Looked, Pages, PagesAs, GivesBy};
+ghost use Rattle.swap_record.specs.declared.TheConstants.{MOST_ENTRIES};
+ghost use Rattle.swap_turn.specs.declared.TheConstants.{MOST_SEATS};
 
 use crate::paging::{Ended, SwapFault, turn};
+use crate::points::OpenPoints;
 use std::alloc::Global;
 use std::marker::Model;
 use std::sync::Wait;
@@ -115,21 +118,18 @@ impl<D: DiskPort + Drop, F: Fabric + Drop, N: Naming<D, F>> Swap<D, F, N> {
         operated
     }
 
-    // The disk and each link once.
-    #[tactic(auto, using(crate::proofs::Turns::looked_still, crate::proofs::Turns::looked_self))]
-    fn pump_all<G: Gate, R: Wait>(&self, rt: &R, pass: &mut Pass, gate: &G)
-        requires pass { IsFreeOf self.now pass.old }
-        ensures pass { IsFreeOf self.now pass.new × (pass.new.number ≡ pass.old.number) }
-        ensures looked { Looked pass.old pass.new }
-    {
-        let _ = self.pump(rt, pass, Point::Disk, gate);
+    // The points that the gate lets pass.
+    fn ask<G: Gate>(&self, gate: &G) -> OpenPoints {
+        let mut points = ask_at(OpenPoints::none(), Point::Disk, gate);
         'links: for lender in 0..self.lenders {
-            let _ = self.pump(rt, pass, Point::Give(Lender(lender)), gate);
-            let _ = self.pump(rt, pass, Point::Take(Lender(lender)), gate);
+            points = ask_at(points, Point::Give(Lender(lender)), gate);
+            points = ask_at(points, Point::Take(Lender(lender)), gate);
         }
+        points
     }
 
-    // A call, to its end. Between its steps it pumps the disk and every link itself.
+    // A call, to its end. Each step works at the disk and at every link itself, wherever the gate
+    // lets it pass, and goes on with the call in the same turn.
     fn call<G: Gate, R: Wait>(
         &self,
         rt: &R,
@@ -151,12 +151,12 @@ impl<D: DiskPort + Drop, F: Fabric + Drop, N: Naming<D, F>> Swap<D, F, N> {
     {
         let mut is_first = true;
         'steps: for _ in rt.forever() {
-            let turned = turn(rt, &self.lock, pass, is_first, event, page);
+            let points = self.ask(gate);
+            let turned = turn(rt, &self.lock, pass, points, is_first, event, page);
             if let Some(ended) = turned {
                 return ended;
             }
             is_first = false;
-            self.pump_all(rt, pass, gate);
         }
         unreachable!()
     }
@@ -252,8 +252,9 @@ impl<D: DiskPort + Drop, F: Fabric + Drop, N: Naming<D, F>> Swap<D, F, N> {
         requires idle { busy_callers world.core.device ≡ 0 }
         requires operator { AreOperators world.core.device.sizes world.core.device.lenders
             operator.items }
-        requires few { length world.core.device.history + calls ≤ 4_194_304 }
-        requires seats { (1 ≤ seats) × (seats ≤ 64) × (world.core.device.sizes.callers ≤ seats) }
+        requires few { length world.core.device.history + calls ≤ MOST_ENTRIES }
+        requires seats { (1 ≤ seats) × (seats ≤ MOST_SEATS)
+            × (world.core.device.sizes.callers ≤ seats) }
         requires callers { All
             (λ (row : Row). row.entry.caller.0 < seats) world.core.device.history }
         ensures seats { IfOk result (λ r. r.0.seats ≡ seats) }
@@ -317,6 +318,14 @@ impl<D: DiskPort + Drop, F: Fabric + Drop, N: Naming<D, F>> Swap<D, F, N> {
             Ok(board) => Ok(board.into_world()),
             Err(back) => Err(back),
         }
+    }
+}
+
+// These points, and this one where the gate lets it pass.
+fn ask_at<G: Gate>(points: OpenPoints, point: Point, gate: &G) -> OpenPoints {
+    match gate.may_pass(point) {
+        Ok(()) => points.with(point),
+        Err(_no) => points,
     }
 }
 

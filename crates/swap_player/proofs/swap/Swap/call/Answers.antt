@@ -13,10 +13,9 @@ returns-in-Some-turned-clause-pages g c =
 
 pub steps-preserved : goal.steps-preserved
 steps-preserved g c =
-    let inv = c.steps.invariant in
-    let once = looked_still c.args.pass.now c.steps.pass c.turn-turned.new.pass inv.2 c.in_default.ensures.turns in (
-      c.pump_all.ensures.pass.0,
-      c.pump_all.ensures.pass.1 ∙ c.turn-turned.ensures.pass.1 ∙ inv.1,
-      looked_still c.args.pass.now c.turn-turned.new.pass c.pump_all.new.pass once c.pump_all.ensures.looked,
+    let inv = c.steps.invariant in (
+      (c.turn-turned.ensures.pass.0.0 ∙ c.self.view_is, c.turn-turned.ensures.pass.0.1),
+      c.turn-turned.ensures.pass.1 ∙ inv.1,
+      looked_still c.args.pass.now c.steps.pass c.turn-turned.new.pass inv.2 c.in_default.ensures.turns,
       c.in_default.ensures.gives ∙ inv.3,
     )
