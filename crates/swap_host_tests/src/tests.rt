@@ -5,3 +5,4 @@ mod host;
 mod live;
 mod net;
 mod serve;
+mod shared;

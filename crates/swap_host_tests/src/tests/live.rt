@@ -1,11 +1,12 @@
 ghost use Rattle.std.specs.Prelude.{◌≡◌, ◌≤◌};
 
+use super::shared::{FRAMES, Log, REPLIES, SharedSink};
 use std::alloc::Global;
 use std::sync::{Arc, Mutex, Wait};
 use std::test::Fail;
 use swap_base::{Geometry, Lease, LenderSpec};
 use swap_disk::MemDisk;
-use swap_io::{MemSink, MemSource, Sink, WriteFailed};
+use swap_io::{MemSink, MemSource};
 use swap_link::Harbor;
 use swap_live::{LendEnd, Offer, lend};
 use swap_sock::{Address, Counts, Door, Host, HostFault, LinkEnd};
@@ -14,50 +15,6 @@ use swap_wire::Msg;
 mod loopback;
 mod paging;
 mod words;
-
-/// The first bytes that a sink took.
-#[derive(Drop)]
-struct Log {
-    bytes: [u8; 64],
-    length: usize,
-    ghost within: { length ≤ 64 },
-}
-
-impl Log {
-    fn add(&mut self, byte: u8) {
-        if self.length < 64 {
-            self.bytes[self.length] = byte;
-            self.length += 1;
-        }
-    }
-
-    fn is(&self, bytes: &[u8]) -> bool {
-        &self.bytes[..self.length] == bytes
-    }
-}
-
-/// A sink that shares what it took.
-#[derive(Drop)]
-struct SharedSink<R: Wait + Copy> {
-    rt: R,
-    log: Arc<Mutex<Log>, Global>,
-}
-
-impl<R: Wait + Copy> Sink for SharedSink<R> {
-    ghost use Rattle.std.specs.Prelude.{None};
-
-    ghost taken = { λ s. None };
-
-    ghost faults = { λ s. 0 };
-
-    fn write(&mut self, bytes: &[u8]) -> Result<usize, WriteFailed> {
-        let mut log = self.log.lock(&self.rt);
-        for byte in bytes {
-            log.add(*byte);
-        }
-        Ok(bytes.len())
-    }
-}
 
 /// A door that one link comes in by, and how it ended.
 #[derive(Drop)]
@@ -169,20 +126,6 @@ impl<R: Wait + Copy + Send + 'static> Host for OneDoor<R> {
     }
 }
 
-/// The frames of Hello 1 8 4, Borrow 0, Write lease 0 place 2 of aa, Read lease 0 place 2 and Done
-/// lease 0.
-const FRAMES: [u8; 69] = [
-    0, 0, 0, 13, 1, 0, 0, 0, 1, 0, 0, 0, 8, 0, 0, 0, 4, 0, 0, 0, 5, 3, 0, 0, 0, 0, 0, 0, 0, 17, 4,
-    0, 0, 0, 0, 0, 0, 0, 2, 0xaa, 0xaa, 0xaa, 0xaa, 0xaa, 0xaa, 0xaa, 0xaa, 0, 0, 0, 9, 5, 0, 0, 0,
-    0, 0, 0, 0, 2, 0, 0, 0, 5, 7, 0, 0, 0, 0,
-];
-
-/// The frames of Lent 0 0, Wrote 0 2 and PageIs 0 2 of aa.
-const REPLIES: [u8; 47] = [
-    0, 0, 0, 9, 9, 0, 0, 0, 0, 0, 0, 0, 0, 0, 0, 0, 9, 11, 0, 0, 0, 0, 0, 0, 0, 2, 0, 0, 0, 17, 12,
-    0, 0, 0, 0, 0, 0, 0, 2, 0xaa, 0xaa, 0xaa, 0xaa, 0xaa, 0xaa, 0xaa, 0xaa,
-];
-
 /// What is lent.
 const OFFER: Offer = Offer {
     spec: LenderSpec {
@@ -220,11 +163,7 @@ where
 #[test]
 fn one_link_is_served_and_told(rt: HostRuntime) -> Result<(), Fail> {
     let address = Address::read("127.0.0.1:4000").ok_or("address")?;
-    let log = Log {
-        bytes: [0; 64],
-        length: 0,
-    };
-    let log = Arc::new(rt.alloc(), Mutex::new(log))?;
+    let log = Arc::new(rt.alloc(), Mutex::new(Log::none()))?;
     let mut host = host(rt, rt.alloc(), Arc::try_clone(&log)?)?;
     let mut out = MemSink::make(rt.alloc(), 64, Vec::new(rt.alloc())).map_err(|_| "sink")?;
     let end = lend(rt, rt.alloc(), &mut host, &address, &OFFER, &mut out);

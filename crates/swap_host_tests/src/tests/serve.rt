@@ -1,57 +1,14 @@
 ghost use Rattle.std.specs.Prelude.{◌≡◌, ◌≤◌};
 
+use super::shared::{FRAMES, Log, REPLIES, SharedSink};
 use std::alloc::Global;
 use std::sync::{Arc, Mutex, Wait};
 use std::test::Fail;
 use swap_base::{Lease, LenderSpec};
-use swap_io::{MemSource, Sink, WriteFailed};
+use swap_io::MemSource;
 use swap_serve::{NodeFault, serve};
 use swap_sock::{Door, HostFault, LinkEnd};
 use swap_wire::Msg;
-
-/// The first bytes that a sink took.
-#[derive(Drop)]
-struct Log {
-    bytes: [u8; 64],
-    length: usize,
-    ghost within: { length ≤ 64 },
-}
-
-impl Log {
-    fn add(&mut self, byte: u8) {
-        if self.length < 64 {
-            self.bytes[self.length] = byte;
-            self.length += 1;
-        }
-    }
-
-    fn is(&self, bytes: &[u8]) -> bool {
-        &self.bytes[..self.length] == bytes
-    }
-}
-
-/// A sink that shares what it took.
-#[derive(Drop)]
-struct SharedSink<R: Wait + Copy> {
-    rt: R,
-    log: Arc<Mutex<Log>, Global>,
-}
-
-impl<R: Wait + Copy> Sink for SharedSink<R> {
-    ghost use Rattle.std.specs.Prelude.{None};
-
-    ghost taken = { λ s. None };
-
-    ghost faults = { λ s. 0 };
-
-    fn write(&mut self, bytes: &[u8]) -> Result<usize, WriteFailed> {
-        let mut log = self.log.lock(&self.rt);
-        for byte in bytes {
-            log.add(*byte);
-        }
-        Ok(bytes.len())
-    }
-}
 
 /// A door that one link comes in by, and how it ended.
 #[derive(Drop)]
@@ -105,35 +62,17 @@ impl<R: Wait + Copy + Send + 'static> Door for OneLink<R> {
     }
 }
 
-/// The frames of Hello 1 8 4, Borrow 0, Write lease 0 place 2 of aa, Read lease 0 place 2 and Done
-/// lease 0.
-const FRAMES: [u8; 69] = [
-    0, 0, 0, 13, 1, 0, 0, 0, 1, 0, 0, 0, 8, 0, 0, 0, 4, 0, 0, 0, 5, 3, 0, 0, 0, 0, 0, 0, 0, 17, 4,
-    0, 0, 0, 0, 0, 0, 0, 2, 0xaa, 0xaa, 0xaa, 0xaa, 0xaa, 0xaa, 0xaa, 0xaa, 0, 0, 0, 9, 5, 0, 0, 0,
-    0, 0, 0, 0, 2, 0, 0, 0, 5, 7, 0, 0, 0, 0,
-];
-
 /// How many bytes they are without the last.
 const WITHOUT_DONE: usize = 60;
-
-/// The frames of Lent 0 0, Wrote 0 2 and PageIs 0 2 of aa.
-const REPLIES: [u8; 47] = [
-    0, 0, 0, 9, 9, 0, 0, 0, 0, 0, 0, 0, 0, 0, 0, 0, 9, 11, 0, 0, 0, 0, 0, 0, 0, 2, 0, 0, 0, 17, 12,
-    0, 0, 0, 0, 0, 0, 0, 2, 0xaa, 0xaa, 0xaa, 0xaa, 0xaa, 0xaa, 0xaa, 0xaa,
-];
 
 fn door<R>(rt: R, alloc: Global, bytes: &[u8]) -> Result<OneLink<R>, Fail>
 where
     R: Wait + Copy + Send + 'static,
 {
-    let log = Log {
-        bytes: [0; 64],
-        length: 0,
-    };
     Ok(OneLink {
         rt,
         bytes: Some(Vec::from_slice(alloc, bytes)?),
-        log: Arc::new(alloc, Mutex::new(log))?,
+        log: Arc::new(alloc, Mutex::new(Log::none()))?,
         end: None,
         alloc,
         asked: 0,

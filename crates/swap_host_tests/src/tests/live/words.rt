@@ -1,4 +1,5 @@
-use super::{Log, REPLIES, host};
+use super::super::shared::{Log, REPLIES};
+use super::host;
 use std::alloc::Global;
 use std::process::Abort;
 use std::sync::{Arc, Mutex, Wait};
@@ -105,11 +106,7 @@ fn words_lend_over_a_door_and_its_sink_takes_the_replies(rt: HostRuntime) -> Res
         "--pages-per-slab",
         "4",
     ];
-    let log = Log {
-        bytes: [0; 64],
-        length: 0,
-    };
-    let log = Arc::new(alloc, Mutex::new(log))?;
+    let log = Arc::new(alloc, Mutex::new(Log::none()))?;
     let mut host = host(rt, alloc, Arc::try_clone(&log)?)?;
     let ran = run(rt, alloc, &words, "", &mut host, NONE).ok_or("memory")?;
     judge(&rt, "the first call", &ran, ("served 1 links\n", "", 0));
