@@ -3,6 +3,7 @@ use Rattle.std.proofs.Common.{◌≡◌, ℕ, ◌≤◌, Bool, true, false, ◌&
 use Rattle.std.proofs.lemmas.Bool.{leb-true, eqb-true}
 use Rattle.std.specs.List.{list_any}
 use Rattle.swap_base.specs.Sizes.{Sizes, pages_of, bytes_of, limits, first_beyond, is_within, AreInLimits, IsWithin, page_lengths}
+use Rattle.swap_base.proofs.Bools.{and_parts}
 
 -- the first row passes, and so does none of the others fail
 passes : {X : Type 0} (x : X) (b : Bool) (rows : List (X × Bool)) → first_beyond ((x, b) ∷ rows) ≡ None → (b ≡ true) × (first_beyond rows ≡ None)
@@ -17,16 +18,12 @@ all_pass : {X : Type 0} (rows : List (X × Bool)) → first_beyond rows ≡ None
 all_pass [] e = tt
 all_pass (row ∷ rows) e = let p = passes row.0 row.1 rows e in (p.0, all_pass rows p.1)
 
-and_true : (a b : Bool) → (a && b) ≡ true → (a ≡ true) × (b ≡ true)
-and_true true b e = (refl, e)
-and_true false b e = cc
-
 or_true : (P : Type 0) (a b : Bool) → (a ≡ true → P) → (b ≡ true → P) → (a || b) ≡ true → P
 or_true P true b f g e = f refl
 or_true P false b f g e = g e
 
-between : (low high n : ℕ) → is_within low high n ≡ true → (low ≤ n) × (n ≤ high)
-between low high n e = let both = and_true (nat_le low n) (nat_le n high) e in (leb-true low n both.0, leb-true n high both.1)
+pub between : (low high n : ℕ) → is_within low high n ≡ true → (low ≤ n) × (n ≤ high)
+between low high n e = let both = and_parts (nat_le low n) (nat_le n high) e in (leb-true low n both.0, leb-true n high both.1)
 
 -- a number of a list whose numbers are all within bounds
 abbrev AllBetween : ℕ → ℕ → List ℕ → Type 0

@@ -10,10 +10,9 @@ use Rattle.swap_disk.specs.Port.{DiskCall, DiskAnswer}
 use Rattle.swap_table.specs.Ports.{Along}
 use Rattle.swap_table.specs.declared.DiskStep.{DiskStep}
 use Rattle.swap_table.specs.Device.{Device, disk_take, of_device}
-use Rattle.swap_table.specs.Happens.{see_disk}
 use Rattle.swap_world.specs.World.{IsEvent}
-use Rattle.swap_world.specs.Runs.{WorldView, has_effect, event_of, logged_if, logged_polled, logged_with}
-use Rattle.swap_board.specs.Acts.{Act, Made, Polled, Maker, IsActed, opens, makes, polls, line_of, line_if, line_with, lines_of, Makes, AreMade, calls_since, since_after, PACE}
+use Rattle.swap_world.specs.Runs.{WorldView, has_effect, logged_if, logged_polled}
+use Rattle.swap_board.specs.Acts.{Act, Made, Polled, Maker, IsActed, opens, makes, polls, line_of, line_if, lines_of, Makes, AreMade, calls_since, PACE}
 
 pub lines_of-append : (new acts : List Act) → lines_of (new ++ acts) ≡ lines_of acts ++ lines_of new
 lines_of-append [] acts = sym (append-nil (lines_of acts))

@@ -6,7 +6,6 @@ use Rattle.std.proofs.Math.Seq.{take-suc}
 use Rattle.std.proofs.lemmas.Bool.Decides.{nat_tests}
 use Rattle.rand_pcg.specs.Lcg.{Lcg}
 use Rattle.rand_pcg.specs.Pcg.{pcg32}
-use Rattle.swap_base.specs.Sizes.{Sizes}
 use Rattle.swap_base.specs.declared.Caller.{Caller}
 use Rattle.swap_base.specs.declared.DiskWhich.{DiskWhich}
 use Rattle.swap_wire.specs.Input.{Input, IsInRange}
@@ -20,8 +19,8 @@ use Rattle.swap_table.specs.Device.{Device, of_device}
 use Rattle.swap_device.specs.State.{KeepsRoom}
 use Rattle.swap_world.specs.World.{IsEvent}
 use Rattle.swap_world.specs.Runs.{WorldView, has_effect, logged_if, Adds, AnswersCall, nothing, one, busy_callers, GrowsByCalls, is_new_call}
-use Rattle.swap_board.specs.Acts.{Act, Made, Polled, Maker, Player, Pacer, Operator, Makes, AreMade, IsPlayers, IsOperators, calls_in, calls_after, calls_since, since_after, seed_after, operator_events, places, lines_of, PACE}
-use Rattle.swap_board.specs.Works.{IsSame, Works, WorksAt, PumpsAs, MakesOne, MakesAs, Paced, paces, since_now, ends, known_operation, IsCallless}
+use Rattle.swap_board.specs.Acts.{Act, Made, Polled, Player, Pacer, Operator, Makes, AreMade, IsPlayers, IsOperators, calls_in, calls_after, calls_since, since_after, seed_after, operator_events, places, lines_of, PACE}
+use Rattle.swap_board.specs.Works.{IsSame, Works, WorksAt, PumpsAs, MakesOne, MakesAs, Paced, paces, since_now, ends, known_operation}
 use Rattle.swap_board.specs.Boards.{Named, BoardView, IsBoard, Begins, seed_of, IsCall, IsAnswered, IsAnswerTo, AddsEntry, TellsFault, AreOperators, Operates, OperatesAs, operated_of}
 use Rattle.swap_board.specs.declared.board.Operated.{Operated}
 use Rattle.swap_board.specs.Boards as boards

@@ -3,8 +3,9 @@ use Rattle.std.proofs.Common.{◌≡◌, ◌+◌, ◌≤◌, ℕ, suc, List, [],
 use Rattle.rand_pcg.specs.Lcg.{Lcg}
 use Rattle.swap_wire.specs.declared.Event.{Event}
 use Rattle.swap_wire.specs.declared.Event.TheVariants as event
-use Rattle.swap_board.specs.Acts.{Act, Made, Polled, AreMade, AreNoRounds, IsNoRound, calls_in, calls_after, calls_since, since_after, PACE}
+use Rattle.swap_board.specs.Acts.{Act, Made, Polled, AreMade, AreNoRounds, IsNoRound, calls_in, calls_after, calls_since, since_after}
 use Rattle.swap_board.specs.Laws.{RoundsBetween}
+use Rattle.swap_board.proofs.Acts.{few_since}
 
 after_no_round : (e : Event) (n : ℕ) → IsNoRound e → since_after e n ≡ calls_after e n
 after_no_round (event.Round word) n none = absurd none
@@ -49,11 +50,6 @@ made_earlier : (seed : Lcg) (after before : List Act) → AreMade seed (after ++
 made_earlier seed [] before are = are
 made_earlier seed (Made by i s ∷ after) before are = made_earlier seed after before are.2
 made_earlier seed (Polled step ∷ after) before are = made_earlier seed after before are
-
-few_since : (seed : Lcg) (acts : List Act) → AreMade seed acts → calls_since acts ≤ PACE
-few_since seed [] are = omega arith
-few_since seed (Made by i s ∷ acts) are = are.1
-few_since seed (Polled step ∷ acts) are = few_since seed acts are
 
 pub rounds_between : RoundsBetween
 rounds_between seed before between after are none =

@@ -16,10 +16,10 @@ use Rattle.swap_table.specs.Device.{Device, took_back}
 use Rattle.swap_table.specs.Happens.{see_disk}
 use Rattle.swap_table.specs.declared.DiskStep.{DiskStep}
 use Rattle.swap_table.specs.declared.DiskStep.TheVariants as ends
-use Rattle.swap_table.specs.Comes.{Comes, ComesTo, StepIn, begins_in, goes_on_in, wait_seen, is_rest, is_of_link, refuses, rests, accepts, gives_page, fails, keeps_page, reads, starts_write, takes_back, links, brings}
+use Rattle.swap_table.specs.Comes.{Comes, StepIn, begins_in, goes_on_in, wait_seen, is_rest, is_of_link, refuses, rests, accepts, gives_page, fails, keeps_page, reads, starts_write, takes_back, links, brings}
 use Rattle.swap_world.specs.World.{IsEvent}
 use Rattle.swap_world.specs.Rounds.{StepOf}
-use Rattle.swap_world.proofs.Steps.{step_comes}
+use Rattle.swap_world.proofs.EventsKeepWhatHolds.{step_comes}
 use Rattle.swap_board.specs.Boards.{TellsFault, is_failed}
 
 rest_told : (s : Seen) (o : Op) → is_rest s ≡ true → TellsFault s o

@@ -18,15 +18,13 @@ use Rattle.swap_wire.specs.Fabric.{FabricOf}
 use Rattle.swap_disk.specs.Port.{Port, DiskCall, DiskAnswer, TakeDone, TellsOldest}
 use Rattle.swap_disk.specs.Disk.{Taken}
 use Rattle.swap_record.specs.History.{History, Row}
-use Rattle.swap_calls.specs.Calls.{Call, Calls, state_of, idle_call, is_idle}
-use Rattle.swap_table.proofs.Lists.{one_if, count_by-cons}
+use Rattle.swap_calls.specs.Calls.{Calls, state_of, idle_call, is_idle}
+use Rattle.swap_base.proofs.Lists.{one_if, count_by-cons}
 use Rattle.swap_table.specs.Ports.{Along}
-use Rattle.swap_table.specs.declared.DiskStep.{DiskStep}
-use Rattle.swap_table.specs.Device.{Device, Core, disk_take, took_back, of_device}
+use Rattle.swap_table.specs.Device.{Device, disk_take, took_back, of_device}
 use Rattle.swap_device.specs.State.{KeepsRoom}
 use Rattle.swap_world.specs.World.{IsEvent}
-use Rattle.swap_world.specs.Runs.{WorldView, has_effect, logged_if, Adds, nothing, one, AnswersEvent, HasSpare, IsPolled, IsLogged, is_busy_call, busy_callers, GrowsByCalls, is_new_call, one_less_if, StaysIdle}
-use Rattle.swap_world.specs.Answered.{is_call_of}
+use Rattle.swap_world.specs.Runs.{WorldView, has_effect, logged_if, Adds, nothing, one, AnswersEvent, IsPolled, is_busy_call, busy_callers, GrowsByCalls, is_new_call, one_less_if, StaysIdle}
 use Rattle.swap_board.specs.Acts.{Act, Made, Polled, Maker, Player, Pacer, lines_of, seed_after, PACE}
 use Rattle.swap_board.specs.Works.{IsSame, Works, Stepped, Ended, Polls, Pumps, PumpsAs, MakesOne, MakesAs, moved_by, moved_between, IsCallless, Paced, ends, known_operation}
 use Rattle.swap_board.specs.declared.works.Point.TheVariants as point

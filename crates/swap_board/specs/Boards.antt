@@ -4,13 +4,13 @@ use Rattle.std.specs.List.{AllByRecursion}
 use Rattle.swap_base.specs.Sizes.{Sizes}
 use Rattle.swap_base.specs.declared.Caller.{Caller}
 use Rattle.swap_base.specs.declared.NoMemory.{NoMemory}
-use Rattle.swap_wire.specs.Input.{Input, IsInRange}
+use Rattle.swap_wire.specs.Input.{IsInRange}
 use Rattle.swap_wire.specs.declared.Event.{Event}
 use Rattle.swap_wire.specs.declared.Event.TheVariants as event
 use Rattle.swap_wire.specs.declared.Seen.{Seen}
 use Rattle.swap_wire.specs.declared.Seen.TheVariants as seen
 use Rattle.swap_wire.specs.Fabric.{FabricCall, FabricAnswer}
-use Rattle.swap_disk.specs.Port.{Port, DiskCall, DiskAnswer}
+use Rattle.swap_disk.specs.Port.{DiskCall, DiskAnswer}
 use Rattle.swap_record.specs.History.{History, Row, next_name}
 use Rattle.swap_record.specs.declared.Op.{Op}
 use Rattle.swap_record.specs.declared.Op.TheVariants as op

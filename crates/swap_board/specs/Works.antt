@@ -4,7 +4,6 @@ use Rattle.swap_base.specs.Sizes.{Sizes, pages_of}
 use Rattle.swap_base.specs.declared.Caller.{Caller}
 use Rattle.swap_base.specs.declared.DiskWhich.{DiskWhich}
 use Rattle.swap_base.specs.declared.DiskWhich.TheVariants as which
-use Rattle.swap_wire.specs.Input.{Input}
 use Rattle.swap_wire.specs.declared.Event.{Event}
 use Rattle.swap_wire.specs.declared.Event.TheVariants as event
 use Rattle.swap_wire.specs.declared.Seen.{Seen}

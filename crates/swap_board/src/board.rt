@@ -5,6 +5,7 @@ ghost use Rattle.swap_calls.specs.Calls.{is_idle, state_of};
 ghost use Rattle.swap_world.specs.Runs.{busy_callers, GivesPage};
 ghost use Rattle.swap_board.specs.Acts.{IsOperators, since_after};
 ghost use Rattle.swap_board.specs.Boards.{Named, nothing_named, operated_of, seed_of};
+ghost use Rattle.swap_record.specs.declared.TheConstants.{MOST_ENTRIES};
 
 use crate::works::{Moved, Point, make, pace, pump};
 use rand_core::SeedableRng;
@@ -209,7 +210,7 @@ impl<D: DiskPort + Drop, F: Fabric + Drop, N: Naming<D, F>> Board<D, F, N> {
         requires idle { busy_callers world.core.device ≡ 0 }
         requires operator { AreOperators world.core.device.sizes world.core.device.lenders
             operator.items }
-        requires few { length world.core.device.history + calls ≤ 4_194_304 }
+        requires few { length world.core.device.history + calls ≤ MOST_ENTRIES }
         ensures history { IfOk result (λ b. b.world.core.device ≡ world.core.device) }
         ensures counts { IfOk result
             (λ b. b

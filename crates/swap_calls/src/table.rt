@@ -112,7 +112,8 @@ impl Calls {
         requires caller { caller.0 < length self.old.calls }
         requires waiting { is_waiting (state_of self.old.calls caller) ≡ true }
         requires bytes { length bytes.now ≡ self.old.page_bytes }
-        ensures { self.new ≡ record self.old { calls = came_after self.old.calls caller bytes.now } }
+        ensures { self.new
+            ≡ record self.old { calls = came_after self.old.calls caller bytes.now } }
     {
         let call = &mut self.calls[caller.0 as usize];
         let state = call.state().arrived_as(Arrived::Came);

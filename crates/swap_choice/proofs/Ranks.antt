@@ -26,7 +26,7 @@ has-pow slot i =
       | inr other ↦ ap (λ b. eqb b 1) (bit_at-pow_other slot i other) ∙ sym (ne_eqb i slot other)
     ]
 
-has-or : (set slot i : ℕ) → has (bit_or set (2 ^ slot)) i ≡ (has set i || eqb i slot)
+pub has-or : (set slot i : ℕ) → has (bit_or set (2 ^ slot)) i ≡ (has set i || eqb i slot)
 has-or set slot i =
     ap (λ b. eqb b 1) (bit_at_or set (2 ^ slot) i) ∙ either_bits (bit_at set i) (bit_at (2 ^ slot) i) (bit_at-lt set i) (bit_at-lt (2 ^ slot) i)
     ∙ ap (λ b. has set i || b) (has-pow slot i)
@@ -78,7 +78,7 @@ any-filter q a zero i low high = absurd (omega arith)
 any-filter q a (suc d) i low high =
     any_head q a d i (q a) refl (λ above. any-filter q (a + 1) d i above (omega arith)) low
 
-bit_from_has : (x y : ℕ) → x < 2 → y < 2 → eqb x 1 ≡ eqb y 1 → x ≡ y
+pub bit_from_has : (x y : ℕ) → x < 2 → y < 2 → eqb x 1 ≡ eqb y 1 → x ≡ y
 bit_from_has zero zero p q e = refl
 bit_from_has (suc zero) (suc zero) p q e = refl
 bit_from_has zero (suc zero) p q e = cc

@@ -3,19 +3,16 @@ use Rattle.std.proofs.Common.{◌≡◌, ℕ, Bool, true, false, cond, List, [],
 use Rattle.std.specs.List.{AllByRecursion}
 use Rattle.swap_base.specs.declared.Page.{Page}
 use Rattle.swap_base.specs.declared.Caller.{Caller}
-use Rattle.swap_base.specs.declared.Lender.{Lender}
-use Rattle.swap_base.specs.declared.Lease.{Lease}
 use Rattle.swap_base.specs.declared.DiskWhich.TheVariants as which
 use Rattle.swap_queue.specs.Queue.{flying}
 use Rattle.swap_disk.specs.Disk.{is_flight_of}
 use Rattle.swap_disk.specs.Port.{Port}
 use Rattle.swap_calls.specs.Calls.{state_of, may_read}
-use Rattle.swap_remote.specs.Remote.{has_page, target}
-use Rattle.swap_table.specs.Device.{Device, source}
+use Rattle.swap_table.specs.Device.{Device}
 use Rattle.swap_table.specs.Fits.{FitsDisk, IsExpected}
-use Rattle.swap_table.proofs.Lists.{All-implies}
-use Rattle.swap_table.proofs.Agree.{other_read, other_write}
-use Rattle.swap_table.proofs.Waits.{may_read_waits}
+use Rattle.swap_base.proofs.Lists.{All-implies}
+use Rattle.swap_table.proofs.HistoryAgreement.{other_read, other_write}
+use Rattle.swap_table.proofs.WaitsStay.{may_read_waits}
 
 find_none : {X : Type 0} (p : X → Bool) (xs : List X) → AllByRecursion (λ x. p x ≡ false) xs → find p xs ≡ None
 find_none p [] all = refl
@@ -36,11 +33,3 @@ pub write_free :
 write_free T A d p pg k none =
     find_none (is_flight_of (which.Write pg)) p.flights
     (All-implies (IsExpected T _ _ d.queue d.calls) _ p.flights (λ f x. other_write T _ _ d.queue d.calls pg f none x) k.agrees.expected)
-
--- a page that can be read from its lender can be asked for there
-pub source_target : (d : Device) (p : Page) (a : Lender × Lease) → source d p ≡ Some a → target d.sizes d.remote p ≡ Some a
-source_target d p a is = go (has_page d.remote p) is
-  where
-    go : (b : Bool) → cond b (target d.sizes d.remote p) None ≡ Some a → target d.sizes d.remote p ≡ Some a
-    go true is = is
-    go false is = cc

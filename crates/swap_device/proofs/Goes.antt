@@ -10,12 +10,12 @@ use Rattle.swap_calls.specs.Calls.{Calls}
 use Rattle.swap_slabs.specs.Slabs.{is_mapped, flying_of}
 use Rattle.swap_slabs.specs.declared.SlabState.{SlabState}
 use Rattle.swap_slabs.specs.declared.SlabState.TheVariants.{Mapped}
-use Rattle.swap_slabs.specs.declared.TheConstants.{MOST_FLYING}
+use Rattle.swap_base.specs.declared.TheConstants.{MOST_WINDOW}
 use Rattle.swap_rings.specs.Rings.{ring_of}
 use Rattle.swap_remote.specs.Remote.{Remote, slab_for, target, changed_after}
 use Rattle.swap_table.specs.Serves.{Keeping, Owing, is_for_slab, flying_for, SlabFits, Serves}
-use Rattle.swap_table.proofs.Sends.{slab_within}
-use Rattle.swap_table.proofs.Waits.{Target, target_is}
+use Rattle.swap_table.proofs.SendsKeepServing.{slab_within}
+use Rattle.swap_table.proofs.WaitsStay.{Target, target_is}
 use Rattle.swap_device.specs.State.{MayGo, MayGoTo}
 
 target_goes :
@@ -28,11 +28,11 @@ target_goes keeps owes s n H cs r p at k within page t =
     let fewer : flying_for s (slab_for s p) (ring_of r.links at.0) ≤ length (ring_of r.links at.0) =
     count_by-le-length (is_for_slab s (slab_for s p)) (ring_of r.links at.0) in
     let window : s.window ≤ 64 = within.window.1 in
-    let flying : t.flying < MOST_FLYING = omega (arith, fits.1, fewer, t.room, window) in (
+    let flying : t.flying < MOST_WINDOW = omega (arith, fits.1, fewer, t.room, window) in (
       record {
         few = let f = k.few in omega (arith, lender, f);
         mapped = ap is_mapped t.mapped;
-        flying = subst (λ y. flying_of y < MOST_FLYING) (sym t.mapped) flying;
+        flying = subst (λ y. flying_of y < MOST_WINDOW) (sym t.mapped) flying;
         room = t.room;
       },
       lender,

@@ -9,7 +9,7 @@ use Rattle.swap_rings.specs.Rings.{LinkState, is_up}
 use Rattle.swap_rings.specs.declared.Request.{Request}
 use Rattle.swap_rings.specs.declared.Request.TheVariants as request
 use Rattle.swap_slabs.specs.Slabs as slabs
-use Rattle.swap_slabs.specs.declared.TheConstants.{MOST_LENDERS}
+use Rattle.swap_base.specs.declared.TheConstants.{MOST_LENDERS}
 use Rattle.swap_disk.specs.Port.{DiskCall, DiskAnswer}
 use Rattle.swap_remote.specs.Remote.{Remote, names_page, mapped_by, settled_for, with_page_if}
 use Rattle.swap_wire.specs.declared.Msg.{Msg}

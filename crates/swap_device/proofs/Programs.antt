@@ -25,7 +25,7 @@ use Rattle.swap_rings.specs.Rings.{is_up, ring_of, oldest}
 use Rattle.swap_choice.specs.declared.lenders.Asked.TheVariants as picked
 use Rattle.swap_wire.specs.declared.fabric.Sent.TheVariants as sent
 use Rattle.swap_wire.specs.Fabric.{parcel_of, Brought, LinkLost, FabricCall, FabricAnswer, Connect, Send, Take}
-use Rattle.swap_table.specs.declared.TheConstants.{MOST_LINKS, WIRE_VERSION}
+use Rattle.swap_table.specs.declared.TheConstants.{MOST_LINKS}
 use Rattle.swap_table.specs.declared.Placed.{Placed}
 use Rattle.swap_table.specs.declared.LinkStep.{LinkStep}
 use Rattle.swap_table.specs.declared.LinkStep.TheVariants as link
@@ -34,11 +34,12 @@ use Rattle.swap_table.specs.declared.OutStep.{OutStep}
 use Rattle.swap_table.specs.declared.Step.{Step}
 use Rattle.swap_table.specs.Ports.{answering, Along}
 use Rattle.swap_table.specs.Device.{Device, Core, Heard, lose, choose, borrow_from, say_after, follow, sent_nowhere, accept_program, accept_after, accepted_late, write_to, read_disk, read_at, put_program, finish_out, may_map, with_answer, map, may_ask, not_asked, query, placed_at, placed_beside, ask_one, ask_second, ask, with_step, understand, link_take, raised_after, next_link, hello, with_link, connect_on, without_link, connect}
-use Rattle.swap_table.proofs.Links.{state-same}
+use Rattle.swap_table.proofs.LinkTables.{state-same}
 use Rattle.swap_table.proofs.Programs.{Along-answering}
 use Rattle.swap_device.specs.State.{Became, heard_of}
 use Rattle.swap_device.proofs.Falls.{Along-and}
 use Rattle.swap_device.proofs.Heard.{heard_is}
+use Rattle.swap_wire.specs.declared.TheConstants.{WIRE_VERSION}
 
 -- the hottest slab is one of the slabs
 pub hottest_few : (hot : ℕ) (states : List SlabState) (rates : List Activity) → IfSome (hottest hot states rates) (λ (slab : Slab). slab.0 < length states)

@@ -14,7 +14,7 @@ use Rattle.swap_rings.specs.Rings.{LinkState, down, is_up}
 use Rattle.swap_disk.specs.declared.port.DiskPort.{Ghosts as DiskMeaning}
 use Rattle.swap_wire.specs.declared.fabric.Fabric.{Ghosts as FabricMeaning}
 use Rattle.swap_table.specs.Device.{Core, lost_after, enter_entry}
-use Rattle.swap_table.proofs.Agree.{get_or-map_idle}
+use Rattle.swap_table.proofs.HistoryAgreement.{get_or-map_idle}
 use Rattle.swap_device.specs.State.{Agree, IsReady, LeavesRest}
 
 -- a link that has a new state is up only where it was, or where the new state is

@@ -20,10 +20,10 @@ use Rattle.swap_rings.specs.declared.Request.TheVariants as request
 use Rattle.swap_remote.specs.Remote.{slab_for, state_for}
 use Rattle.swap_table.specs.Device.{Device}
 use Rattle.swap_table.specs.Serves.{Keeping, Owing, is_for_slab, flying_for, IsLeasedFrom, WaitsFrom, IsAwaited, SlabFits, Serves}
-use Rattle.swap_table.proofs.Lists.{one_if}
-use Rattle.swap_table.proofs.Links.{flying-cons}
-use Rattle.swap_table.proofs.Sends.{slab_within}
-use Rattle.swap_table.proofs.Waits.{Front, front_of}
+use Rattle.swap_base.proofs.Lists.{one_if}
+use Rattle.swap_table.proofs.LinkTables.{flying-cons}
+use Rattle.swap_table.proofs.SendsKeepServing.{slab_within}
+use Rattle.swap_table.proofs.WaitsStay.{Front, front_of}
 use Rattle.swap_device.specs.State.{IsServed}
 
 waits_is : (l : Lender) (p : Page) (state : CallState) → WaitsFrom l p state → is_waiting state ≡ true

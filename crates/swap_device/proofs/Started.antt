@@ -19,8 +19,8 @@ use Rattle.swap_calls.specs.declared.CallState.{CallState}
 use Rattle.swap_calls.specs.declared.CallState.TheVariants.{Idle, Room, Reading}
 use Rattle.swap_table.specs.Device.{Device}
 use Rattle.swap_table.specs.Fits.{FitsDisk, WaitsFor, IsExpected, IsInLine, flies}
-use Rattle.swap_table.proofs.Lists.{one_if, count_by-set_more, count_by-cons}
-use Rattle.swap_table.proofs.Agree.{found, copy_flies}
+use Rattle.swap_base.proofs.Lists.{one_if, count_by-set_more, count_by-cons}
+use Rattle.swap_table.proofs.HistoryAgreement.{found, copy_flies}
 use Rattle.swap_device.specs.State.{WritesBack, ReadsBack}
 use Rattle.swap_device.proofs.Free.{write_free}
 

@@ -29,7 +29,7 @@ use Rattle.swap_base.specs.declared.Slab.{Slab}
 use Rattle.swap_base.specs.declared.Lender.{Lender}
 use Rattle.swap_base.specs.declared.Lease.{Lease}
 use Rattle.swap_slabs.specs.Slabs.{is_mapped, flying_of}
-use Rattle.swap_slabs.specs.declared.TheConstants.{MOST_LENDERS, MOST_FLYING}
+use Rattle.swap_base.specs.declared.TheConstants.{MOST_LENDERS, MOST_WINDOW}
 use Rattle.swap_slabs.specs.Slabs as slabs
 use Rattle.swap_slabs.specs.declared.SlabState.{SlabState}
 use Rattle.swap_slabs.specs.declared.SlabState.TheVariants.{Asking, Borrowing}
@@ -183,7 +183,7 @@ ReadsBack d (which.Read c) = (c.0 < d.sizes.callers) × (is_waiting (state_of d.
 pub record MayGo (s : Sizes) (r : Remote) (page : Page) (lender : Lender) : Type 0 where
   pub few : lender.0 < MOST_LENDERS
   pub mapped : is_mapped (state_for s r.slabs page) ≡ true
-  pub flying : flying_of (state_for s r.slabs page) < MOST_FLYING
+  pub flying : flying_of (state_for s r.slabs page) < MOST_WINDOW
   pub room : length (ring_of r.links lender) < s.window
 
 -- and the lender is one of the fabric's

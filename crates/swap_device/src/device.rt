@@ -6,22 +6,24 @@ ghost use Rattle.swap_disk.specs.Port.{LetFinish};
 ghost use Rattle.swap_wire.specs.Fabric.{parcel_of, Give, Cut, Crash, Host, FabricOf};
 ghost use Rattle.swap_calls.specs.Calls.{call_of, state_of, is_idle, keeps_page};
 ghost use Rattle.swap_slabs.specs.Slabs as slabs;
-ghost use Rattle.swap_slabs.specs.declared.TheConstants.{MOST_LENDERS};
+ghost use Rattle.swap_base.specs.declared.TheConstants.{MOST_LENDERS};
 ghost use Rattle.swap_rings.specs.Rings as rings;
 ghost use Rattle.swap_table.specs.Device.{device_at_start, out, read, finish, disk_start, disk_take, took_after, link_take, tick, map, connect};
 ghost use Rattle.swap_table.specs.Fits.{IsBlank};
 ghost use Rattle.swap_device.specs.State.{Agree, Went, KeepsRoom, GivesIn, GivesStep, WritesBack, ReadsBack};
+ghost use Rattle.swap_record.specs.declared.TheConstants.{MOST_ENTRIES};
 
 use crate::machine::Machine;
 use crate::state::State;
 use std::alloc::Global;
 use std::marker::Model;
-use swap_base::{Caller, DiskWhich, EntryNo, Geometry, Lender, Link, NoMemory, Page, Slab};
+use swap_base::{
+    Caller, DiskWhich, EntryNo, Geometry, Lender, Link, MOST_LENDERS, NoMemory, Page, Slab,
+};
 use swap_calls::{Arrived, CallState};
 use swap_disk::{DiskDone, DiskPort};
 use swap_queue::Failed;
 use swap_record::{Record, ReserveRefused};
-use swap_slabs::MOST_LENDERS;
 use swap_table::{DiskStep, InStep, LinkStep, OutStep, Placed, Step, calls_keep, ports_promise};
 use swap_wire::{Fabric, Gave, Hosted};
 
@@ -249,7 +251,7 @@ impl<D: DiskPort, F: Fabric> DeviceCore<D, F> {
         ensures ok { OnOk result (self.new ≡ record self.old { spare = max self.old.spare calls }) }
         ensures err { OnErr result (self.new ≡ self.old) }
         ensures too_many { (result ≡ Err ReserveRefused.TooMany)
-            ↔ (4_194_304 < length self.old.device.history + calls) }
+            ↔ (MOST_ENTRIES < length self.old.device.history + calls) }
     {
         self.machine.state.reserve(calls)
     }

@@ -3,12 +3,13 @@ ghost use Rattle.swap_base.specs.Sizes.{pages_of};
 ghost use Rattle.swap_calls.specs.Calls.{state_of as calls_state_of, is_waiting};
 ghost use Rattle.swap_slabs.specs.Slabs.{state_of, flying_of, asks};
 ghost use Rattle.swap_slabs.specs.declared.SlabState.TheVariants as SlabState;
-ghost use Rattle.swap_slabs.specs.declared.TheConstants.{MOST_LENDERS};
+ghost use Rattle.swap_base.specs.declared.TheConstants.{MOST_LENDERS};
 ghost use Rattle.swap_remote.specs.Remote.{state_for, mapped_by};
 ghost use Rattle.swap_rings.specs.Rings as rings;
 ghost use Rattle.swap_table.specs.Device.{query_reply, borrow_reply, write_reply, read_reply, rate_asked, taken_back, query_answered, borrow_answered, write_answered, read_answered, rate_told, heard_evict, follow, understand, link_take, map, connect_on, connect, without_link};
-ghost use Rattle.swap_table.specs.declared.TheConstants.{MOST_LINKS, WIRE_VERSION};
+ghost use Rattle.swap_table.specs.declared.TheConstants.{MOST_LINKS};
 ghost use Rattle.swap_device.specs.State.{Agree, Went, Became, IsReady, LeavesRest, IsHeard, MayFollow, IsServed, answered_of, heard_of, heard_with};
+ghost use Rattle.swap_wire.specs.declared.TheConstants.{WIRE_VERSION};
 
 use crate::losing::MOST_LOSSES;
 use crate::machine::Machine;
@@ -16,8 +17,8 @@ use crate::state::State;
 use swap_base::{Caller, EntryNo, Lease, Lender, Link, Page, Slab};
 use swap_disk::DiskPort;
 use swap_rings::Request;
-use swap_table::{LinkStep, MOST_LINKS, WIRE_VERSION};
-use swap_wire::{Fabric, Msg, Took};
+use swap_table::{LinkStep, MOST_LINKS};
+use swap_wire::{Fabric, Msg, Took, WIRE_VERSION};
 
 /// What the device says at once in answer to a message, and the slab that it borrows then.
 #[derive(Clone, Copy)]

@@ -3,9 +3,8 @@ ghost use Rattle.swap_table.specs.Device.{choose, lose, say_after};
 ghost use Rattle.swap_device.specs.State.{Became, IsReady, LeavesRest, MayBorrow, IsPlain, lose_in_turn, given_up, said_parcel};
 
 use crate::machine::Machine;
-use swap_base::{Lender, Slab};
+use swap_base::{Lender, MOST_LENDERS, Slab};
 use swap_disk::DiskPort;
-use swap_slabs::MOST_LENDERS;
 use swap_wire::{Fabric, Msg, Sent};
 
 // How many links may be lost one after another. Each loss after the first is of a link that was up,
@@ -89,7 +88,8 @@ impl<D: DiskPort, F: Fabric> Machine<D, F> {
         requires lender { lender.0 < self.old.device.lenders }
         requires plain { IsPlain word }
         requires ready { IsReady F.Fabric self.old }
-        ensures moved { Became D.moves F.moves (λ d. say_after d lender (said_parcel word)) self.old self.new }
+        ensures moved { Became D.moves F.moves (λ d. say_after d lender
+            (said_parcel word)) self.old self.new }
         ensures ready { IsReady F.Fabric self.new }
         ensures rest { LeavesRest self.old self.new }
     {

@@ -1,7 +1,7 @@
 ghost use Rattle.std.specs.Prelude.{◌≡◌, ◌<◌, length, true, Some, None};
 ghost use Rattle.swap_slabs.specs.Slabs.{state_of, pair_of};
 ghost use Rattle.swap_slabs.specs.declared.SlabState.TheVariants as SlabState;
-ghost use Rattle.swap_slabs.specs.declared.TheConstants.{MOST_LENDERS};
+ghost use Rattle.swap_base.specs.declared.TheConstants.{MOST_LENDERS};
 ghost use Rattle.swap_remote.specs.Kept.{AreAsked};
 ghost use Rattle.swap_table.specs.Device.{query, ask, ask_one, ask_second, place, tick};
 ghost use Rattle.swap_device.specs.State.{Agree, Went, IsReady, LeavesRest, IsAskedAlone};

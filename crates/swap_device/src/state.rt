@@ -8,7 +8,7 @@ ghost use Rattle.swap_queue.specs.Kept.{IsQueue};
 ghost use Rattle.swap_calls.specs.Calls.{call_of, state_of, is_idle, may_read, is_waiting, keeps_page, came_after, failed_after as failed_call};
 ghost use Rattle.swap_slabs.specs.Slabs as slabs;
 ghost use Rattle.swap_slabs.specs.Kept.{IsSlabs};
-ghost use Rattle.swap_slabs.specs.declared.TheConstants.{MOST_LENDERS, MOST_FLYING};
+ghost use Rattle.swap_base.specs.declared.TheConstants.{MOST_LENDERS, MOST_WINDOW};
 ghost use Rattle.swap_rings.specs.Rings as rings;
 ghost use Rattle.swap_remote.specs.Remote as remote;
 ghost use Rattle.swap_slabs.specs.declared.SlabState.TheVariants as SlabState;
@@ -18,11 +18,13 @@ ghost use Rattle.swap_choice.specs.Asked as choice;
 ghost use Rattle.swap_remote.specs.Kept.{AreAsked, MayAsk};
 ghost use Rattle.swap_device.specs.State.{MayGo, MayBorrow};
 ghost use Rattle.swap_table.specs.Device.{device_at_start, enter_entry, give, fault, wait_for_room, wait_for_disk, hit, periods_ended, lost_after, write_sent, read_sent, source, may_map, may_ask, chosen_for, is_newest, raised_after};
+ghost use Rattle.swap_record.specs.declared.TheConstants.{MOST_ENTRIES};
 
 use std::alloc::Global;
 use std::marker::Model;
 use swap_base::{
-    CallKind, Caller, EntryNo, Geometry, Lease, Lender, NoMemory, Origin, Page, Slab, Via,
+    CallKind, Caller, EntryNo, Geometry, Lease, Lender, MOST_LENDERS, NoMemory, Origin, Page, Slab,
+    Via,
 };
 use swap_calls::{CallState, Calls};
 use swap_choice::Asked;
@@ -31,7 +33,7 @@ use swap_rates::Rates;
 use swap_record::{Op, Record, ReserveRefused};
 use swap_remote::Remote;
 use swap_rings::Request;
-use swap_slabs::{Chosen, MOST_LENDERS};
+use swap_slabs::Chosen;
 
 /// A device's tables. The newest entry of a page stands beside the history, which has it as its
 /// last page-out.
@@ -109,7 +111,8 @@ fn enter(
 impl State {
     /// The tables of a device that nothing happened to.
     pub fn make(alloc: Global, geometry: Geometry, lenders: u32) -> Result<State, NoMemory>
-        ensures { IfOk result (λ t. t ≡ record { device = device_at_start geometry lenders; spare = 0 }) }
+        ensures { IfOk result (λ t. t
+            ≡ record { device = device_at_start geometry lenders; spare = 0 }) }
     {
         let pages = geometry.pages() as usize;
         let entries = Record::make(alloc, geometry.page_bytes());
@@ -345,7 +348,8 @@ impl State {
         ensures { self.new
             ≡ record self.old {
               device =
-                  record self.old.device { calls = came_after self.old.device.calls caller bytes.now };
+                  record self.old.device
+                  { calls = came_after self.old.device.calls caller bytes.now };
             } }
     {
         self.calls.came(caller, bytes);
@@ -374,7 +378,7 @@ impl State {
         ensures ok { OnOk result (self.new ≡ record self.old { spare = max self.old.spare n }) }
         ensures err { OnErr result (self.new ≡ self.old) }
         ensures too_many { (result ≡ Err ReserveRefused.TooMany)
-            ↔ (4_194_304 < length self.old.device.history + n) }
+            ↔ (MOST_ENTRIES < length self.old.device.history + n) }
     {
         self.entries.reserve(n)
     }
@@ -749,7 +753,8 @@ impl State {
               device =
                   record self.old.device {
                     remote =
-                        remote.written_after self.old.device.sizes self.old.device.remote lender page
+                        remote.written_after self.old.device.sizes self.old.device.remote
+                        lender page
                         (is_newest (last self.old.device.history page) entry);
                   };
             } }

@@ -254,7 +254,10 @@ impl Flights {
     fn land_read(&mut self, caller: Caller)
         requires { IsSome (find (is_flight_of (DiskWhich.Read caller)) self.old.flights) }
         ensures { self.new
-            ≡ record self.old { flights = without_flight (DiskWhich.Read caller) self.old.flights } }
+            ≡ record self.old {
+              flights = without_flight
+                  (DiskWhich.Read caller) self.old.flights;
+            } }
     {
         is_a_line();
         self.order.keeps();

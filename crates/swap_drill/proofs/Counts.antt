@@ -12,7 +12,7 @@ use Rattle.swap_wire.specs.declared.Event.TheVariants as event
 use Rattle.swap_wire.specs.declared.Seen.{Seen}
 use Rattle.swap_disk.specs.Disk.{Flight}
 use Rattle.swap_disk.specs.Port.{writes_in, oldest_write_in}
-use Rattle.swap_table.proofs.Lists.{count_by-cons, one_if}
+use Rattle.swap_base.proofs.Lists.{count_by-cons, one_if}
 use Rattle.swap_world.specs.World.{World, next, reach, seens}
 use Rattle.swap_trace.specs.declared.draws.Draw.{Draw}
 use Rattle.swap_drill.specs.Drill.{after, plain_input, turn, turns, waits, call, call_event, calling, following, step, seen_of_call, all_heard, write_ends, oldest_write_ends, rounds_at, hosts_at, crashes_at, is_round_step}

@@ -15,7 +15,7 @@ use Rattle.swap_disk.specs.Port.{writes_in, oldest_write_in}
 use Rattle.swap_world.specs.World.{World, start, reach}
 use Rattle.swap_world.specs.Runs.{IsInput}
 use Rattle.swap_world.specs.Laws.{AreInputs}
-use Rattle.swap_world.proofs.Memory.{starts_sound, reach_sound}
+use Rattle.swap_world.proofs.WorldInMemoryStaysSound.{starts_sound, reach_sound}
 use Rattle.swap_trace.specs.declared.draws.Draw.{Draw}
 use Rattle.swap_trace.specs.Draws.{draw_of, draws, generator_of}
 use Rattle.swap_trace.specs.Laws.{DrawsAreInRange}

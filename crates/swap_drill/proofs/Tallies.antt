@@ -7,7 +7,7 @@ use Rattle.swap_record.specs.declared.Op.TheVariants as op
 use Rattle.swap_record.specs.History.{History, Row, row_named}
 use Rattle.swap_record.specs.Judging.{oldest}
 use Rattle.swap_record.proofs.Judged.{oldest_more}
-use Rattle.swap_table.proofs.Lists.{count_by-cons, one_if}
+use Rattle.swap_base.proofs.Lists.{count_by-cons, one_if}
 use Rattle.swap_drill.specs.Summary.{is_out, is_in, is_fault, is_zero, is_queue, is_disk, is_lender, is_in_from, entries_that, tally_of, count_op}
 
 counted_in : (p : Op → Bool) (row : Row) (H : History) → p row.entry.op ≡ true → entries_that p (row ∷ H) ≡ entries_that p H + 1

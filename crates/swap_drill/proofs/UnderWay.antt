@@ -4,7 +4,7 @@ use mir.Val.{bool_byte}
 use Rattle.rand_pcg.specs.Lcg.{Lcg}
 use Rattle.rand_pcg.specs.Pcg.{pcg32}
 use Rattle.swap_wire.specs.Input.{Input}
-use Rattle.swap_table.proofs.Lists.{one_if}
+use Rattle.swap_base.proofs.Lists.{one_if}
 use Rattle.swap_world.specs.World.{World}
 use Rattle.swap_trace.specs.declared.draws.Draw.{Draw}
 use Rattle.swap_trace.specs.Draws.{draw_of, draws, generator_of}

@@ -18,7 +18,7 @@ use Rattle.swap_run.specs.declared.Ending.{Ending}
 use Rattle.swap_run.proofs.ReadText.{read_whole_is, read_length}
 use Rattle.swap_over.specs.Ends.{OverEnds}
 use Rattle.swap_disk.specs.MemDiskView.{MemDiskView, new_drive}
-use Rattle.swap_hosted.specs.Hosted.{Deals, Unasked, OverHarbor, OverNet, OverMemory, OverFile, LinksEnd, WasRefused, DiskEnds, TextEnds, HostedEnds, ReadTraceOver, HostedCompletes, Played, address_count, memory_disk, memory_links, first_of_pair}
+use Rattle.swap_hosted.specs.Hosted.{Deals, Unasked, OverHarbor, OverNet, OverMemory, OverFile, LinksEnd, WasRefused, DiskEnds, TextEnds, HostedEnds, ReadTraceOver, HostedCompletes, address_count, memory_disk, memory_links, first_of_pair}
 
 module _ {D : Type 0} (disk : DiskMeaning D) where
   pub over_memory_links :

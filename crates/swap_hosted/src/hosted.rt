@@ -6,6 +6,7 @@ ghost use Rattle.swap_options.specs.Play.{play_asked};
 ghost use Rattle.swap_play.specs.Playing.{IsTrace};
 ghost use Rattle.swap_show.specs.Clause.{read_of, written_to};
 ghost use Rattle.swap_hosted.specs.Hosted.{DiskEnds, HostRose, HostedEnds, TextEnds, disks_of, nets_of, address_count};
+ghost use Rattle.swap_base.specs.declared.TheConstants.{MOST_LENDERS};
 
 use crate::ports::{over_file, over_memory};
 use std::alloc::Global;
@@ -80,7 +81,7 @@ where
     G: Gate,
     R: Threads + Wait + Sync,
     requires text { length text.now ≤ TEXT_LIMIT }
-    requires lenders { IfSome options.now.tcp (λ list. length list.items ≤ 8) }
+    requires lenders { IfSome options.now.tcp (λ list. length list.items ≤ MOST_LENDERS) }
     ensures ends { TextEnds H.Disk.DiskPort H.Net.Fabric (play_asked options.now)
         (written_to K.Sink out.old out.new) (disks_of H.Host host.old host.new)
         (nets_of H.Host host.old host.new) (HostRose H.Host host.old host.new)
@@ -124,7 +125,7 @@ where
     H::Net: Send,
     G: Gate,
     R: Threads + Wait + Sync,
-    requires lenders { IfSome options.now.tcp (λ list. length list.items ≤ 8) }
+    requires lenders { IfSome options.now.tcp (λ list. length list.items ≤ MOST_LENDERS) }
     ensures ends { HostedEnds H.Disk.DiskPort H.Net.Fabric (play_asked options.now)
         (written_to K.Sink out.old out.new) (disks_of H.Host host.old host.new)
         (nets_of H.Host host.old host.new) (HostRose H.Host host.old host.new)

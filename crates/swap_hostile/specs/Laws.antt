@@ -5,7 +5,7 @@ use Rattle.swap_wire.specs.Input.{Input}
 use Rattle.swap_wire.specs.declared.Seen.{Seen}
 use Rattle.swap_wire.specs.Fabric.{FabricCall, FabricAnswer, FabricOf}
 use Rattle.swap_disk.specs.Port.{Port, DiskCall, DiskAnswer}
-use Rattle.swap_slabs.specs.declared.TheConstants.{MOST_LENDERS}
+use Rattle.swap_base.specs.declared.TheConstants.{MOST_LENDERS}
 use Rattle.swap_table.specs.Device.{Device, device_at_start}
 use Rattle.swap_table.specs.Fits.{IsBlank}
 use Rattle.swap_world.specs.Laws.{Holds}

@@ -5,7 +5,7 @@ use Rattle.std.specs.List.{find}
 use Rattle.std.specs.Option.{unwrap_or, option_map}
 use Rattle.std.specs.Fmt.{digit_glyph}
 use Rattle.std.proofs.lemmas.List.{take_more, flat_map_more, take_min, length-append, length-take, length-take-le, take_all}
-use Rattle.swap_io.specs.Words.{lengths, repeat_piece, shortest_piece, shortest, hex}
+use Rattle.swap_io.specs.Words.{lengths, repeat_piece, shortest_piece, hex}
 
 map-cond :
     {X Y : Type 0} (f : X → Y) (b : Bool) (x : X) (o : Option X) (r : Option Y) → r ≡ option_map f o → cond b (Some (f x)) r ≡ option_map f (cond b (Some x) o)

@@ -2,15 +2,13 @@ ghost use Rattle.std.specs.Prelude.{◌≡◌, ℕ, ◌+◌, ◌-◌, ◌<◌, �
 ghost use Rattle.std.specs.Fmt.{digit_glyph};
 ghost use Rattle.swap_io.specs.Words.{lengths, repeat_piece, shortest_piece, shortest};
 
+use super::LINE_LENGTH;
 use super::words::PIECE_LENGTHS;
 use std::alloc::Global;
 use std::marker::Model;
 use swap_base::NoMemory;
 
-/// How many bytes a line may have.
-pub const LINE_LENGTH: usize = 10_000;
-
-/// One line of text, of at most 10,000 bytes. After `make` no call takes memory.
+/// One line of text, of at most `LINE_LENGTH` bytes. After `make` no call takes memory.
 #[derive(Debug, Drop)]
 pub struct LineBuf {
     bytes: Vec<u8>,
@@ -18,17 +16,18 @@ pub struct LineBuf {
 
 impl Model for LineBuf {
     ghost use Rattle.std.specs.Prelude.{ℕ, ◌≤◌, List, vec_len, vec_capacity};
+    ghost use Rattle.swap_io.specs.declared.TheConstants.{LINE_LENGTH};
 
     ghost Value = { List ℕ };
 
     ghost view = { λ line. line.bytes.items };
 
-    ghost invariant = { λ line. (vec_len line.bytes ≤ 10_000)
-        × (10_000 ≤ vec_capacity line.bytes) };
+    ghost invariant = { λ line. (vec_len line.bytes ≤ LINE_LENGTH)
+        × (LINE_LENGTH ≤ vec_capacity line.bytes) };
 }
 
 impl LineBuf {
-    /// An empty line, with room for 10,000 bytes.
+    /// An empty line, with room for `LINE_LENGTH` bytes.
     pub fn make(alloc: Global) -> Result<LineBuf, NoMemory>
         ensures { IfOk result (λ line. line ≡ []) }
     {
@@ -40,15 +39,15 @@ impl LineBuf {
 
     pub fn bytes(&self) -> &[u8]
         ensures bytes { result.now ≡ self.now }
-        ensures within { length self.now ≤ 10_000 }
+        ensures within { length self.now ≤ LINE_LENGTH }
     {
         &self.bytes
     }
 
     /// How many bytes are free.
     pub fn room(&self) -> usize
-        ensures room { result ≡ 10_000 - length self.now }
-        ensures within { length self.now ≤ 10_000 }
+        ensures room { result ≡ LINE_LENGTH - length self.now }
+        ensures within { length self.now ≤ LINE_LENGTH }
     {
         LINE_LENGTH - self.bytes.len()
     }
@@ -61,7 +60,7 @@ impl LineBuf {
 
     /// Appends the bytes, which must have room.
     pub fn text(&mut self, bytes: &[u8])
-        requires { length self.old + length bytes.now ≤ 10_000 }
+        requires { length self.old + length bytes.now ≤ LINE_LENGTH }
         ensures { self.new ≡ self.old ++ bytes.now }
     {
         self.bytes.extend_from_slice(bytes).unwrap();
@@ -69,7 +68,7 @@ impl LineBuf {
 
     /// Appends the number's decimal digits, which must have room.
     pub fn decimal(&mut self, n: u64)
-        requires { length self.old + length (decimal n) ≤ 10_000 }
+        requires { length self.old + length (decimal n) ≤ LINE_LENGTH }
         ensures { self.new ≡ self.old ++ decimal n }
     {
         self.text(itoa::Buffer::new().format(n).as_bytes());
@@ -77,7 +76,7 @@ impl LineBuf {
 
     /// Appends the hex of the page's shortest pattern, which must have room.
     pub fn shortest(&mut self, page: &[u8])
-        requires { length self.old + length (shortest page.now) ≤ 10_000 }
+        requires { length self.old + length (shortest page.now) ≤ LINE_LENGTH }
         ensures { self.new ≡ self.old ++ shortest page.now }
     {
         let piece = &page[..shortest_len(page)];

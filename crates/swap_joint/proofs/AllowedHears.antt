@@ -22,17 +22,17 @@ use Rattle.swap_slabs.specs.declared.SlabState.{SlabState}
 use Rattle.swap_slabs.specs.declared.SlabState.TheVariants.{Local, Mapped}
 use Rattle.swap_rates.specs.Table as rates
 use Rattle.swap_rings.specs.Rings as rings
-use Rattle.swap_rings.specs.Rings.{LinkState, is_up, ring_of}
+use Rattle.swap_rings.specs.Rings.{is_up, ring_of}
 use Rattle.swap_rings.specs.declared.Request.{Request}
 use Rattle.swap_rings.specs.declared.Request.TheVariants as request
 use Rattle.swap_remote.specs.Remote as remote
-use Rattle.swap_remote.specs.Remote.{Remote, slab_for, state_for}
+use Rattle.swap_remote.specs.Remote.{slab_for, state_for}
 use Rattle.swap_table.specs.Device as device
-use Rattle.swap_table.specs.Device.{Device, Heard, query_reply, borrow_reply, write_reply, read_reply, rate_asked, taken_back, settled_word, done_word}
+use Rattle.swap_table.specs.Device.{Device, Heard, borrow_reply, rate_asked, taken_back, settled_word, done_word}
 use Rattle.swap_table.specs.Serves.{IsAwaited}
 use Rattle.swap_table.specs.Moves.{Hears, roomy, lent, refused, written, brought, asked_rate, told_to_go, words}
-use Rattle.swap_table.proofs.Replies.{answered-other, answered-ring}
-use Rattle.swap_table.proofs.Evictions.{MappedBy, mapped_by_is}
+use Rattle.swap_table.proofs.RepliesKeepServing.{answered-other, answered-ring}
+use Rattle.swap_table.proofs.EvictionKeepsSlabs.{MappedBy, mapped_by_is}
 use Rattle.swap_lender.specs.declared.SlotState.TheVariants.{Held}
 use Rattle.swap_lender.specs.Lender.{slot_in, has_greeted}
 use Rattle.swap_lender.specs.Calls.{tenant}
@@ -54,7 +54,9 @@ use Rattle.swap_joint.proofs.Hears.{loan}
 use Rattle.swap_joint.proofs.Takes.{FrontIs, taken_brings}
 use Rattle.swap_joint.proofs.Allows.{bare, allows_on, allows_taken, allows_more, holds_apart, holds_answered, elsewhere, settled_none, evicted_none, seat_slot}
 use Rattle.swap_joint.proofs.Takings.{saying, may_tell, allows_settled, allows_evicted, allows_lent, allows_refused}
-use Rattle.swap_joint.proofs.AllowedLinks.{to_bare, Sees, itself, sees_parts, but, others, at_called, owing}
+use Rattle.swap_joint.proofs.AllowedLinks.{to_bare, Sees, sees_parts, but, others, at_called, owing, itself}
+use Rattle.swap_base.proofs.Bools.{or_left}
+use Rattle.swap_joint.proofs.Serves.{unless-both}
 
 -- what a message says
 
@@ -89,14 +91,6 @@ refusal_is (msg.Lent slab lease) u t e same = absurd (neither (let F : Option (S
     neither : true ≡ false → ⊥
     neither e = cc
 refusal_is _ u t e same = cc
-
-first_of_two : (a b : Bool) → a ≡ true → (a || b) ≡ true
-first_of_two true b e = refl
-first_of_two false b e = cc
-
-both_unless : (b : Bool) (P Q R : Type 0) → (P → Q → R) → Unless b P → Unless b Q → Unless b R
-both_unless true P Q R f p q = tt
-both_unless false P Q R f p q = f p q
 
 -- the slot that a slab is lent by is the only one held for it
 only_slot :
@@ -214,7 +208,7 @@ module _ (n : ℕ) (d : Device) (h g : Harbor) (l : Lender) (q : Parcel) (all : 
       (λ k. elsewhere l m j k (state_for d.sizes d.remote.slabs p) other at)
       (λ k. settled_none m k (state_for d.sizes d.remote.slabs p) (elsewhere l m j k (state_for d.sizes d.remote.slabs p) other at)))
       (answered-other d.remote.links l m other))
-      (both_unless (channel_of h l).lender_gone _ _ _
+      (unless-both (channel_of h l).lender_gone _ _ _
       (λ (st : Stored d.sizes d.history d.remote.slabs d.remote.bits l (channel_of h l) (served_of here.order)) (a : Old).
       allows_settled d.sizes d.remote.slabs (ring_of d.remote.links l) (ring_of (rings.answered_after d.remote.links l) l) l (channel_of h l).lender
       (channel_of h l).number front.rest (channel_of h l).to_lender.ended (channel_of h l).to_lender.parcels (slab_for d.sizes p) j at
@@ -241,7 +235,7 @@ module _ (n : ℕ) (d : Device) (h g : Harbor) (l : Lender) (q : Parcel) (all : 
       (holds_apart m d.remote.slabs t (slabs.after_lent (state_of d.remote.slabs t) k) (λ j. ap (has_lease m j) was.1)
       (λ j. ap (λ y. has_lease m j (slabs.after_lent y k)) was.1 ∙ elsewhere l m k j (Mapped l k 0) other (own l k)))
       (answered-other d.remote.links l m other))
-      (both_unless (channel_of h l).lender_gone _ _ _
+      (unless-both (channel_of h l).lender_gone _ _ _
       (λ (st : Stored d.sizes d.history d.remote.slabs d.remote.bits l (channel_of h l) (served_of here.order)) (a : Old).
       silent (slabs.lent_after d.remote.slabs t k) (ring_of (rings.answered_after d.remote.links l) l)
       (subst (λ r. New (slabs.lent_after d.remote.slabs t k) r (channel_of h l).to_lender.parcels) (sym (ring_now (request.Borrow t) rest is))
@@ -249,7 +243,7 @@ module _ (n : ℕ) (d : Device) (h g : Harbor) (l : Lender) (q : Parcel) (all : 
       (channel_of h l).to_lender.ended (channel_of h l).to_lender.parcels t k inside was.1 is
       (only_slot (channel_of h l) k t reached lodged
       (st.lent t k
-      (ap (lends_to t k) front.is ∙ first_of_two (lends_slab t k q.msg) (lends_to t k front.rest) (loan q.msg u k t k says (eqb-true u.0 t.0 same) refl))))
+      (ap (lends_to t k) front.is ∙ or_left (lends_slab t k q.msg) (lends_to t k front.rest) (loan q.msg u k t k says (eqb-true u.0 t.0 same) refl))))
       (rest_of a))))
       here.stored old)
     where
@@ -268,7 +262,7 @@ module _ (n : ℕ) (d : Device) (h g : Harbor) (l : Lender) (q : Parcel) (all : 
       (allows_refused d.sizes d.remote.slabs (ring_of d.remote.links l) rest l (channel_of h l).lender (channel_of h l).number front.rest
       (channel_of h l).to_lender.ended (channel_of h l).to_lender.parcels t was.1 is
       (λ i m j e held.
-      a.refused i m t j e (first_of_two (is_refusal t q.msg) (refuses_in t front.rest) (refusal_is q.msg u t says (eqb-true u.0 t.0 same))) held)
+      a.refused i m t j e (or_left (is_refusal t q.msg) (refuses_in t front.rest) (refusal_is q.msg u t says (eqb-true u.0 t.0 same))) held)
       (rest_of a))))
       old)
   heard_allowed x (written {p = p} {e = e} {at = at} {rest = rest} is says named) =
@@ -288,7 +282,7 @@ module _ (n : ℕ) (d : Device) (h g : Harbor) (l : Lender) (q : Parcel) (all : 
       (unless-map (channel_of h l).lender_gone _ _
       (λ (a : Old).
       let is : is_ask k q.msg ≡ true = ask_is q.msg k says in
-      let first : asks_in k (q ∷ front.rest) ≡ true = first_of_two (is_ask k q.msg) (asks_in k front.rest) is in
+      let first : asks_in k (q ∷ front.rest) ≡ true = or_left (is_ask k q.msg) (asks_in k front.rest) is in
       let waits : Waits (channel_of h l).lender k = a.asks k first in
       allows_more d.sizes d.remote.slabs (ring_of d.remote.links l) l (channel_of h l).lender (channel_of h l).number front.rest
       (channel_of h l).to_lender.ended (channel_of h l).to_lender.parcels (parcel_of (msg.Rates k (rates.value_of d.rates t)) [])
@@ -308,7 +302,7 @@ module _ (n : ℕ) (d : Device) (h g : Harbor) (l : Lender) (q : Parcel) (all : 
       (unless-map (channel_of h l).lender_gone _ _
       (λ (a : Old).
       let is : is_evict k q.msg ≡ true = evict_is q.msg k says in
-      let first : evicts_in k (q ∷ front.rest) ≡ true = first_of_two (is_evict k q.msg) (evicts_in k front.rest) is in
+      let first : evicts_in k (q ∷ front.rest) ≡ true = or_left (is_evict k q.msg) (evicts_in k front.rest) is in
       let slot : HasSlot (channel_of h l).lender.slots k true = a.told k first in
       allows_evicted d.sizes d.remote.slabs (ring_of d.remote.links l) l (channel_of h l).lender (channel_of h l).number front.rest
       (channel_of h l).to_lender.ended (channel_of h l).to_lender.parcels t k m.flying m.is slot (a.apart k first) (a.evict_once.0 k is) (slot_greeted k slot)

@@ -23,9 +23,8 @@ use Rattle.swap_remote.specs.Remote.{Remote}
 use Rattle.swap_table.specs.Device.{Device, lost_after}
 use Rattle.swap_table.specs.Moves.{words}
 use Rattle.swap_table.specs.Serves.{IsAwaited, AreInOrder}
-use Rattle.swap_table.proofs.Links.{link-other}
+use Rattle.swap_table.proofs.LinkTables.{link-other}
 use Rattle.swap_lender.specs.Lender as lender
-use Rattle.swap_lender.specs.Lender.{slot_in, has_greeted}
 use Rattle.swap_link.specs.Fits.{IsSound}
 use Rattle.swap_link.specs.Lane.{Lane, append_after}
 use Rattle.swap_link.specs.Channel.{Channel, cut_after, crash_after, on_channel}
@@ -40,11 +39,11 @@ use Rattle.swap_joint.specs.Stored.{Joined}
 use Rattle.swap_joint.specs.Lenders.{IsReached}
 use Rattle.swap_joint.specs.Allowed.{is_rate, is_hello, is_borrow, borrows_in, IsToLender, Allows, Allowed, AllAllowed, AllAllowedBut, AllowedOwing, IsKnown}
 use Rattle.swap_joint.proofs.Lanes.{by_append}
-use Rattle.swap_joint.proofs.Joins.{lost_down}
 use Rattle.swap_joint.proofs.Hears.{with_message}
 use Rattle.swap_joint.proofs.Allowed.{allows_cut, allows_said}
 use Rattle.swap_joint.proofs.Allows.{bare, allows_on, allows_ended, MayAdd, allows_more, Holds, holds_itself, holds_lost}
 use Rattle.swap_joint.proofs.Takings.{saying}
+use Rattle.swap_table.proofs.LossesGoByMoves.{lost_down}
 
 -- what is known of a link and its lender
 pub record LinkFacts (d : Device) (l : Lender) (c : Channel) : Type 0 where

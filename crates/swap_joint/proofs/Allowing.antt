@@ -31,14 +31,14 @@ use Rattle.swap_rings.specs.declared.Request.TheVariants as request
 use Rattle.swap_remote.specs.Remote as remote
 use Rattle.swap_remote.specs.Remote.{slab_for}
 use Rattle.swap_table.specs.Device as device
-use Rattle.swap_table.specs.Device.{Device, lost_after, raised_after, next_link, hello}
+use Rattle.swap_table.specs.Device.{Device, raised_after, next_link, hello}
 use Rattle.swap_table.specs.Serves.{SlabFits}
 use Rattle.swap_table.specs.Goes.{stay, by_disk, by_fabric, EachKeepsWhere}
 use Rattle.swap_table.specs.Moves.{Within, of_sizes, Speaker, Sends, write, read, borrow, query, query_too, IsFar, far_give, far_cut, far_crash, far_host, Move, enters, gives, faults, waits_for_room, rates_change, lets_go, gives_up, starts, waits_for_disk, takes, lets_finish, sends, finds_down, raises, speaks, speaks_to_nobody, hears, hears_nothing, loses, misunderstands, breaks_off, far}
 use Rattle.swap_table.specs.Promises.{FollowsItsMoves, Promises}
-use Rattle.swap_table.proofs.Keeps as keep
-use Rattle.swap_table.proofs.Links.{link-other}
-use Rattle.swap_table.proofs.Sends.{sent-other}
+use Rattle.swap_table.proofs.MovesKeepAgreement as keep
+use Rattle.swap_table.proofs.LinkTables.{link-other}
+use Rattle.swap_table.proofs.SendsKeepServing.{sent-other}
 use Rattle.swap_lender.specs.declared.SlotState.TheVariants.{Held}
 use Rattle.swap_lender.specs.Lender as lender
 use Rattle.swap_lender.specs.Lender.{slot_in, has_greeted}

@@ -22,8 +22,8 @@ use Rattle.swap_lender.specs.declared.SlotState.{SlotState}
 use Rattle.swap_lender.specs.declared.SlotState.TheVariants.{Free, Held}
 use Rattle.swap_lender.specs.Lender as lender
 use Rattle.swap_lender.specs.Lender.{slot_in, slot_of, has_greeted}
-use Rattle.swap_table.proofs.Lists.{All-append}
-use Rattle.swap_table.proofs.Links.{by_slab, state-same, state-other}
+use Rattle.swap_base.proofs.Lists.{All-append}
+use Rattle.swap_table.proofs.LinkTables.{by_slab, state-same, state-other}
 use Rattle.swap_joint.specs.Seats.{HasSeat, seat_in, is_done}
 use Rattle.swap_joint.specs.Stored.{gives_back}
 use Rattle.swap_joint.specs.Allowed.{is_evict, is_ask, is_rate, is_refusal, is_hello, is_borrow, evicts_in, asks_in, rates_in, borrows_in, HasSlot, Waits, Greets, IsToLender, Allows}

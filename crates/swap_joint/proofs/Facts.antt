@@ -25,6 +25,7 @@ use Rattle.swap_joint.specs.Order.{Names, Answers, Carries}
 use Rattle.swap_joint.specs.Brought.{kept_entry, Brings, HoldsFor, Replied, Asked}
 use Rattle.swap_joint.specs.Sight.{FewerLeases, KeepsLease, StaysLeased, KeepsEntries, StillReads}
 use Rattle.swap_joint.proofs.Orders.{Ordered, order_map, all_served, all_under_way}
+use Rattle.swap_base.proofs.Lists.{both}
 
 -- an order of a link's own facts
 abbrev pub OrderedAt : Sizes → History → Calls → List SlabState → List Request → Lender → Channel → Lane → Lane → List Request → List Request → Type 0
@@ -105,10 +106,6 @@ holds_seen s H H' cs cs' states states' l c (Write p e) entries still none h = t
 holds_seen s H H' cs cs' states states' l c (Read a p) entries still none h =
     λ k e at is. let was = h k e (none k at) (still e is) in let now = entries p e was.0 in (now.0, was.1 ∙ ap (λ b. Some b) (sym now.1))
 
-pub both_all : {X : Type 0} (P Q : X → Type 0) (xs : List X) → AllByRecursion P xs → AllByRecursion Q xs → AllByRecursion (λ x. P x × Q x) xs
-both_all P Q [] p q = tt
-both_all P Q (x ∷ xs) p q = ((p.0, q.0), both_all P Q xs p.1 q.1)
-
 -- the device moves
 pub order_seen :
     (s : Sizes) (H H' : History) (cs cs' : Calls) (states states' : List SlabState) (ring : List Request) (l : Lender) (c : Channel) (a b : Lane)
@@ -120,11 +117,11 @@ order_seen s H H' cs cs' states states' ring l c a b S U leases entries still no
     let C : Parcel → Request → Type 0 = Asked s H cs states l c in
     let P : Request → Type 0 = λ x. StillReads cs cs' x × StaysLeased s l states states' x in
     let Q : Request → Type 0 = λ x. P x × NoNewLease s states states' l x in
-    let both : AllByRecursion P ring = both_all (StillReads cs cs') (StaysLeased s l states states') ring still leases in
+    let fit : AllByRecursion P ring = both (StillReads cs cs') (StaysLeased s l states states') ring still leases in
     order_map R C (Replied s H' cs' states' l) (Asked s H' cs' states' l c) P Q ring a b S U
     (λ q x one k. (answers_seen s states states' l q x one.1 k.0, brings_seen H H' cs cs' q x entries one.0 k.1))
     (λ q x one k. (
       carries_seen s H H' states states' l q x one.0.1 entries k.0,
       unless-map c.lender_gone _ _ (holds_seen s H H' cs cs' states states' l c x entries one.0.0 one.1) k.1,
     ))
-    h (all_served R C P ring a b S U h both) (all_under_way R C Q ring a b S U h (both_all P (NoNewLease s states states' l) ring both none))
+    h (all_served R C P ring a b S U h fit) (all_under_way R C Q ring a b S U h (both P (NoNewLease s states states' l) ring fit none))

@@ -25,7 +25,7 @@ use Rattle.swap_link.specs.Channel.{Channel}
 use Rattle.swap_link.specs.lemmas.KeepLaws.{unless-at}
 use Rattle.swap_table.specs.Device.{Device, hello}
 use Rattle.swap_table.specs.Serves.{bytes_of, IsAwaited}
-use Rattle.swap_table.proofs.Sends.{pages_some}
+use Rattle.swap_table.proofs.SendsKeepServing.{pages_some}
 use Rattle.swap_joint.specs.Order.{is_request, asks_by, Carries}
 use Rattle.swap_joint.specs.Pairs.{Pairwise}
 use Rattle.swap_joint.specs.Brought.{Asked}

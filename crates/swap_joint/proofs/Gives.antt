@@ -31,10 +31,9 @@ use Rattle.swap_lender.specs.Lender.{Lender, slot_in, slot_of, has_greeted, firs
 use Rattle.swap_lender.specs.Table.{Turn, serve, hello, lend, slots_due, may_send, opens, asked_slots, to_evict, measure_after, host}
 use Rattle.swap_lender.specs.Calls.{tenant}
 use Rattle.swap_link.specs.Fits.{IsSound}
-use Rattle.swap_link.specs.Lane.{Lane, append_after}
-use Rattle.swap_link.specs.Channel.{Channel, post_after, forward_after, deliver_after, give_after, given_from}
-use Rattle.swap_link.specs.Keeping.{Unless}
-use Rattle.swap_link.specs.lemmas.KeepLaws.{took-served, unless}
+use Rattle.swap_link.specs.Lane.{Lane}
+use Rattle.swap_link.specs.Channel.{Channel, forward_after, deliver_after, give_after, given_from}
+use Rattle.swap_link.specs.lemmas.KeepLaws.{took-served, unless, unless-at}
 use Rattle.swap_joint.specs.Seats.{is_done}
 use Rattle.swap_joint.specs.Stored.{gives_back, Joined}
 use Rattle.swap_joint.specs.Order.{is_request, is_reply, asks_by, replies_by, IsRoomFor, IsReplyFor, Names, Answers, Carries}
@@ -46,14 +45,13 @@ use Rattle.swap_joint.specs.Allowed.{is_hello, is_rate, borrows_in, refuses_in, 
 use Rattle.swap_joint.specs.Left.{borrows}
 use Rattle.swap_joint.proofs.Serving.{HeldOf, slot_found}
 use Rattle.swap_joint.proofs.Pairs.{filter-first, pairs-first, all-back}
-use Rattle.swap_joint.proofs.Lenders.{are_owned}
-use Rattle.swap_joint.proofs.Notices.{asks_stay}
-use Rattle.swap_joint.proofs.Served.{or_parts, allows_reply, allows_popped, allows_table, allows_greeted}
+use Rattle.swap_joint.proofs.Lenders.{are_owned, untold_answer}
+use Rattle.swap_joint.proofs.Notices.{asks_stay, posted_own}
+use Rattle.swap_joint.proofs.Served.{allows_reply, allows_popped, allows_table, allows_greeted}
 use Rattle.swap_joint.proofs.Granted.{allows_done, allows_rate, allows_settled, allows_granted, allows_opened, asked_low}
-
--- a reply goes on the lender's own link
-own_link : (n : Link) (b : Lane) (q : Parcel) → post_after n b n q ≡ append_after b q
-own_link n b q = cond-true (n.0 == n.0) (append_after b q) b (eq-eqb n.0 n.0 refl)
+use Rattle.swap_base.proofs.Bools.{or_left, or_parts, or_none}
+use Rattle.swap_joint.proofs.Serves.{ordered_back}
+use Rattle.swap_joint.proofs.Turned.{stands_so}
 
 -- a slot of which no test holds is free
 pub lowest_free : (slots : List SlotState) → slot_in slots (first_where is_free slots) ≡ Free
@@ -75,14 +73,6 @@ pub record Wants (states : List SlabState) (ring : List Request) (l : LenderNo) 
       → ((borrows_in t ring ≡ true) ⊎ (ended ≡ true)) × (refuses_in t come ≡ false) × (list_any (λ (p : Parcel). borrows t p.msg) ps ≡ false)
   pub done : (j : Lease) → q.msg ≡ msg.Done j → (u : Slab) → has_lease l j (state_of states u) ≡ false
 
-pub front_true : (a b : Bool) → a ≡ true → (a || b) ≡ true
-front_true true b e = refl
-front_true false b e = cc
-
-untold_answered : (o : Option Round) (slot value : ℕ) (slots : List SlotState) → AsksUntold o slots → AsksUntold (option_map (answer slot value) o) slots
-untold_answered None slot value slots h = tt
-untold_answered (Some r) slot value slots h = h
-
 pub draining_leased : (l : LenderNo) (j : Lease) (x : SlabState) (f : ℕ) → x ≡ Draining l j f → has_lease l j x ≡ true
 draining_leased l j x f is = ap (has_lease l j) is ∙ and_from (l.0 == l.0) (j.0 == j.0) (eq-eqb l.0 l.0 refl) (eq-eqb j.0 j.0 refl)
 
@@ -96,7 +86,7 @@ module _ (s : Sizes) (states : List SlabState) (ring : List Request) (l : Lender
       allows_greeted s states ring l table n b.parcels ended q ps (ap is_hello is) (λ k. ap (is_done k) is) wants.hello h
   serve_by (msg.Query t) page is =
       let r : Parcel = parcel_of (msg.Room t (slots_free table)) [] in
-      subst (λ (z : Lane). Allows s states ring l table n z.parcels ended ps) (sym (own_link n b r))
+      subst (λ (z : Lane). Allows s states ring l table n z.parcels ended ps) (sym (posted_own n b r))
       (allows_reply s states ring l table n b r ended ps ((λ k. refl), (λ k. refl), (λ u i m k e refused _. both_ways false refl refused))
       (allows_popped s states ring l table n b.parcels ended q ps (λ k. ap (is_done k) is) (ap is_hello is) h))
   serve_by (msg.Borrow t) page is =
@@ -108,11 +98,11 @@ module _ (s : Sizes) (states : List SlabState) (ring : List Request) (l : Lender
       allows_granted s states ring l table n b.parcels ended ps (first_where is_free table.slots) n t (record { 0 = table.next_lease })
       (set table.contents (first_where is_free table.slots) (blank_slab table.lending)) (table.next_lease + 1)
       (lowest_free table.slots) want.0 want.1 want.2 popped in
-      subst (λ (z : Lane). Allows s states ring l (lend table n t (first_where is_free table.slots)).lender n z.parcels ended ps) (sym (own_link n b r))
+      subst (λ (z : Lane). Allows s states ring l (lend table n t (first_where is_free table.slots)).lender n z.parcels ended ps) (sym (posted_own n b r))
       (allows_reply s states ring l (lend table n t (first_where is_free table.slots)).lender n b r ended ps
       ((λ k. refl), (λ k. refl), (λ u i m k e refused _. both_ways false refl refused)) now))
       (λ _. let r : Parcel = parcel_of (msg.Refused t) [] in
-      subst (λ (z : Lane). Allows s states ring l table n z.parcels ended ps) (sym (own_link n b r))
+      subst (λ (z : Lane). Allows s states ring l table n z.parcels ended ps) (sym (posted_own n b r))
       (allows_reply s states ring l table n b r ended ps (
         (λ k. refl),
         (λ k. refl),
@@ -122,17 +112,17 @@ module _ (s : Sizes) (states : List SlabState) (ring : List Request) (l : Lender
   serve_by (msg.Write j i) page is =
       let r : Parcel = parcel_of (msg.Wrote j i) [] in
       let after : Lender = record table { contents = with_page table.contents (slot_of table n j) i page } in
-      subst (λ (z : Lane). Allows s states ring l after n z.parcels ended ps) (sym (own_link n b r))
+      subst (λ (z : Lane). Allows s states ring l after n z.parcels ended ps) (sym (posted_own n b r))
       (allows_reply s states ring l after n b r ended ps ((λ k. refl), (λ k. refl), (λ u x m k e refused _. both_ways false refl refused))
       (allows_table s states ring l table (record table { contents = with_page table.contents (slot_of table n j) i page }) n b.parcels ended ps refl refl refl
       (allows_popped s states ring l table n b.parcels ended q ps (λ k. ap (is_done k) is) (ap is_hello is) h)))
   serve_by (msg.Read j i) page is =
       let r : Parcel = parcel_of (msg.PageIs j i) (page_in table.contents (slot_of table n j) i) in
-      subst (λ (z : Lane). Allows s states ring l table n z.parcels ended ps) (sym (own_link n b r))
+      subst (λ (z : Lane). Allows s states ring l table n z.parcels ended ps) (sym (posted_own n b r))
       (allows_reply s states ring l table n b r ended ps ((λ k. refl), (λ k. refl), (λ u x m k e refused _. both_ways false refl refused))
       (allows_popped s states ring l table n b.parcels ended q ps (λ k. ap (is_done k) is) (ap is_hello is) h))
   serve_by (msg.Rates j v) page is =
-      let w : Waits table j = h.rates j (front_true (is_rate j q.msg) _ (ap (is_rate j) is ∙ eq-eqb j.0 j.0 refl)) in
+      let w : Waits table j = h.rates j (or_left (is_rate j q.msg) _ (ap (is_rate j) is ∙ eq-eqb j.0 j.0 refl)) in
       let at = slot_found table n j w.at w.link w.slab false sound w.held (held w.at w.link w.slab j false w.held) in
       let noted : Allows s states ring l (record table { round = option_map (answer (slot_of table n j) v) table.round }) n b.parcels ended ps =
       subst (λ i. Allows s states ring l (record table { round = option_map (answer i v) table.round }) n b.parcels ended ps) (sym at.is)
@@ -140,12 +130,12 @@ module _ (s : Sizes) (states : List SlabState) (ring : List Request) (l : Lender
       in
       allows_settled s states ring l (record table { round = option_map (answer (slot_of table n j) v) table.round }) n b ended ps
       (sound_round (option_map (answer (slot_of table n j) v) table.round)) (slots_due (option_map (answer (slot_of table n j) v) table.round)) refl
-      (untold_answered table.round (slot_of table n j) v table.slots untold) noted
+      (untold_answer table.round (slot_of table n j) v table.slots untold) noted
     where
       sound_round : (o : Option Round) → IsSound (record table { round = o })
       sound_round o = record { given = sound.given; differ = sound.differ; slots = sound.slots; places = sound.places }
   serve_by (msg.Done j) page is =
-      let x = h.done j (front_true (is_done j q.msg) _ (ap (is_done j) is ∙ eq-eqb j.0 j.0 refl)) in
+      let x = h.done j (or_left (is_done j q.msg) _ (ap (is_done j) is ∙ eq-eqb j.0 j.0 refl)) in
       let at = slot_found table n j x.0 x.1 x.2 true sound x.3 (held x.0 x.1 x.2 j true x.3) in
       subst (λ i. Allows s states ring l (record table { slots = set table.slots i Free }) n b.parcels ended ps) (sym at.is)
       (allows_done s states ring l table n b.parcels ended sound q ps j x.0 x.1 x.2 is x.3 (wants.done j is)
@@ -153,10 +143,6 @@ module _ (s : Sizes) (states : List SlabState) (ring : List Request) (l : Lender
   serve_by _ page is = absurd (let wrong : ⊥ = subst IsToLender is h.kinds.0 in wrong)
 
 -- what the ring says of borrows
-
-pub or_false : (a b : Bool) → a ≡ false → b ≡ false → (a || b) ≡ false
-or_false true b x y = cc
-or_false false b x y = y
 
 pub any_back : {X : Type 0} (p : X → Bool) (xs ys : List X) → list_any p ys ≡ true → list_any p (xs ++ ys) ≡ true
 any_back p [] ys e = e
@@ -188,13 +174,13 @@ pairs_none P test select tests (p ∷ ps) rs each sub h none = go (select p) ref
         → ((rs : List Request) → Pairwise P (filter select ps) rs → list_any tests rs ≡ false → list_any test ps ≡ false) → (test p || list_any test ps) ≡ false
     go true e [] h none more = absurd h
     go true e (r ∷ rs) h none more =
-        or_false (test p) _ (false_from_ne_true _ (λ t. both_ways (tests r) (or_parts (tests r) (list_any tests rs) none).0 (each p r h.0 t)))
+        or_none (test p) _ (false_from_ne_true _ (λ t. both_ways (tests r) (or_parts (tests r) (list_any tests rs) none).0 (each p r h.0 t)))
         (more rs h.1 (or_parts (tests r) (list_any tests rs) none).1)
-    go false e rs h none more = or_false (test p) _ (false_from_ne_true _ (λ t. both_ways (select p) e (sub p t))) (more rs h none)
+    go false e rs h none more = or_none (test p) _ (false_from_ne_true _ (λ t. both_ways (select p) e (sub p t))) (more rs h none)
 
 pub none_before : (t : Slab) (xs ys : List Request) → AreInOrder (xs ++ request.Borrow t ∷ ys) → list_any (is_borrow t) xs ≡ false
 none_before t [] ys h = refl
-none_before t (x ∷ xs) ys h = or_false (is_borrow t x) _ (apart x (all-back (MayPrecede x) xs (request.Borrow t ∷ ys) h.0).0) (none_before t xs ys h.1)
+none_before t (x ∷ xs) ys h = or_none (is_borrow t x) _ (apart x (all-back (MayPrecede x) xs (request.Borrow t ∷ ys) h.0).0) (none_before t xs ys h.1)
   where
     apart : (x : Request) → MayPrecede x (request.Borrow t) → is_borrow t x ≡ false
     apart (request.Query u) may = refl
@@ -204,17 +190,13 @@ none_before t (x ∷ xs) ys h = or_false (is_borrow t x) _ (apart x (all-back (M
 
 pub none_after : (t : Slab) (ys : List Request) → AllByRecursion (MayPrecede (request.Borrow t)) ys → list_any (is_borrow t) ys ≡ false
 none_after t [] h = refl
-none_after t (y ∷ ys) h = or_false (is_borrow t y) _ (apart y h.0) (none_after t ys h.1)
+none_after t (y ∷ ys) h = or_none (is_borrow t y) _ (apart y h.0) (none_after t ys h.1)
   where
     apart : (y : Request) → MayPrecede (request.Borrow t) y → is_borrow t y ≡ false
     apart (request.Query u) may = refl
     apart (request.Borrow u) may = false_from_ne_true _ (λ e. may (sym (eqb-true u.0 t.0 e)))
     apart (request.Write p e) may = refl
     apart (request.Read c p) may = refl
-
-pub order_back : (xs ys : List Request) → AreInOrder (xs ++ ys) → AreInOrder ys
-order_back [] ys h = h
-order_back (x ∷ xs) ys h = order_back xs ys h.1
 
 -- the request of a Borrow
 pub is_for_borrow :
@@ -273,7 +255,8 @@ borrow_wants d l c q ps t joined ordered front is =
     o.in_four ∙ ap (λ xs. (o.answered ++ o.unheard) ++ (xs ++ o.dropped)) way in
     let there : AreInOrder ((o.answered ++ o.unheard) ++ (request.Borrow t ∷ (f.rest ++ o.dropped))) = subst AreInOrder ring ordered in
     let before : list_any (is_borrow t) (o.answered ++ o.unheard) ≡ false = none_before t (o.answered ++ o.unheard) (f.rest ++ o.dropped) there in
-    let after : list_any (is_borrow t) (f.rest ++ o.dropped) ≡ false = none_after t (f.rest ++ o.dropped) (order_back (o.answered ++ o.unheard) _ there).0 in (
+    let after : list_any (is_borrow t) (f.rest ++ o.dropped) ≡ false =
+    none_after t (f.rest ++ o.dropped) (ordered_back (o.answered ++ o.unheard) _ there).0 in (
       ap (borrows_in t) ring
           ∙ any_back (is_borrow t) (o.answered ++ o.unheard) _ (ap (λ b. b || list_any (is_borrow t) (f.rest ++ o.dropped)) (eq-eqb t.0 t.0 refl)),
       pairs_none R (λ p. is_refusal t p.msg) replies_by (is_borrow t) c.to_device.parcels o.answered
@@ -286,14 +269,6 @@ borrow_wants d l c q ps t joined ordered front is =
   where
     any_first : {X : Type 0} (p : X → Bool) (xs ys : List X) → list_any p (xs ++ ys) ≡ false → list_any p xs ≡ false
     any_first p xs ys e = false_from_ne_true _ (λ t. both_ways (list_any p (xs ++ ys)) e (any_front p xs ys t))
-
-pub opened_by : (b : Bool) (P : Type 0) → b ≡ false → Unless b P → P
-opened_by true P e h = cc
-opened_by false P e h = h
-
-pub stands_so : (b : Bool) (P : Type 0) → P → Unless b P
-stands_so true P p = tt
-stands_so false P p = p
 
 -- the lender takes the first message, or its end leaves
 pub allowed_given :
@@ -310,12 +285,12 @@ allowed_given d l c sound untold lodges greeted joined ordered h =
         let A : List Parcel → Type 0 =
         λ out. Allows d.sizes d.remote.slabs (ring_of d.remote.links l) l c.lender c.number c.to_device.parcels c.to_lender.ended out in
         let now : Allows d.sizes d.remote.slabs (ring_of d.remote.links l) l c.lender c.number c.to_device.parcels c.to_lender.ended (q ∷ ps) =
-        subst A (append-nil c.to_lender.parcels ∙ front) (opened_by c.lender_gone (A (c.to_lender.parcels ++ [])) stands h) in
-        let stored = opened_by c.lender_gone _ stands joined.stored in
+        subst A (append-nil c.to_lender.parcels ∙ front) (unless-at c.lender_gone (A (c.to_lender.parcels ++ [])) stands h) in
+        let stored = unless-at c.lender_gone _ stands joined.stored in
         let wants : Wants d.remote.slabs (ring_of d.remote.links l) l c.lender c.number c.to_device.parcels c.to_lender.ended q ps = record {
           hello = greeted stands;
           borrow = λ t is. (let w = borrow_wants d l c q ps t joined ordered front is in (inl w.0, w.1, w.2));
-          done = λ j is. (stored.given j (ap (gives_back j) front ∙ front_true (is_done j q.msg) _ (ap (is_done j) is ∙ eq-eqb j.0 j.0 refl))).unleased;
+          done = λ j is. (stored.given j (ap (gives_back j) front ∙ or_left (is_done j q.msg) _ (ap (is_done j) is ∙ eq-eqb j.0 j.0 refl))).unleased;
         } in
         stands_so c.lender_gone _
         (subst
@@ -348,7 +323,7 @@ allowed_hosted d l c used word reached sound h = go c.lender_gone refl
     hosted_ stands =
         let now : Allows d.sizes d.remote.slabs (ring_of d.remote.links l) l c.lender c.number c.to_device.parcels c.to_lender.ended
         (c.to_lender.parcels ++ []) =
-        opened_by c.lender_gone _ stands h in
+        unless-at c.lender_gone _ stands h in
         let m : Lender = measure_after c.lender used in
         cond_both (opens (measure_after c.lender used)) _ _
         (λ (t : Turn). (host c.lender used word ≡ t)

@@ -41,7 +41,7 @@ use Rattle.swap_joint.specs.Left.{borrows}
 use Rattle.swap_joint.proofs.Allowed.{free_map}
 use Rattle.swap_joint.proofs.Serving.{same_slot, kept_marked, was_marked, marked_told, still_waits, not_ready}
 use Rattle.swap_joint.proofs.Noticing.{IsNotified, told_named, told_once}
-use Rattle.swap_joint.proofs.Served.{or_parts}
+use Rattle.swap_base.proofs.Bools.{or_parts}
 
 abbrev lease_in : SlotState → ℕ
 lease_in Free = 0

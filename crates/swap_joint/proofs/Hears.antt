@@ -18,7 +18,7 @@ use Rattle.swap_wire.specs.Fabric.{Parcel, lends}
 use Rattle.swap_bits.specs.Bits.{has}
 use Rattle.swap_calls.specs.Calls.{Calls}
 use Rattle.swap_slabs.specs.Slabs as slabs
-use Rattle.swap_slabs.specs.Slabs.{has_lease, state_of, with_state}
+use Rattle.swap_slabs.specs.Slabs.{has_lease, state_of}
 use Rattle.swap_slabs.specs.declared.SlabState.{SlabState}
 use Rattle.swap_slabs.specs.declared.SlabState.TheVariants.{Local, Asking, Borrowing, Mapped, Draining}
 use Rattle.swap_rings.specs.Rings.{ring_of}
@@ -27,7 +27,7 @@ use Rattle.swap_rings.specs.declared.Request.TheVariants.{Query, Borrow, Write, 
 use Rattle.swap_remote.specs.Remote.{Remote, slab_for, state_for, has_page}
 use Rattle.swap_table.specs.Device.{Device, borrow_reply}
 use Rattle.swap_table.specs.Serves.{Keeping, Owing, latest_write, entry_to, bytes_of, IsLeasedFrom, IsAwaited, PageFits, Serves}
-use Rattle.swap_table.proofs.Links.{by_slab, state-same, state-other}
+use Rattle.swap_table.proofs.LinkTables.{by_slab, state-same, state-other}
 use Rattle.swap_link.specs.Lane.{Lane, append_after}
 use Rattle.swap_link.specs.Channel.{Channel}
 use Rattle.swap_link.specs.Keeping.{Unless}
@@ -45,6 +45,7 @@ use Rattle.swap_joint.proofs.Orders.{itself, order_sent, order_quiet, said_quiet
 use Rattle.swap_joint.proofs.Facts.{OrderedAt, NoNewLease, fewer_new, leased_all, still_all, order_seen}
 use Rattle.swap_joint.proofs.Turns.{any_last}
 use Rattle.swap_joint.proofs.Serves.{joined, Clear, any-rest, no_done}
+use Rattle.swap_base.proofs.Bools.{or_parts}
 
 -- a lease that is given back stays so, where no slab has a lease that it hadn't
 pub given_fewer :
@@ -162,10 +163,6 @@ without_reply c qs = record c { to_device = record c.to_device { parcels = qs } 
 
 latest-later : (p : Page) (x : Request) (rest : List Request) (e : EntryNo) → latest_write p rest ≡ Some e → latest_write p (x ∷ rest) ≡ Some e
 latest-later p x rest e is = ap (λ o. first_of o (entry_to p x)) is
-
-or_parts : (a b : Bool) → (a || b) ≡ false → (a ≡ false) × (b ≡ false)
-or_parts true b e = cc
-or_parts false b e = (refl, e)
 
 -- what is left of a link whose first reply was taken, before the device does anything with it
 pub record Taken (s : Sizes) (H : History) (cs : Calls) (states : List SlabState) (bits : List Bool) (ring : List Request) (l : Lender) (c : Channel)

@@ -10,7 +10,7 @@ use Rattle.swap_base.specs.declared.Lease.{Lease}
 use Rattle.swap_base.specs.declared.EntryNo.{EntryNo}
 use Rattle.swap_base.specs.declared.Via.TheVariants as via
 use Rattle.swap_base.specs.Sizes.{Sizes, zeros}
-use Rattle.swap_record.specs.History.{History, last, next_name, is_out_of}
+use Rattle.swap_record.specs.History.{History, last}
 use Rattle.swap_wire.specs.declared.fabric.Sent.{Sent}
 use Rattle.swap_wire.specs.declared.fabric.Sent.TheVariants as sent_is
 use Rattle.swap_wire.specs.Fabric.{Parcel, FabricCall, FabricAnswer}
@@ -22,17 +22,16 @@ use Rattle.swap_calls.specs.declared.CallState.TheVariants.{Reading}
 use Rattle.swap_slabs.specs.Slabs.{has_lease}
 use Rattle.swap_slabs.specs.declared.SlabState.{SlabState}
 use Rattle.swap_rings.specs.Rings as rings
-use Rattle.swap_rings.specs.Rings.{LinkState, link_of, ring_of, is_up}
+use Rattle.swap_rings.specs.Rings.{LinkState, ring_of, is_up}
 use Rattle.swap_rings.specs.declared.Request.{Request}
 use Rattle.swap_rings.specs.declared.Request.TheVariants as request
 use Rattle.swap_remote.specs.Remote.{Remote, slab_for, state_for}
 use Rattle.swap_table.specs.Device.{Device, lost_after}
-use Rattle.swap_table.specs.Serves.{IsOut, IsOutIn, bytes_of, Serves}
-use Rattle.swap_table.proofs.Entries.{named_last, out_on, last_bytes}
-use Rattle.swap_table.proofs.Links.{link-same}
-use Rattle.swap_table.proofs.Sends.{sent-same}
-use Rattle.swap_table.proofs.Requests.{has_own}
-use Rattle.swap_table.proofs.Waits.{Target}
+use Rattle.swap_table.specs.Serves.{IsOut, bytes_of, Serves}
+use Rattle.swap_table.proofs.EntriesStay.{last_bytes, last_out}
+use Rattle.swap_table.proofs.SendsKeepServing.{sent-same}
+use Rattle.swap_table.proofs.RequestsKeepServing.{has_own}
+use Rattle.swap_table.proofs.WaitsStay.{Target}
 use Rattle.swap_link.specs.Channel.{Channel, send_after, on_channel}
 use Rattle.swap_link.specs.Harbor as harbor
 use Rattle.swap_link.specs.Harbor.{Harbor, channel_of, lender_of, KeepsAt, OwesAt}
@@ -46,6 +45,7 @@ use Rattle.swap_joint.specs.Stored.{Stored, JoinedOf, Joined, AllJoined, AllJoin
 use Rattle.swap_joint.proofs.Facts.{leased_all}
 use Rattle.swap_joint.proofs.Sights.{entries_stay, sees_lost, sees_itself}
 use Rattle.swap_joint.proofs.Hears.{joined_sees, joined_same, with_message, joined_sent}
+use Rattle.swap_table.proofs.LossesGoByMoves.{lost_down}
 
 -- what device and links agree on, where the links are those of lenders in memory
 abbrev pub ServesAt : ℕ → Device → Harbor → Type 0
@@ -87,15 +87,6 @@ joins_through n d d' f g c r moved sees all here l within up = elim (cases_eq l.
   | inr other ↦ others_through n d d' f g c r moved sees all l within other up
 ]
 
--- a link that was lost is down
-pub lost_down : (d : Device) (l : Lender) → is_up (lost_after d l).remote.links l ≡ false
-lost_down d l = elim (cases_lt l.0 (length d.remote.links)) [
-  | inl within ↦ ap (λ (k : LinkState). k.up) (link-same d.remote.links l rings.down within)
-  | inr past ↦
-      ap (λ (k : LinkState). k.up)
-      (get_or_past (set d.remote.links l.0 rings.down) l.0 rings.down (subst (λ n. n ≤ l.0) (sym (length-set d.remote.links l.0 rings.down)) past))
-]
-
 pub joins_lost : (n : ℕ) (d : Device) (h : Harbor) (m : Lender) → AllJoinedBut m n d h → AllJoined n (lost_after d m) h
 joins_lost n d h m all l within up = elim (cases_eq l.0 m.0) [
   | inl e ↦
@@ -135,16 +126,6 @@ not_down c q present e =
   where
     sends_not : sent_is.Sent ≡ sent_is.Down → ⊥
     sends_not e = cc
-
--- the last page-out of a page is one
-last_out : (H : History) (p : Page) (e : EntryNo) → last H p ≡ Some e → IsOut H p e
-last_out [] p e is = cc
-last_out (row ∷ H) p e is = go (is_out_of p row) refl is (last_out H p e)
-  where
-    go : (b : Bool) → is_out_of p row ≡ b → cond b (Some (next_name H)) (last H p) ≡ Some e → (last H p ≡ Some e → IsOut H p e) → IsOut (row ∷ H) p e
-    go true out is rest =
-        let same : next_name H ≡ e = cc in subst (λ (x : EntryNo). IsOut (row ∷ H) p x) same (subst (λ o. IsOutIn p o) (sym (named_last H row)) out)
-    go false out is rest = (out_on H row p e (rest is)).0
 
 -- a read that is sent reads its call's entry
 pub holds_newest :

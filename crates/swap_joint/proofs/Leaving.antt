@@ -7,22 +7,22 @@ use Rattle.swap_disk.specs.declared.port.DiskPort.{Ghosts as DiskMeaning}
 use Rattle.swap_wire.specs.declared.fabric.Sent.{Sent}
 use Rattle.swap_wire.specs.declared.fabric.Sent.TheVariants as sent_is
 use Rattle.swap_wire.specs.Fabric.{Parcel, Handed, Brought, NothingCame, LinkLost, FabricOf, FabricCall, Connect, Send, Take, End, Give, Cut, Crash, Host, FabricAnswer}
-use Rattle.swap_rings.specs.Rings.{LinkState, is_up, ring_of, link_of}
+use Rattle.swap_rings.specs.Rings.{LinkState, is_up}
 use Rattle.swap_rings.specs.Rings as rings
 use Rattle.swap_remote.specs.Remote as remote
 use Rattle.swap_remote.specs.Remote.{Remote}
 use Rattle.swap_table.specs.Device as device
-use Rattle.swap_table.specs.Device.{Device, Heard, of_device, lost_after, raised_after, next_link}
+use Rattle.swap_table.specs.Device.{Device, Heard, lost_after, raised_after, next_link}
 use Rattle.swap_table.specs.Goes.{stay, by_disk, by_fabric, EachKeepsWhere}
 use Rattle.swap_table.specs.Moves.{Within, of_sizes, Speaker, words, Sends, write, read, borrow, query, query_too, Hears, roomy, lent, refused, written, brought, asked_rate, told_to_go, IsFar, far_give, far_cut, far_crash, far_host, Move, enters, gives, faults, waits_for_room, rates_change, lets_go, gives_up, starts, waits_for_disk, takes, lets_finish, sends, finds_down, raises, speaks, speaks_to_nobody, hears, hears_nothing, loses, misunderstands, breaks_off, far}
 use Rattle.swap_table.specs.Promises.{FollowsItsMoves, Promises}
-use Rattle.swap_table.proofs.Keeps as keep
-use Rattle.swap_table.proofs.Links.{link-other}
-use Rattle.swap_table.proofs.Sends.{sent-same}
-use Rattle.swap_table.proofs.Replies.{answered-same, answered-other}
+use Rattle.swap_table.proofs.MovesKeepAgreement as keep
+use Rattle.swap_table.proofs.LinkTables.{link-other}
+use Rattle.swap_table.proofs.SendsKeepServing.{sent-same}
+use Rattle.swap_table.proofs.RepliesKeepServing.{answered-up}
 use Rattle.swap_link.specs.Channel.{Channel, take_after, taken_from, on_channel}
 use Rattle.swap_link.specs.Harbor as harbor
-use Rattle.swap_link.specs.Harbor.{Harbor, channel_of, lender_of, of_harbor}
+use Rattle.swap_link.specs.Harbor.{Harbor, channel_of, lender_of}
 use Rattle.swap_link.specs.lemmas.HarborLaws.{called, other_channel}
 use Rattle.swap_joint.specs.Lenders.{AreSound}
 use Rattle.swap_joint.specs.Stored.{AllJoined}
@@ -32,10 +32,11 @@ use Rattle.swap_joint.proofs.Harbors.{harbor_meaning}
 use Rattle.swap_joint.proofs.Joins.{ServesAt, not_down}
 use Rattle.swap_joint.proofs.Sends.{raised_up}
 use Rattle.swap_joint.proofs.Moves as joint
-use Rattle.swap_joint.proofs.Turned.{sent_up, back_remote, written_links}
+use Rattle.swap_joint.proofs.Turned.{sent_up, back_remote}
 use Rattle.swap_joint.proofs.Lenders.{made_at}
 use Rattle.swap_joint.proofs.Lefts.{left_of}
 use Rattle.swap_joint.proofs.LeftGives.{left_given, left_cut, left_crashed, left_hosted}
+use Rattle.swap_table.proofs.AccountsKept.{written_links}
 
 -- what a device takes of a link leaves what is under way to its lender
 left_took : (s : Sizes) (l : Lender) (c : Channel) → Left s l c → Left s l (take_after c).1
@@ -78,23 +79,15 @@ sent_itself W d l q e base there (query_too {t = t} w state not_ may) = ap (λ (
 there_is : (n : ℕ) (d : Device) (h : Harbor) (l : Lender) → ServesAt n d h → l.0 < n → l.0 < length d.remote.links
 there_is n d h l serves within = omega (arith, serves.links_len, serves.few, within)
 
-answered_up : (links : List LinkState) (l m : Lender) → l.0 < length links → is_up (rings.answered_after links l) m ≡ is_up links m
-answered_up links l m there = elim (cases_eq m.0 l.0) [
-  | inl e ↦
-      subst (λ (i : ℕ). is_up (rings.answered_after links l) (record { 0 = i }) ≡ is_up links (record { 0 = i })) (sym e)
-      (ap (λ (k : LinkState). k.up) (answered-same links l there))
-  | inr other ↦ ap (λ (k : LinkState). k.up) (answered-other links l m other)
-]
-
 heard_links :
     (d : Device) (l : Lender) (q : Parcel) (x : Heard) → l.0 < length d.remote.links → Hears d l q x → (m : Lender)
     → is_up x.device.remote.links m ≡ is_up d.remote.links m
-heard_links d l q x there (roomy is says same) m = answered_up d.remote.links l m there
-heard_links d l q x there (lent is says same none) m = answered_up d.remote.links l m there
-heard_links d l q x there (refused is says same) m = answered_up d.remote.links l m there
+heard_links d l q x there (roomy is says same) m = answered-up d.remote.links l m there
+heard_links d l q x there (lent is says same none) m = answered-up d.remote.links l m there
+heard_links d l q x there (refused is says same) m = answered-up d.remote.links l m there
 heard_links d l q x there (written {p = p} {e = e} is says named) m =
-    ap (λ links. is_up links m) (written_links _ (remote.settled_for d.sizes d.remote l p) p) ∙ answered_up d.remote.links l m there
-heard_links d l q x there (brought is says named) m = answered_up d.remote.links l m there
+    ap (λ links. is_up links m) (written_links _ (remote.settled_for d.sizes d.remote l p) p) ∙ answered-up d.remote.links l m there
+heard_links d l q x there (brought is says named) m = answered-up d.remote.links l m there
 heard_links d l q x there (asked_rate says at) m = refl
 heard_links d l q x there (told_to_go says at) m = refl
 

@@ -21,7 +21,7 @@ use Rattle.swap_lender.specs.Table.{Turn, serve, settle_with, slots_due, mark_sl
 use Rattle.swap_link.specs.Fits.{IsSound}
 use Rattle.swap_link.specs.Lane.{Lane, empty_lane}
 use Rattle.swap_link.specs.Channel.{Channel, deliver_after, give_after, given_from, cut_after, crash_after}
-use Rattle.swap_link.specs.lemmas.KeepLaws.{unless, unless-map, took-served}
+use Rattle.swap_link.specs.lemmas.KeepLaws.{unless, unless-map, took-served, unless-at}
 use Rattle.swap_table.specs.Device.{hello as greeting}
 use Rattle.swap_joint.specs.Seats.{is_done}
 use Rattle.swap_joint.specs.Stored.{gives_back}
@@ -36,9 +36,11 @@ use Rattle.swap_joint.proofs.Served.{allows_table}
 use Rattle.swap_joint.proofs.Allowed.{allows_cut}
 use Rattle.swap_joint.proofs.Serving.{HeldOf, slot_found, done_allowed, rates_allowed, none_for}
 use Rattle.swap_joint.proofs.Granted.{one_lease, set_stays, freed_stays, allows_opened, asked_low}
-use Rattle.swap_joint.proofs.Gives.{Wants, serve_by, opened_by, stands_so, front_true, lowest_free}
+use Rattle.swap_joint.proofs.Gives.{Wants, serve_by, lowest_free}
 use Rattle.swap_joint.proofs.Fronts.{held_of, greeted_before, greets_first}
 use Rattle.swap_joint.proofs.Lefts.{allows_left}
+use Rattle.swap_base.proofs.Bools.{or_left}
+use Rattle.swap_joint.proofs.Turned.{stands_so}
 
 -- slots that stay where a message uses them
 
@@ -55,7 +57,7 @@ reach_all_map :
     → AllByRecursion (λ (q : Parcel). IsReach slots places q.msg) ps → AllByRecursion (λ (q : Parcel). IsReach slots' places q.msg) ps
 reach_all_map slots slots' places [] each h = tt
 reach_all_map slots slots' places (p ∷ ps) each h = (
-  reach_map slots slots' places p.msg (λ k e held. each k (front_true (uses k p.msg) _ e) held) h.0,
+  reach_map slots slots' places p.msg (λ k e held. each k (or_left (uses k p.msg) _ e) held) h.0,
   reach_all_map slots slots' places ps (λ k e held. each k (back_true (uses k p.msg) _ e) held) h.1,
 )
   where
@@ -126,7 +128,7 @@ module _ (s : Sizes) (l : LenderNo) (table : Lender) (n : Link) (q : Parcel) (ps
       orderly_settled s.pages_per_slab (record table { round = option_map (answer (slot_of table n j) v) table.round })
       (slots_due (option_map (answer (slot_of table n j) v) table.round)) ps (orderly_rest table.slots s.pages_per_slab q ps orderly)
   serve_orderly (msg.Done j) page is =
-      let x = h.done j (front_true (is_done j q.msg) _ (ap (is_done j) is ∙ eq-eqb j.0 j.0 refl)) in
+      let x = h.done j (or_left (is_done j q.msg) _ (ap (is_done j) is ∙ eq-eqb j.0 j.0 refl)) in
       let at = slot_found table n j x.0 x.1 x.2 true sound x.3 (held x.0 x.1 x.2 j true x.3) in
       orderly_map table.slots (set table.slots (slot_of table n j) Free) s.pages_per_slab ps
       (λ k used slot. (
@@ -153,7 +155,7 @@ nothing_comes = empty_lane true 0 0
 pub left_at :
     (s : Sizes) (l : LenderNo) (c : Channel) → c.lender_gone ≡ false → Left s l c
     → Allows s [] [] l c.lender c.number [] true c.to_lender.parcels × Orderly c.lender.slots s.pages_per_slab c.to_lender.parcels
-left_at s l c stands h = opened_by c.lender_gone _ stands h
+left_at s l c stands h = unless-at c.lender_gone _ stands h
 
 -- the lender takes the first message, or its end leaves
 pub left_given :

@@ -21,7 +21,7 @@ use Rattle.swap_lender.specs.declared.SlotState.TheVariants.{Free, Held}
 use Rattle.swap_lender.specs.Lender as lender
 use Rattle.swap_lender.specs.Lender.{Lender, slot_in, slot_of}
 use Rattle.swap_link.specs.Channel.{Channel}
-use Rattle.swap_link.specs.lemmas.KeepLaws.{unless}
+use Rattle.swap_link.specs.lemmas.KeepLaws.{unless, unless-at}
 use Rattle.swap_link.specs.lemmas.Slots.{found}
 use Rattle.swap_table.specs.Device.{Device}
 use Rattle.swap_table.specs.Serves.{AreInOrder, MayPrecede, IsAwaited}
@@ -34,9 +34,11 @@ use Rattle.swap_joint.specs.Allowed.{is_borrow, Greets, Allows, Allowed}
 use Rattle.swap_joint.specs.Left.{uses, borrows, HasHeld, IsReach, DoneLast, BorrowOnce, Orderly, Left}
 use Rattle.swap_joint.proofs.Pairs.{all-front, all-back}
 use Rattle.swap_joint.proofs.Seats.{seat_within}
-use Rattle.swap_joint.proofs.Served.{or_parts}
 use Rattle.swap_joint.proofs.Fronts.{place_within}
-use Rattle.swap_joint.proofs.Gives.{opened_by, stands_so, front_true, pairs_none, none_after, order_back, is_for_borrow, borrow_of}
+use Rattle.swap_joint.proofs.Gives.{pairs_none, none_after, is_for_borrow, borrow_of}
+use Rattle.swap_base.proofs.Bools.{or_left, or_parts}
+use Rattle.swap_joint.proofs.Serves.{ordered_back}
+use Rattle.swap_joint.proofs.Turned.{stands_so}
 
 no_truth : {P : Type 0} → false ≡ true → P
 no_truth e = cc
@@ -176,7 +178,7 @@ module _ (d : Device) (l : LenderNo) (c : Channel) where
   done_all : (ps : List Parcel) → ((k : Lease) → gives_back k ps ≡ true → list_any (λ (p : Parcel). uses k p.msg) ps ≡ false) → DoneLast ps
   done_all [] none = tt
   done_all (q ∷ qs) none = (
-    (λ k e. (or_parts (uses k q.msg) _ (none k (front_true (is_done k q.msg) _ e))).1),
+    (λ k e. (or_parts (uses k q.msg) _ (none k (or_left (is_done k q.msg) _ e))).1),
     done_all qs (λ k e. (or_parts (uses k q.msg) _ (none k (back_true (is_done k q.msg) _ e))).1),
   )
     where
@@ -189,9 +191,9 @@ module _ (d : Device) (l : LenderNo) (c : Channel) where
       → Orderly c.lender.slots d.sizes.pages_per_slab c.to_lender.parcels
   orderly_of stands joined awaited ordered =
       let o = joined.order in
-      let stored = opened_by c.lender_gone _ stands joined.stored in
+      let stored = unless-at c.lender_gone _ stands joined.stored in
       let there : AreInOrder (o.under_way ++ o.dropped) =
-      order_back (o.answered ++ o.unheard) (o.under_way ++ o.dropped) (subst AreInOrder o.in_four ordered) in
+      ordered_back (o.answered ++ o.unheard) (o.under_way ++ o.dropped) (subst AreInOrder o.in_four ordered) in
       let waits : AllByRecursion W (o.under_way ++ o.dropped) =
       all-back W (o.answered ++ o.unheard) (o.under_way ++ o.dropped) (subst (λ xs. AllByRecursion W xs) o.in_four awaited) in
       record {
@@ -214,7 +216,7 @@ module _ (d : Device) (l : LenderNo) (c : Channel) where
       leaves stands =
           let all : Allows d.sizes d.remote.slabs (ring_of d.remote.links l) l c.lender c.number c.to_device.parcels c.to_lender.ended
           (c.to_lender.parcels ++ []) =
-          opened_by c.lender_gone _ stands h in (
+          unless-at c.lender_gone _ stands h in (
             subst (λ out. Allows d.sizes [] [] l c.lender c.number [] true out) (append-nil c.to_lender.parcels)
                 (allows_left d.sizes d.remote.slabs (ring_of d.remote.links l) l c.lender c.number c.to_device.parcels c.to_lender.ended
                 (c.to_lender.parcels ++ []) all),

@@ -165,7 +165,7 @@ untold_by :
 untold_by None slots slots' each h = tt
 untold_by (Some r) slots slots' each h = λ i e. each i (h i e)
 
-untold_answer : (o : Option Round) (slot value : ℕ) (slots : List SlotState) → AsksUntold o slots → AsksUntold (option_map (answer slot value) o) slots
+pub untold_answer : (o : Option Round) (slot value : ℕ) (slots : List SlotState) → AsksUntold o slots → AsksUntold (option_map (answer slot value) o) slots
 untold_answer None slot value slots h = tt
 untold_answer (Some r) slot value slots h = h
 

@@ -45,8 +45,8 @@ use Rattle.swap_table.specs.Device as device
 use Rattle.swap_table.specs.Device.{Device, Heard, heard_parcel, query_reply, borrow_reply, write_reply, read_reply}
 use Rattle.swap_table.specs.Happens.{happens, see_out, see_in, see_step, see_start, see_disk, see_tick, see_map, see_link, see_gave, see_cut, see_crash, see_host, see_take, taken_if}
 use Rattle.swap_table.specs.Serves.{AreSingle}
-use Rattle.swap_table.proofs.Leases.{only_slab, unleased}
-use Rattle.swap_table.proofs.Requests.{has_own}
+use Rattle.swap_table.proofs.LeasesStayDistinct.{only_slab, unleased}
+use Rattle.swap_table.proofs.RequestsKeepServing.{has_own}
 use Rattle.swap_link.specs.Channel.{Channel}
 use Rattle.swap_link.specs.Harbor as harbor
 use Rattle.swap_link.specs.Harbor.{Harbor, channel_of}

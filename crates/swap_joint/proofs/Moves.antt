@@ -20,12 +20,12 @@ use Rattle.swap_slabs.specs.declared.Reply.TheVariants as reply
 use Rattle.swap_rings.specs.Rings.{is_up, ring_of}
 use Rattle.swap_remote.specs.Remote as remote
 use Rattle.swap_table.specs.Device as device
-use Rattle.swap_table.specs.Device.{Device, of_device, enter_entry, give, fault, lost_after, wait_for_room, wait_for_disk, raised_after, next_link, hello}
+use Rattle.swap_table.specs.Device.{Device, enter_entry, give, fault, wait_for_room, wait_for_disk, next_link}
 use Rattle.swap_table.specs.Goes.{Asked, stay, by_disk, by_fabric, PortsGo, EachKeepsWhere}
 use Rattle.swap_table.specs.Moves.{Within, of_sizes, Speaker, Sends, write, read, borrow, query, query_too, IsFar, far_give, far_cut, far_crash, far_host, Move, enters, gives, faults, waits_for_room, rates_change, lets_go, gives_up, starts, waits_for_disk, takes, lets_finish, sends, finds_down, raises, speaks, speaks_to_nobody, hears, hears_nothing, loses, misunderstands, breaks_off, far}
 use Rattle.swap_table.specs.Promises.{FollowsItsMoves, Promises}
-use Rattle.swap_table.proofs.Keeps as keep
-use Rattle.swap_table.proofs.Keeps.{ins_wait}
+use Rattle.swap_table.proofs.MovesKeepAgreement as keep
+use Rattle.swap_table.proofs.MovesKeepAgreement.{ins_wait}
 use Rattle.swap_link.specs.Harbor as harbor
 use Rattle.swap_link.specs.Harbor.{Harbor, channel_of, KeepsAt, OwesAt}
 use Rattle.swap_joint.specs.Lenders.{AreSound}

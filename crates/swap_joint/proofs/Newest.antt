@@ -22,9 +22,9 @@ use Rattle.swap_rings.specs.declared.Request.TheVariants.{Query, Borrow, Write, 
 use Rattle.swap_remote.specs.Remote.{slab_for, state_for, has_page}
 use Rattle.swap_table.specs.Device.{Device}
 use Rattle.swap_table.specs.Serves.{latest_write, entry_to, PageFits, SlabFits, AreSingle}
-use Rattle.swap_table.proofs.Lists.{not_eqb}
-use Rattle.swap_table.proofs.Requests.{has_own}
-use Rattle.swap_table.proofs.Sends.{slab_within}
+use Rattle.swap_base.proofs.Lists.{not_eqb}
+use Rattle.swap_table.proofs.RequestsKeepServing.{has_own}
+use Rattle.swap_table.proofs.SendsKeepServing.{slab_within}
 use Rattle.swap_link.specs.Keeping.{Unless}
 use Rattle.swap_link.specs.lemmas.KeepLaws.{unless-map}
 use Rattle.swap_link.specs.Harbor.{Harbor, channel_of, KeepsAt}
@@ -39,6 +39,7 @@ use Rattle.swap_joint.proofs.Joins.{ServesAt}
 use Rattle.swap_joint.proofs.Pairs.{First, pairs-implies, pairs-first, filter-first, filter-drops}
 use Rattle.swap_joint.proofs.Serves.{elsewhere}
 use Rattle.swap_joint.proofs.Hears.{bit_within}
+use Rattle.swap_base.proofs.Bools.{or_left, or_right, or_none}
 
 -- no write in a part of a list without one
 both_none : (a b : Option EntryNo) → first_of a b ≡ None → (a ≡ None) × (b ≡ None)
@@ -74,18 +75,6 @@ plain_apart k i (msg.Write j n) plain kept = cc
 plain_apart k i (msg.Done j) plain kept = not_eqb j.0 k.0 (λ same. kept (eq-eqb j.0 k.0 same))
 plain_apart k i _ plain kept = refl
 
-or_true : (a b : Bool) → a ≡ true → (a || b) ≡ true
-or_true true b e = refl
-or_true false b e = cc
-
-or_second : (a b : Bool) → b ≡ true → (a || b) ≡ true
-or_second true b e = refl
-or_second false b e = e
-
-or_none : (a b : Bool) → a ≡ false → b ≡ false → (a || b) ≡ false
-or_none true b x y = cc
-or_none false b x y = y
-
 -- no message under way to the lender replaces what it holds of a page without a write under way
 nothing_replaces :
     (s : Sizes) (H : History) (states : List SlabState) (l : Lender) (p : Page) (k : Lease) (ps : List Parcel) (us : List Request) → AreSingle states
@@ -95,7 +84,7 @@ nothing_replaces :
 nothing_replaces s H states l p k [] us single at pairs kept none = refl
 nothing_replaces s H states l p k (q ∷ ps) us single at pairs kept none =
     go (is_request q.msg) refl
-    (λ rest h clear. nothing_replaces s H states l p k ps rest single at h (λ e. kept (or_second (is_done k q.msg) (gives_back k ps) e)) clear)
+    (λ rest h clear. nothing_replaces s H states l p k ps rest single at h (λ e. kept (or_right (is_done k q.msg) (gives_back k ps) e)) clear)
   where
     go :
         (b : Bool) → is_request q.msg ≡ b
@@ -103,7 +92,7 @@ nothing_replaces s H states l p k (q ∷ ps) us single at pairs kept none =
         → list_any (λ (q : Parcel). replaces k (place_of s p.0) q.msg) ps ≡ false)
         → (replaces k (place_of s p.0) q.msg || list_any (λ (q : Parcel). replaces k (place_of s p.0) q.msg) ps) ≡ false
     go false plain later =
-        or_none (replaces k (place_of s p.0) q.msg) _ (plain_apart k (place_of s p.0) q.msg plain (λ e. kept (or_true (is_done k q.msg) (gives_back k ps) e)))
+        or_none (replaces k (place_of s p.0) q.msg) _ (plain_apart k (place_of s p.0) q.msg plain (λ e. kept (or_left (is_done k q.msg) (gives_back k ps) e)))
         (later us (subst (λ zs. Pairwise (Carries s H states l) zs us) (filter-drops asks_by q ps plain) pairs) none)
     go true asks later =
         let f : First (Carries s H states l) q (filter asks_by ps) us =

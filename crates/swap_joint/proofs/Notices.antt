@@ -30,17 +30,14 @@ use Rattle.swap_joint.specs.Lenders.{IsReached}
 use Rattle.swap_joint.specs.Turn.{InTurn, Stays, AsksUntold}
 use Rattle.swap_joint.proofs.Lenders.{reached_more}
 use Rattle.swap_joint.proofs.InTurn.{Ready, Differ, turn_reply, stays_reply, stays_lent, stays_free, asks_turn, asks_after, evicts_turn, evicts_after}
+use Rattle.swap_base.proofs.Bools.{and_first}
 
 -- the slots that a round gives are among those that it asked
-
-both_first : (a b : Bool) → (a && b) ≡ true → a ≡ true
-both_first true b e = refl
-both_first false b e = cc
 
 least_among : (rates : List ℕ) (among count i : ℕ) → has (least_of rates among count) i ≡ true → has among i ≡ true
 unfolding least_of
 least_among rates among count i e = elim (cases_lt i 64) [
-  | inl within ↦ both_first (has among i) _ (sym (any-filter test 0 64 i (omega arith) within) ∙ found)
+  | inl within ↦ and_first (has among i) _ (sym (any-filter test 0 64 i (omega arith) within) ∙ found)
   | inr past ↦ absurd (both_ways (list_any (λ x. eqb i x) (filter test (range_with_len 0 64))) (any-filter-out test 0 64 i (inr past)) found)
 ]
   where
@@ -55,9 +52,9 @@ given_asked r set i is e = go (waiting_slots r == 0) is
   where
     standing_asked : has (standing_slots r) i ≡ true → has r.asked i ≡ true
     standing_asked h =
-        both_first (has r.asked i) (has r.answered i)
+        and_first (has r.asked i) (has r.answered i)
         (sym (has-and r.asked r.answered i)
-        ∙ both_first (has (bit_and r.asked r.answered) i) _ (sym (has-and (bit_and r.asked r.answered) (bit_not w64 r.gone) i) ∙ h))
+        ∙ and_first (has (bit_and r.asked r.answered) i) _ (sym (has-and (bit_and r.asked r.answered) (bit_not w64 r.gone) i) ∙ h))
 
     go : (b : Bool) → cond b (Some (least_of r.values (standing_slots r) (min r.count (size (standing_slots r))))) None ≡ Some set → has r.asked i ≡ true
     go true same =
@@ -198,7 +195,7 @@ host_turns M n l used word b reached live h stays =
         all_stay is i inside = asks_stay l used word reached live is i inside
 
 -- a request is served: its reply comes, and where it lends a slot, the reply names the lease
-posted_own : (n : Link) (b : Lane) (q : Parcel) → post_after n b n q ≡ append_after b q
+pub posted_own : (n : Link) (b : Lane) (q : Parcel) → post_after n b n q ≡ append_after b q
 posted_own n b q = cond-true (n.0 == n.0) (append_after b q) b (eq-eqb n.0 n.0 refl)
 
 request_turns : (M : Lease → Type 0) (n : Link) (l : Lender) (m : Msg) (page : List ℕ) (b : Lane) → is_request m ≡ true → InTurn M b.parcels → Stays M l.slots b

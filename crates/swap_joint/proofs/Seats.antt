@@ -18,7 +18,7 @@ use Rattle.swap_lender.specs.Lender.{Lender, is_free, has_lease, first_where, le
 use Rattle.swap_lender.specs.Table.{Turn, mark_slots, mark_slot, settle_with, slots_due, lend, may_send, serve, done_after, host, measure_after, opens}
 use Rattle.swap_lender.proofs.FreeSlots.{free_there, lends_room}
 use Rattle.swap_link.specs.Fits.{IsSound}
-use Rattle.swap_link.specs.lemmas.Slots.{lease-has, lacks, found, found-lease, marked-first}
+use Rattle.swap_link.specs.lemmas.Slots.{lease-has, lacks, found, found-lease, marked-first, lowest-has}
 use Rattle.swap_joint.specs.Seats.{seat_in, HasSeat, AreSlots, is_done}
 
 -- a seat is in one of the slots
@@ -45,12 +45,6 @@ free_has : (n : Link) (k : Lease) (x : SlotState) → is_free x ≡ true → has
 free_has n k Free e = refl
 free_has n k (Held other slab lease evicting) e = cc
 
-lowest_has : (slots : List SlotState) (n : Link) (k : Lease) → has_lease n k (get_or slots (first_where is_free slots) Free) ≡ false
-lowest_has slots n k = elim (cases_lt (first_where is_free slots) (length slots)) [
-  | inl within ↦ free_has n k _ (passes_at_first is_free slots Free within)
-  | inr past ↦ ap (has_lease n k) (get_or_past slots (first_where is_free slots) Free past)
-]
-
 abbrev lent_slot : Lender → Link → Slab → SlotState
 lent_slot l n t = Held n t (record { 0 = l.next_lease }) false
 
@@ -59,13 +53,13 @@ seat_lend_other :
 seat_lend_other l n u k t s h =
     let less : k.0 < l.next_lease = seat_given l n k t s h in
     let new : has_lease n k (lent_slot l n u) ≡ has_lease n k (get_or l.slots (first_where is_free l.slots) Free) =
-    lacks n k (lent_slot l n u) l.next_lease refl (λ e. absurd (omega (arith, less, e))) ∙ sym (lowest_has l.slots n k) in
+    lacks n k (lent_slot l n u) l.next_lease refl (λ e. absurd (omega (arith, less, e))) ∙ sym (lowest-has l.slots n k) in
     seat_same l (lend l n u (first_where is_free l.slots)).lender n k t
     (position_or_len-set (has_lease n k) l.slots (first_where is_free l.slots) (lent_slot l n u) Free new)
     (get_or-set_other l.slots (first_where is_free l.slots) (slot_of l n k) (lent_slot l n u) Free
     (λ e.
     both_ways (has_lease n k (get_or l.slots (slot_of l n k) Free))
-    (subst (λ i. has_lease n k (get_or l.slots i Free) ≡ false) (sym e) (lowest_has l.slots n k)) (found l n k (seat_within l n k t h))))
+    (subst (λ i. has_lease n k (get_or l.slots i Free) ≡ false) (sym e) (lowest-has l.slots n k)) (found l n k (seat_within l n k t h))))
     h
 
 pub seat_lend :

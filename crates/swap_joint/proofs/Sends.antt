@@ -18,7 +18,7 @@ use Rattle.swap_slabs.specs.Slabs as slabs
 use Rattle.swap_slabs.specs.Slabs.{has_lease, state_of}
 use Rattle.swap_slabs.specs.declared.SlabState.{SlabState}
 use Rattle.swap_slabs.specs.declared.SlabState.TheVariants.{Local, Asking, Borrowing, Mapped, Draining}
-use Rattle.swap_slabs.specs.declared.TheConstants.{MOST_LENDERS}
+use Rattle.swap_base.specs.declared.TheConstants.{MOST_LENDERS}
 use Rattle.swap_rings.specs.Rings as rings
 use Rattle.swap_rings.specs.Rings.{LinkState, link_of, ring_of, is_up}
 use Rattle.swap_rings.specs.declared.Request.TheVariants as request
@@ -28,11 +28,11 @@ use Rattle.swap_table.specs.Device as device
 use Rattle.swap_table.specs.Device.{Device, enter_entry, write_sent, read_sent, raised_after, next_link}
 use Rattle.swap_table.specs.Serves.{IsOutIn, bytes_in, SlabFits}
 use Rattle.swap_table.specs.Moves.{Within, Sends, write, read, borrow, query, query_too, IsWord, greeting, rating, giving_back}
-use Rattle.swap_table.proofs.Entries.{named_last}
-use Rattle.swap_table.proofs.Links.{link-same, link-other}
-use Rattle.swap_table.proofs.Sends.{sent-other}
-use Rattle.swap_table.proofs.Waits.{Target, target_is, may_send_is}
-use Rattle.swap_table.proofs.Keeps.{ins_wait}
+use Rattle.swap_table.proofs.EntriesStay.{named_last}
+use Rattle.swap_table.proofs.LinkTables.{link-same, link-other}
+use Rattle.swap_table.proofs.SendsKeepServing.{sent-other}
+use Rattle.swap_table.proofs.WaitsStay.{Target, target_is, may_send_is}
+use Rattle.swap_table.proofs.MovesKeepAgreement.{ins_wait, local_is}
 use Rattle.swap_link.specs.Channel.{connect_after}
 use Rattle.swap_link.specs.Harbor as harbor
 use Rattle.swap_link.specs.Harbor.{Harbor, channel_of}
@@ -46,13 +46,6 @@ use Rattle.swap_joint.proofs.Sights.{leases_begun, leases_borrowed, leases_asked
 use Rattle.swap_joint.proofs.Serves.{joined_new}
 use Rattle.swap_joint.proofs.Hears.{joined_said}
 use Rattle.swap_joint.proofs.Joins.{ServesAt, all_but, joins_alone, joins_through, sends, asks_here, holds_newest, target_lease, ring_more}
-
-local_is : (state : SlabState) → slabs.is_local state ≡ true → state ≡ Local
-local_is Local e = refl
-local_is (Asking pair) e = cc
-local_is (Borrowing l) e = cc
-local_is (Mapped l k f) e = cc
-local_is (Draining l k f) e = cc
 
 -- where remote memory is read for a page
 source_is : (d : Device) (p : Page) (a : Lender × Lease) → device.source d p ≡ Some a → (has_page d.remote p ≡ true) × Target d.sizes d.remote p a

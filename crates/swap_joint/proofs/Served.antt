@@ -23,10 +23,7 @@ use Rattle.swap_joint.proofs.Lanes.{by_append}
 use Rattle.swap_joint.proofs.Turns.{any_last}
 use Rattle.swap_joint.proofs.Serves.{any-rest}
 use Rattle.swap_joint.proofs.Allowed.{named_last, free_map}
-
-pub or_parts : (a b : Bool) → (a || b) ≡ false → (a ≡ false) × (b ≡ false)
-or_parts true b e = cc
-or_parts false b e = (refl, e)
+use Rattle.swap_base.proofs.Bools.{or_parts}
 
 no_truth : false ≡ true → ⊥
 no_truth e = cc

@@ -25,10 +25,10 @@ use Rattle.swap_rings.specs.declared.Request.{Request}
 use Rattle.swap_rings.specs.declared.Request.TheVariants.{Query, Borrow, Write, Read}
 use Rattle.swap_remote.specs.Remote.{slab_for, state_for}
 use Rattle.swap_table.specs.Serves.{latest_write, entry_to, IsOut, bytes_of, AreSingle, MayPrecede, AreInOrder}
-use Rattle.swap_table.proofs.Lists.{not_eqb}
-use Rattle.swap_table.proofs.Leases.{only_slab}
-use Rattle.swap_table.proofs.Links.{latest-append, entry_to-own}
-use Rattle.swap_table.proofs.Requests.{same_page}
+use Rattle.swap_base.proofs.Lists.{not_eqb}
+use Rattle.swap_table.proofs.LeasesStayDistinct.{only_slab}
+use Rattle.swap_table.proofs.LinkTables.{latest-append, entry_to-own}
+use Rattle.swap_table.proofs.RequestsKeepServing.{same_page}
 use Rattle.swap_lender.specs.Lender.{Lender}
 use Rattle.swap_lender.specs.Table.{Turn, serve, may_send, host, gone_after, restart}
 use Rattle.swap_link.specs.Fits.{IsSound}
@@ -36,7 +36,7 @@ use Rattle.swap_link.specs.Lane.{Lane, append_after, end_lane, cut}
 use Rattle.swap_link.specs.Channel.{Channel, forward_after, deliver_after, give_after, given_from, leave_after, cut_after, crash_after, connect_after}
 use Rattle.swap_link.specs.Keeping.{Unless, slot_page, left_by}
 use Rattle.swap_link.specs.lemmas.Slots.{IsLater, later-serve, next-serve, slot_page-host, next-host}
-use Rattle.swap_link.specs.lemmas.KeepLaws.{unless, unless-map, unless-at, took-served}
+use Rattle.swap_link.specs.lemmas.KeepLaws.{unless, unless-map, unless-at, took-served, left-kept}
 use Rattle.swap_joint.specs.Order.{is_request, Carries, served_of, asks_by}
 use Rattle.swap_calls.specs.Calls.{Calls}
 use Rattle.swap_joint.specs.Brought.{page_found, HoldsFor, Replied, Asked}
@@ -142,12 +142,6 @@ any-take test (suc n) (x ∷ xs) e = go (test x) e (any-take test n xs)
 
 pub none-take : {X : Type 0} (test : X → Bool) (n : ℕ) (xs : List X) → list_any test xs ≡ false → list_any test (take n xs) ≡ false
 none-take test n xs e = false_from_ne_true _ (λ yes. both_ways (list_any test xs) e (any-take test n xs yes))
-
--- what was at a place stays where a message doesn't replace it
-left-kept : (k : Lease) (i : ℕ) (m : Msg) (page : List ℕ) (was : Option (List ℕ)) → replaces k i m ≡ false → left_by k i m page was ≡ was
-left-kept k i (msg.Write lease place) page was e = cond-false ((lease.0 == k.0) && (place == i)) (Some page) was e
-left-kept k i (msg.Done lease) page was e = cond-false (lease.0 == k.0) None was e
-left-kept k i _ page was e = refl
 
 -- what is left at a place of a page that is kept, by a message that doesn't write the page
 kept_by :
@@ -418,11 +412,11 @@ apart_from x y before a p o e is_read is_write =
     let Q : Request → Type 0 = λ y. MayPrecede (Write o e) y in
     subst Q is_read (subst P is_write before)
 
-unless-both : (b : Bool) (P Q R : Type 0) → (P → Q → R) → Unless b P → Unless b Q → Unless b R
+pub unless-both : (b : Bool) (P Q R : Type 0) → (P → Q → R) → Unless b P → Unless b Q → Unless b R
 unless-both true P Q R f p q = tt
 unless-both false P Q R f p q = f p q
 
-ordered_back : (xs ys : List Request) → AreInOrder (xs ++ ys) → AreInOrder ys
+pub ordered_back : (xs ys : List Request) → AreInOrder (xs ++ ys) → AreInOrder ys
 ordered_back [] ys h = h
 ordered_back (x ∷ xs) ys h = ordered_back xs ys h.1
 

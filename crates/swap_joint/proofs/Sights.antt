@@ -26,8 +26,8 @@ use Rattle.swap_calls.specs.declared.CallState.TheVariants.{Idle, Room, Reading}
 use Rattle.swap_rings.specs.declared.Request.{Request}
 use Rattle.swap_rings.specs.declared.Request.TheVariants as request
 use Rattle.swap_table.specs.Serves.{is_for_slab, flying_for, IsLeasedFrom, WaitsFrom, IsAwaited}
-use Rattle.swap_table.proofs.Returns.{none_for}
-use Rattle.swap_table.proofs.Agree.{get_or-map_idle, state-paged_out}
+use Rattle.swap_table.proofs.AnswersKeepServing.{none_for}
+use Rattle.swap_table.proofs.HistoryAgreement.{get_or-map_idle, state-paged_out}
 use Rattle.swap_joint.specs.Brought.{kept_entry}
 use Rattle.swap_slabs.specs.Slabs as slabs
 use Rattle.swap_slabs.specs.Slabs.{has_lease, state_of, with_state}
@@ -35,15 +35,15 @@ use Rattle.swap_slabs.specs.declared.Reply.{Reply}
 use Rattle.swap_slabs.specs.declared.SlabState.{SlabState}
 use Rattle.swap_slabs.specs.declared.SlabState.TheVariants.{Local, Asking, Borrowing, Mapped, Draining}
 use Rattle.swap_rings.specs.Rings as rings
-use Rattle.swap_rings.specs.Rings.{LinkState, link_of, ring_of, is_up}
+use Rattle.swap_rings.specs.Rings.{LinkState, link_of, ring_of}
 use Rattle.swap_remote.specs.Remote as remote
 use Rattle.swap_remote.specs.Remote.{Remote, slab_for, has_page}
 use Rattle.swap_remote.specs.lemmas.Cleared.{get_or-left}
 use Rattle.swap_table.specs.Device.{Device, enter_entry, give, fault, lost_after}
-use Rattle.swap_table.proofs.Lists.{by_page, by_caller, not_eqb}
-use Rattle.swap_table.proofs.Links.{by_slab, link-other, state-same, state-other}
-use Rattle.swap_table.proofs.Entries.{out_on}
-use Rattle.swap_table.proofs.Acts.{cleared_here}
+use Rattle.swap_base.proofs.Lists.{by_page, by_caller, not_eqb}
+use Rattle.swap_table.proofs.LinkTables.{by_slab, link-other, state-same, state-other}
+use Rattle.swap_table.proofs.EntriesStay.{out_on}
+use Rattle.swap_table.proofs.DiskAgreementLeft.{cleared_here}
 use Rattle.swap_joint.specs.Sight.{SameLeases, FewerLeases, StaysLeased, KeepsEntries, KeepsBits, StillReads, SeesSame}
 use Rattle.swap_joint.proofs.Facts.{still_all, leased_all}
 

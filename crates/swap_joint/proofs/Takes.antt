@@ -28,19 +28,19 @@ use Rattle.swap_rings.specs.Rings.{LinkState, ring_of, is_up}
 use Rattle.swap_rings.specs.declared.Request.{Request}
 use Rattle.swap_rings.specs.declared.Request.TheVariants as request
 use Rattle.swap_remote.specs.Remote as remote
-use Rattle.swap_remote.specs.Remote.{Remote, slab_for, state_for, has_page}
+use Rattle.swap_remote.specs.Remote.{slab_for, state_for, has_page}
 use Rattle.swap_remote.specs.lemmas.Cleared.{evicted_bit, length-evicted}
 use Rattle.swap_table.specs.Device.{Device, Heard, query_reply, borrow_reply, write_reply, read_reply, rate_asked, taken_back, is_newest, done_word}
 use Rattle.swap_table.specs.Serves.{is_for_slab, flying_for, entry_to, latest_write, IsLeasedFrom, IsAwaited, MayPrecede, AreInOrder, SlabFits, PageFits}
 use Rattle.swap_table.specs.Moves.{words, Hears, roomy, lent, refused, written, brought, asked_rate, told_to_go}
-use Rattle.swap_table.proofs.Lists.{not_eqb, one_if}
-use Rattle.swap_table.proofs.Links.{state-other, entry_to-own, flying-cons}
-use Rattle.swap_table.proofs.Leases.{unleased}
-use Rattle.swap_table.proofs.Entries.{last_bytes, none_later}
-use Rattle.swap_table.proofs.Shifts.{latest_out}
-use Rattle.swap_table.proofs.Sends.{slab_within, pages_some}
-use Rattle.swap_table.proofs.Replies.{answered-ring, answered-other, answered-up}
-use Rattle.swap_table.proofs.Evictions.{MappedBy, mapped_by_is, settled_free, evicted_free}
+use Rattle.swap_base.proofs.Lists.{not_eqb, one_if}
+use Rattle.swap_table.proofs.LinkTables.{state-other, entry_to-own, flying-cons}
+use Rattle.swap_table.proofs.LeasesStayDistinct.{unleased}
+use Rattle.swap_table.proofs.EntriesStay.{last_bytes, none_later}
+use Rattle.swap_table.proofs.HistoryGoesOn.{latest_out}
+use Rattle.swap_table.proofs.SendsKeepServing.{slab_within, pages_some}
+use Rattle.swap_table.proofs.RepliesKeepServing.{answered-ring, answered-other, answered-up}
+use Rattle.swap_table.proofs.EvictionKeepsSlabs.{MappedBy, mapped_by_is, settled_free, evicted_free}
 use Rattle.swap_link.specs.Channel.{Channel, take_after, taken_from}
 use Rattle.swap_link.specs.Harbor as harbor
 use Rattle.swap_link.specs.Harbor.{Harbor, channel_of, KeepsAt}
@@ -54,6 +54,10 @@ use Rattle.swap_joint.proofs.Facts.{NoNewLease, leased_all, still_all}
 use Rattle.swap_joint.proofs.Sights.{entries_stay, leases_set, leases_refused, leases_answered, fewer_settled, leased_settled, sees_parts, sees_itself, sees_evicted, still_same, still_arrives}
 use Rattle.swap_joint.proofs.Hears.{joined_sees, joined_same, joined_noticed, given_up, without_reply, Taken, taken_front, joined_left, joined_wrote, joined_lent, latest_mapped, bit_within}
 use Rattle.swap_joint.proofs.Joins.{ServesAt, all_but, joins_through, up_within}
+use Rattle.swap_base.proofs.Bools.{and_first}
+use Rattle.swap_table.proofs.AnswersKeepServing.{newest_is}
+use Rattle.swap_table.proofs.MovesKeepAgreement.{with_page_slabs}
+use Rattle.swap_table.proofs.AccountsKept.{written_links}
 
 -- a take: the first message to the device is gone, or nothing changes
 pub record FrontIs (c : Channel) (q : Parcel) : Type 0 where
@@ -138,14 +142,6 @@ none_after s H cs states l p e ring order awaited newest = go (latest_write p ri
     go None is = refl
     go (Some g) is = absurd (omega (arith, latest_after p e ring g order is, none_later H p e g newest (latest_out s H cs states l p ring g awaited is)))
 
-newest_is : (o : Option EntryNo) (e : EntryNo) → is_newest o e ≡ true → o ≡ Some e
-newest_is None e is = cc
-newest_is (Some f) e is = ap (λ n. Some (record { 0 = n })) (eqb-true f.0 e.0 is)
-
-and_first : (a b : Bool) → (a && b) ≡ true → a ≡ true
-and_first true b is = refl
-and_first false b is = cc
-
 -- leases of another lender, where a slab is lent
 leases_lent :
     (l m : Lender) (states : List SlabState) (t : Slab) (k : Lease) → (l.0 ≡ m.0 → ⊥) → state_of states t ≡ Borrowing m
@@ -207,14 +203,6 @@ away m l (Draining o j f) k at other has = other (sym (eqb-true o.0 m.0 (and_par
 -- a request that was answered is for a page of this slab
 own_slab : (s : Sizes) (p : Page) → (slab_of s p.0 == (slab_for s p).0) ≡ true
 own_slab s p = eq-eqb (slab_of s p.0) (slab_of s p.0) refl
-
-with_page_slabs : (b : Bool) (r : Remote) (p : Page) → (remote.with_page_if b r p).slabs ≡ r.slabs
-with_page_slabs true r p = refl
-with_page_slabs false r p = refl
-
-with_page_links : (b : Bool) (r : Remote) (p : Page) → (remote.with_page_if b r p).links ≡ r.links
-with_page_links true r p = refl
-with_page_links false r p = refl
 
 -- a device that gives a lease back, where there is one to give
 owing_done :
@@ -584,7 +572,7 @@ module _ (n : ℕ) (d : Device) (h g : Harbor) (l : Lender) (q : Parcel) (all : 
       owing_done n (record d { remote = remote.written_after d.sizes d.remote l p (is_newest (last d.history p) e) }) g l
       (slabs.settled_lease (state_for d.sizes d.remote.slabs p)) (wrote_joins r p e rest is)
       (ap (λ links. is_up links l)
-      (with_page_links (is_newest (last d.history p) e && slabs.is_mapped (state_for d.sizes d.remote.slabs p)) (remote.settled_for d.sizes d.remote l p) p)
+      (written_links (is_newest (last d.history p) e && slabs.is_mapped (state_for d.sizes d.remote.slabs p)) (remote.settled_for d.sizes d.remote l p) p)
       ∙ answered-up d.remote.links l l link_in ∙ up)
       (λ k gives.
       subst (λ states. Unless (channel_of g l).lender_gone (IsGivenBack states l (channel_of g l) k))

@@ -18,7 +18,7 @@ use Rattle.swap_lender.specs.declared.SlotState.TheVariants.{Held}
 use Rattle.swap_lender.specs.Lender as lender
 use Rattle.swap_lender.specs.Lender.{slot_in, has_greeted}
 use Rattle.swap_table.specs.Device.{done_word}
-use Rattle.swap_table.proofs.Links.{by_slab, state-same, state-other}
+use Rattle.swap_table.proofs.LinkTables.{by_slab, state-same, state-other}
 use Rattle.swap_joint.specs.Seats.{is_done}
 use Rattle.swap_joint.specs.Stored.{gives_back}
 use Rattle.swap_joint.specs.Allowed.{evicts_in, asks_in, rates_in, borrows_in, HasSlot, Waits, Allows}

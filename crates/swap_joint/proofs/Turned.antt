@@ -41,12 +41,12 @@ use Rattle.swap_table.specs.Serves.{IsAwaited}
 use Rattle.swap_table.specs.Goes.{stay, by_disk, by_fabric, EachKeepsWhere}
 use Rattle.swap_table.specs.Moves.{Within, of_sizes, Speaker, words, Sends, write, read, borrow, query, query_too, Hears, roomy, lent, refused, written, brought, asked_rate, told_to_go, IsFar, far_give, far_cut, far_crash, far_host, Move, enters, gives, faults, waits_for_room, rates_change, lets_go, gives_up, starts, waits_for_disk, takes, lets_finish, sends, finds_down, raises, speaks, speaks_to_nobody, hears, hears_nothing, loses, misunderstands, breaks_off, far}
 use Rattle.swap_table.specs.Promises.{FollowsItsMoves, Promises}
-use Rattle.swap_table.proofs.Keeps as keep
-use Rattle.swap_table.proofs.Lists.{not_eqb}
-use Rattle.swap_table.proofs.Links.{by_slab, link-other, state-same, state-other}
-use Rattle.swap_table.proofs.Sends.{sent-other}
-use Rattle.swap_table.proofs.Replies.{answered-other}
-use Rattle.swap_table.proofs.Evictions.{MappedBy, mapped_by_is}
+use Rattle.swap_table.proofs.MovesKeepAgreement as keep
+use Rattle.swap_base.proofs.Lists.{not_eqb}
+use Rattle.swap_table.proofs.LinkTables.{by_slab, link-other, state-same, state-other}
+use Rattle.swap_table.proofs.SendsKeepServing.{sent-other}
+use Rattle.swap_table.proofs.RepliesKeepServing.{answered-other}
+use Rattle.swap_table.proofs.EvictionKeepsSlabs.{MappedBy, mapped_by_is}
 use Rattle.swap_lender.specs.Table.{Turn, serve, may_send, host}
 use Rattle.swap_lender.specs.Calls.{tenant}
 use Rattle.swap_link.specs.Fits.{IsSound}
@@ -63,10 +63,13 @@ use Rattle.swap_joint.proofs.Lenders.{are_owned, connected_none}
 use Rattle.swap_joint.proofs.InTurn.{turn_map, after_map, turn_take}
 use Rattle.swap_joint.proofs.Notices.{served_turns, host_turns}
 use Rattle.swap_joint.proofs.Sights.{state-lost}
-use Rattle.swap_joint.proofs.Joins.{ServesAt, lost_down}
+use Rattle.swap_joint.proofs.Joins.{ServesAt}
 use Rattle.swap_joint.proofs.Hears.{without_reply}
 use Rattle.swap_joint.proofs.Takes.{FrontIs, taken_brings, taken_nothing}
 use Rattle.swap_joint.proofs.Moves as joint
+use Rattle.swap_table.proofs.LossesGoByMoves.{lost_down}
+use Rattle.swap_table.proofs.MovesKeepAgreement.{with_page_slabs}
+use Rattle.swap_table.proofs.AccountsKept.{written_links}
 
 -- mapped slabs stay mapped
 
@@ -201,7 +204,7 @@ stays_here states l c lodges h = go c.lender_gone refl h.stays
     go false stands s = s
     go true left s = λ e i n t k held. absurd (both_ways c.lender_gone (lodges i (record { link = n; slab = t; lease = k }) (ap tenant held)).0 left)
 
-stands_so : (b : Bool) (P : Type 0) → P → Unless b P
+pub stands_so : (b : Bool) (P : Type 0) → P → Unless b P
 stands_so true P p = tt
 stands_so false P p = p
 
@@ -325,15 +328,6 @@ back_then M (msg.Evict lease) j k e h = (h.0, λ same. h.1 ((let F : Option Leas
     of_lease (Some k) = k.0
 back_then M _ j k e h = cc
 
--- a device's slabs after a reply to a write
-written_slabs : (b : Bool) (r : Remote) (p : Page) → (remote.with_page_if b r p).slabs ≡ r.slabs
-written_slabs true r p = refl
-written_slabs false r p = refl
-
-pub written_links : (b : Bool) (r : Remote) (p : Page) → (remote.with_page_if b r p).links ≡ r.links
-written_links true r p = refl
-written_links false r p = refl
-
 -- a message that is heard
 module _ (n : ℕ) (d : Device) (h g : Harbor) (l : Lender) (q : Parcel) (all : AllTurned n d h) (serves : ServesAt n d h)
     (present : (channel_of h l).device_gone ≡ false) (up : is_up d.remote.links l ≡ true) (moved : harbor.Moves h (Take l) (Brought q) g) where
@@ -363,7 +357,7 @@ module _ (n : ℕ) (d : Device) (h g : Harbor) (l : Lender) (q : Parcel) (all : 
   written_sees m b p other = record {
     mapped =
         λ k at.
-        subst (λ states. IsMappedAt states m k) (sym (written_slabs b (remote.settled_for d.sizes d.remote l p) p))
+        subst (λ states. IsMappedAt states m k) (sym (with_page_slabs b (remote.settled_for d.sizes d.remote l p) p))
         (mapped_settled m d.remote.slabs (slab_for d.sizes p) k at);
     up =
         ap (λ links. is_up links m) (written_links b (remote.settled_for d.sizes d.remote l p) p)
@@ -408,7 +402,7 @@ module _ (n : ℕ) (d : Device) (h g : Harbor) (l : Lender) (q : Parcel) (all : 
       (λ k held.
       subst (λ states. IsMappedAt states l k)
       (sym
-      (written_slabs (device.is_newest (last d.history p) e && slabs.is_mapped (remote.state_for d.sizes d.remote.slabs p))
+      (with_page_slabs (device.is_newest (last d.history p) e && slabs.is_mapped (remote.state_for d.sizes d.remote.slabs p))
       (remote.settled_for d.sizes d.remote l p) p))
       (mapped_settled l d.remote.slabs (slab_for d.sizes p) k (wrote_then (λ j. IsMappedAt d.remote.slabs l j) q.msg at k says held)))
   heard_turned x (brought {c = a} {p = p} {at = at} is says named) =

@@ -17,7 +17,7 @@ use Rattle.swap_evict.specs.Rounds.{answer}
 use Rattle.swap_slabs.specs.declared.SlabState.{SlabState}
 use Rattle.swap_rings.specs.declared.Request.{Request}
 use Rattle.swap_rings.specs.declared.Request.TheVariants.{Query, Borrow, Write, Read}
-use Rattle.swap_table.proofs.Lists.{not_eqb, All-append}
+use Rattle.swap_base.proofs.Lists.{not_eqb, All-append}
 use Rattle.swap_lender.specs.declared.SlotState.{SlotState}
 use Rattle.swap_lender.specs.declared.SlotState.TheVariants.{Free, Held}
 use Rattle.swap_lender.specs.declared.Notice.{Notice}

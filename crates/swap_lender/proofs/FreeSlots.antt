@@ -8,6 +8,7 @@ use Rattle.swap_lender.specs.declared.SlotState.{SlotState}
 use Rattle.swap_lender.specs.declared.SlotState.TheVariants.{Free, Held}
 use Rattle.swap_lender.specs.Lender.{Lender, is_free, is_held, used_slots, held_slots, lends}
 use Rattle.swap_lender.specs.declared.TheConstants.{LEASES}
+use Rattle.swap_base.proofs.Bools.{and_first, and_second}
 
 pub free_there : (slots : List SlotState) → count_by is_held slots < length slots → position_or_len is_free slots < length slots
 free_there [] lt = absurd (omega arith)
@@ -21,14 +22,6 @@ pub lowest_there : (slots : List SlotState) → count_by is_held slots < length 
 lowest_there slots lt =
     let there : nat_lt (position_or_len is_free slots) (length slots) ≡ true = lt-ltb (position_or_len is_free slots) (length slots) (free_there slots lt) in
     ap (λ (b : Bool). cond b (Some (position_or_len is_free slots)) None) there
-
-and_first : (a b : Bool) → (a && b) ≡ true → a ≡ true
-and_first true b e = refl
-and_first false b e = e
-
-and_second : (a b : Bool) → (a && b) ≡ true → b ≡ true
-and_second true b e = e
-and_second false b e = absurd (cc)
 
 -- a lender that lends has a slot that isn't held, and a lease
 pub lends_room : (l : Lender) → lends l ≡ true → (used_slots l + held_slots l + l.lending.spec.headroom < l.lending.spec.slots) × (l.next_lease < LEASES)

@@ -5,6 +5,7 @@ use Rattle.std.proofs.lemmas.Bool.{leb-true}
 use Rattle.swap_base.specs.Sizes.{first_beyond, is_within}
 use Rattle.swap_base.specs.declared.Field.TheVariants.{Slots, Headroom, Extra}
 use Rattle.swap_lender.specs.Calls.{CheckedSpecsFit}
+use Rattle.swap_base.proofs.Bools.{and_first, and_second}
 
 -- the first test holds, and so do the others
 record Holds {X : Type 0} (b : Bool) (rest : List (X × Bool)) : Type 0 where
@@ -15,22 +16,14 @@ none_beyond : {X : Type 0} (x : X) (b : Bool) (rest : List (X × Bool)) → firs
 none_beyond x true rest e = record { first = refl; others = e }
 none_beyond x false rest e = absurd (cc)
 
-lower : (a b : Bool) → (a && b) ≡ true → a ≡ true
-lower true b e = refl
-lower false b e = e
-
-upper : (a b : Bool) → (a && b) ≡ true → b ≡ true
-upper true b e = e
-upper false b e = absurd (cc)
-
 pub checked_specs_fit : CheckedSpecsFit
 checked_specs_fit s e =
     let slots = none_beyond Slots (is_within 1 64 s.spec.slots) ((Headroom, is_within 0 64 s.spec.headroom) ∷ (Extra, is_within 0 64 s.spec.extra) ∷ []) e in
     let headroom = none_beyond Headroom (is_within 0 64 s.spec.headroom) ((Extra, is_within 0 64 s.spec.extra) ∷ []) slots.others in
     let extra = none_beyond Extra (is_within 0 64 s.spec.extra) [] headroom.others in
     record {
-      some = leb-true 1 s.spec.slots (lower (nat_le 1 s.spec.slots) (nat_le s.spec.slots 64) slots.first);
-      few = leb-true s.spec.slots 64 (upper (nat_le 1 s.spec.slots) (nat_le s.spec.slots 64) slots.first);
-      headroom = leb-true s.spec.headroom 64 (upper (nat_le 0 s.spec.headroom) (nat_le s.spec.headroom 64) headroom.first);
-      extra = leb-true s.spec.extra 64 (upper (nat_le 0 s.spec.extra) (nat_le s.spec.extra 64) extra.first);
+      some = leb-true 1 s.spec.slots (and_first (nat_le 1 s.spec.slots) (nat_le s.spec.slots 64) slots.first);
+      few = leb-true s.spec.slots 64 (and_second (nat_le 1 s.spec.slots) (nat_le s.spec.slots 64) slots.first);
+      headroom = leb-true s.spec.headroom 64 (and_second (nat_le 0 s.spec.headroom) (nat_le s.spec.headroom 64) headroom.first);
+      extra = leb-true s.spec.extra 64 (and_second (nat_le 0 s.spec.extra) (nat_le s.spec.extra 64) extra.first);
     }

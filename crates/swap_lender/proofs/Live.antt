@@ -18,6 +18,7 @@ use Rattle.swap_lender.specs.Lender.{Lender, lender_at_start, slot_in, is_free, 
 use Rattle.swap_lender.specs.Table.{Turn, took_after, host, gone_after, settle, free_slot, round_left, without_peer, lend, measure_after, has_room, staying_slots, to_ask, asked_slots}
 use Rattle.swap_lender.specs.Calls.{Call, Arrive, Took, Host, Gone, Restart, step, run, IsLive, AsksStaying, LiveRounds}
 use Rattle.swap_lender.proofs.Steps.{choose, took_each, settle_each, host_each}
+use Rattle.swap_base.proofs.Bools.{and_first, and_second}
 
 -- bits
 
@@ -128,14 +129,6 @@ first_of : (a b c : Bool) → (a && not b && not c) ≡ true → a ≡ true
 first_of true b c e = refl
 first_of false b c e = e
 
-first_true : (a b : Bool) → (a && b) ≡ true → a ≡ true
-first_true true b e = refl
-first_true false b e = e
-
-second_true : (a b : Bool) → (a && b) ≡ true → b ≡ true
-second_true true b e = e
-second_true false b e = absurd (cc)
-
 not_true : (b : Bool) → not b ≡ true → b ≡ true → ⊥
 not_true true e f = cc
 not_true false e f = cc
@@ -144,15 +137,15 @@ not_so : (b : Bool) → (b ≡ true → ⊥) → b ≡ false
 not_so true e = absurd (e refl)
 not_so false e = refl
 
-all_three : (a b c : Bool) → a ≡ true → b ≡ false → c ≡ false → (a && not b && not c) ≡ true
+pub all_three : (a b c : Bool) → a ≡ true → b ≡ false → c ≡ false → (a && not b && not c) ≡ true
 all_three a b c e f g = cc
 
 -- a slot is waited for where it was, with fewer answers and fewer gone
 waited : (a b b2 c c2 : Bool) → (b ≡ true → b2 ≡ true) → (c ≡ true → c2 ≡ true) → (a && not b2 && not c2) ≡ true → (a && not b && not c) ≡ true
 waited a b b2 c c2 f g e =
-    let front : (a && not b2) ≡ true = first_true (a && not b2) (not c2) e in
-    all_three a b c (first_true a (not b2) front) (not_so b (λ h. not_true b2 (second_true a (not b2) front) (f h)))
-    (not_so c (λ h. not_true c2 (second_true (a && not b2) (not c2) e) (g h)))
+    let front : (a && not b2) ≡ true = and_first (a && not b2) (not c2) e in
+    all_three a b c (and_first a (not b2) front) (not_so b (λ h. not_true b2 (and_second a (not b2) front) (f h)))
+    (not_so c (λ h. not_true c2 (and_second (a && not b2) (not c2) e) (g h)))
 
 answer_waits : (r : Round) (slot value i : ℕ) → waits_for (answer slot value r) i ≡ true → waits_for r i ≡ true
 answer_waits r slot value i e =
@@ -193,7 +186,7 @@ gone_there link (state ∷ states) from (suc i) r e =
     (gone_later (is_of link state) from (numbers_where (is_of link) (from + 1) states) r (from + 1 + i) (λ r2. gone_there link states (from + 1) i r2 e))
 
 last_of : (a b c : Bool) → (a && not b && not c) ≡ true → c ≡ true → ⊥
-last_of a b c e f = not_true c (second_true (a && not b) (not c) e) f
+last_of a b c e f = not_true c (and_second (a && not b) (not c) e) f
 
 -- slots
 
@@ -286,7 +279,7 @@ took_live l link m page live =
           λ lease may.
           asks_slots l.round l.slots _
           (λ i e.
-          done_stays l.slots (slot_of l link lease) i (second_true (holds l link lease) (is_evicting (slot_in l.slots (slot_of l link lease))) may) e)
+          done_stays l.slots (slot_of l link lease) i (and_second (holds l link lease) (is_evicting (slot_in l.slots (slot_of l link lease))) may) e)
           live;
     })
 

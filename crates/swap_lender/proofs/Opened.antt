@@ -4,6 +4,8 @@ use Rattle.std.specs.List.{filter, range_with_len}
 use Rattle.std.proofs.lemmas.Nat.Bits.{bit_at-zero}
 use Rattle.swap_choice.specs.Slots.{has, slots, size}
 use Rattle.swap_evict.specs.Rounds.{round_at_start, IsOpen}
+use Rattle.swap_choice.proofs.Chosen.{has-zero}
+use Rattle.swap_lender.proofs.Live.{all_three}
 
 -- a number below the end of which the test holds
 pub record IsSomewhere (test : ℕ → Bool) (high : ℕ) : Type 0 where
@@ -29,16 +31,10 @@ sized : (set : ℕ) → size set ≡ length (filter (has set) (range_with_len 0 
 unfolding slots
 sized set = refl
 
-has_none : (slot : ℕ) → has 0 slot ≡ false
-has_none slot = ap (λ b. eqb b 1) (bit_at-zero slot)
-
-waits_there : (a b c : Bool) → a ≡ true → b ≡ false → c ≡ false → (a && not b && not c) ≡ true
-waits_there a b c e f g = cc
-
 pub opened_waits : (asked count : ℕ) → 0 < size asked → IsOpen (round_at_start asked count)
 opened_waits asked count some =
     let there = somewhere (has asked) 0 64 (omega (arith, some, sized asked)) in (
       there.number,
       omega (arith, there.low),
-      waits_there (has asked there.number) (has 0 there.number) (has 0 there.number) there.holds (has_none there.number) (has_none there.number),
+      all_three (has asked there.number) (has 0 there.number) (has 0 there.number) there.holds (has-zero there.number) (has-zero there.number),
     )

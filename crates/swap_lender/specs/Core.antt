@@ -7,13 +7,14 @@ use Rattle.swap_activity.specs.Rates.{greatest}
 use Rattle.swap_evict.specs.Rounds.{Round, IsOpen, IsEvicted}
 use Rattle.swap_store.specs.Slabs.{Slabs}
 use Rattle.swap_lender.specs.Lender.{Lender}
+use Rattle.swap_base.specs.declared.TheConstants.{MOST_SLOTS}
 
 -- the limits of what a lender is made for
 pub record IsLending (s : Lending) : Type 0 where
   pub some : 1 ≤ s.spec.slots
-  pub few : s.spec.slots ≤ 64
-  pub headroom : s.spec.headroom ≤ 64
-  pub extra : s.spec.extra ≤ 64
+  pub few : s.spec.slots ≤ MOST_SLOTS
+  pub headroom : s.spec.headroom ≤ MOST_SLOTS
+  pub extra : s.spec.extra ≤ MOST_SLOTS
 
 pub record SlotsFit (s : Lending) (slots : List SlotState) : Type 0 where
   pub limits : IsLending s

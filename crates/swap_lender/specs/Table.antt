@@ -20,6 +20,7 @@ use Rattle.swap_lender.specs.declared.Peer.{Peer}
 use Rattle.swap_lender.specs.declared.Notice.{Notice}
 use Rattle.swap_lender.specs.declared.Notice.TheVariants as notice
 use Rattle.swap_lender.specs.Lender.{Lender, lender_at_start, slot_in, is_free, is_staying, is_evicting, is_of, is_for, first_where, numbers_where, holds, slot_of, page_in, with_page, blank_slab, is_peer, has_greeted, used_slots, lends, slots_free}
+use Rattle.swap_wire.specs.declared.TheConstants.{WIRE_VERSION}
 
 -- what a call makes of a lender: the lender after it, the messages in their order with the links they go to, the set of
 -- slots told to go, and the round that it closed
@@ -81,10 +82,10 @@ settle_with l (Some set) =
 abbrev pub settle : Lender → Turn
 settle l = settle_with l (slots_due l.round)
 
--- Hello: from a link that hasn't greeted, of version 1 and with the lender's sizes; it has greeted
+-- Hello: from a link that hasn't greeted, of the version of the messages and with the lender's sizes; it has greeted
 abbrev pub may_hello : Lender → Link → ℕ → ℕ → ℕ → Bool
 may_hello l link version page_bytes pages_per_slab =
-    not (has_greeted l link) && (version == 1) && (page_bytes == l.lending.page_bytes)
+    not (has_greeted l link) && (version == WIRE_VERSION) && (page_bytes == l.lending.page_bytes)
     && (pages_per_slab == l.lending.pages_per_slab)
 
 abbrev pub greet_peer : Link → Peer → Peer

@@ -21,7 +21,7 @@ use swap_base::{Lease, LenderSpec, Link, NoMemory, Slab};
 use swap_choice::{picked, slot_count};
 use swap_evict::EvictRound;
 use swap_store::Slabs;
-use swap_wire::{Hosted, Msg};
+use swap_wire::{Hosted, Msg, WIRE_VERSION};
 
 /// A lender of slots. All memory is taken at `make`.
 #[derive(Drop)]
@@ -231,7 +231,7 @@ impl LenderCore {
         ensures round { self.new.round ≡ self.old.round }
     {
         let may = !has_greeted(&self.peers, link)
-            && version == 1
+            && version == WIRE_VERSION
             && page_bytes == self.lending.page_bytes
             && pages_per_slab == self.lending.pages_per_slab;
         if !may {
@@ -474,7 +474,8 @@ impl LenderCore {
 
     /// The round is over, and these slots are being evicted.
     fn close(&mut self, set: u64)
-        ensures { self.new ≡ record self.old { slots = mark_slots set 0 self.old.slots; round = None } }
+        ensures { self.new
+            ≡ record self.old { slots = mark_slots set 0 self.old.slots; round = None } }
     {
         mark(&mut self.slots, set);
         self.round = None;
@@ -548,8 +549,10 @@ impl LenderCore {
         ensures lending { self.new.lending ≡ self.old.lending }
         ensures waits { IsWaiting self.new.round }
         ensures outbox { out.new
-            ≡ outbox_with out.old (gone_after self.old link).parcels (gone_after self.old link).evicted }
-        ensures batch { IsBatch (gone_after self.old link).closed (gone_after self.old link).evicted }
+            ≡ outbox_with out.old (gone_after self.old link).parcels
+            (gone_after self.old link).evicted }
+        ensures batch { IsBatch (gone_after self.old link).closed
+            (gone_after self.old link).evicted }
     {
         out.begin();
         self.leave_round(link);
@@ -560,7 +563,10 @@ impl LenderCore {
 
     fn leave_round(&mut self, link: Link)
         ensures { self.new
-            ≡ record self.old { round = option_map (round_left link self.old.slots) self.old.round } }
+            ≡ record self.old {
+              round = option_map
+                  (round_left link self.old.slots) self.old.round;
+            } }
     {
         if let Some(round) = &mut self.round {
             leave(round, &self.slots, link);

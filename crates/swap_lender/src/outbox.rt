@@ -3,6 +3,7 @@ ghost use Rattle.swap_wire.specs.declared.Msg.TheVariants as msg;
 ghost use Rattle.swap_wire.specs.Fabric.{carries_page, parcel_of};
 ghost use Rattle.swap_lender.specs.Outbox.{nothing_outgoing, outbox_with, first_message, first_page, pop_after};
 ghost use Rattle.swap_lender.specs.Table.{message_of, tell_slot, parcels_told};
+ghost use Rattle.swap_base.specs.declared.TheConstants.{MOST_SLOTS};
 
 use crate::{Notice, SlotState};
 use std::alloc::Global;
@@ -136,7 +137,8 @@ impl Outbox {
     fn tell_slot(&mut self, notice: Notice, has: bool, state: SlotState)
         requires { length self.old.parcels < self.old.room }
         ensures { self.new
-            ≡ outbox_with self.old (self.old.parcels ++ tell_slot notice has state) self.old.evicted }
+            ≡ outbox_with self.old
+            (self.old.parcels ++ tell_slot notice has state) self.old.evicted }
     {
         if let SlotState::Held { link, lease, .. } = state {
             if has {
@@ -147,10 +149,11 @@ impl Outbox {
 
     /// A message about each held slot of a set, ascending, on the slot's link.
     pub(crate) fn tell(&mut self, notice: Notice, set: u64, slots: &[SlotState])
-        requires few { length slots.now ≤ 64 }
+        requires few { length slots.now ≤ MOST_SLOTS }
         requires room { length slots.now ≤ self.old.room }
         requires empty { self.old.parcels ≡ [] }
-        ensures { self.new ≡ outbox_with self.old (parcels_told notice set 0 slots.now) self.old.evicted }
+        ensures { self.new
+            ≡ outbox_with self.old (parcels_told notice set 0 slots.now) self.old.evicted }
     {
         for slot in 0..slots.len() {
             self.tell_slot(notice, has_slot(set, slot as u32), slots[slot]);
@@ -159,7 +162,7 @@ impl Outbox {
 
     /// The slots of a set are told to go.
     pub(crate) fn evict(&mut self, set: u64, slots: &[SlotState])
-        requires few { length slots.now ≤ 64 }
+        requires few { length slots.now ≤ MOST_SLOTS }
         requires room { length slots.now ≤ self.old.room }
         requires empty { self.old.parcels ≡ [] }
         ensures { self.new ≡ outbox_with self.old (parcels_told Notice.Evict set 0 slots.now) set }

@@ -4,6 +4,7 @@ ghost use Rattle.swap_choice.specs.Slots.{set_of};
 ghost use Rattle.swap_evict.specs.Rounds.{leave};
 ghost use Rattle.swap_lender.specs.Lender.{is_free, is_held, is_evicting, is_staying, is_of, is_for, has_lease, numbers_where};
 ghost use Rattle.swap_lender.specs.Table.{mark_slot, mark_slots, free_slot, round_left};
+ghost use Rattle.swap_base.specs.declared.TheConstants.{MOST_SLOTS};
 
 use crate::SlotState;
 use swap_base::{Lease, Link, Slab};
@@ -105,7 +106,7 @@ pub(crate) fn has_slab(slots: &[SlotState], link: Link, slab: Slab) -> bool
 
 /// The set with this slot where it is to have it.
 fn with_where(set: u64, slot: u32, has: bool) -> u64
-    requires { slot < 64 }
+    requires { slot < MOST_SLOTS }
     ensures { result ≡ (if has then bit_or set (2 ^ slot) else set) }
 {
     if has { with_slot(set, slot) } else { set }
@@ -113,7 +114,7 @@ fn with_where(set: u64, slot: u32, has: bool) -> u64
 
 /// The set of the slots that are held and not being evicted.
 pub(crate) fn staying(slots: &[SlotState]) -> u64
-    requires { length slots.now ≤ 64 }
+    requires { length slots.now ≤ MOST_SLOTS }
     ensures { result ≡ set_of (numbers_where is_staying 0 slots.now) }
 {
     let mut set = 0;
@@ -145,7 +146,7 @@ fn mark_slot(told: bool, state: SlotState) -> SlotState
 
 /// Each held slot of the set is marked as being evicted.
 pub(crate) fn mark(slots: &mut [SlotState], set: u64)
-    requires { length slots.old ≤ 64 }
+    requires { length slots.old ≤ MOST_SLOTS }
     ensures { slots.new ≡ mark_slots set 0 slots.old }
 {
     for slot in 0..slots.len() {
@@ -174,7 +175,7 @@ pub(crate) fn free_all(slots: &mut [SlotState], link: Link)
 
 /// A slot is gone for the round where its link is gone.
 fn leave_where(round: &mut EvictRound, slot: u32, goes: bool)
-    requires { slot < 64 }
+    requires { slot < MOST_SLOTS }
     ensures { round.new ≡ (if goes then leave slot round.old else round.old) }
 {
     if goes {
@@ -184,7 +185,7 @@ fn leave_where(round: &mut EvictRound, slot: u32, goes: bool)
 
 /// The slots of a link are gone for the round.
 pub(crate) fn leave(round: &mut EvictRound, slots: &[SlotState], link: Link)
-    requires { length slots.now ≤ 64 }
+    requires { length slots.now ≤ MOST_SLOTS }
     ensures { round.new ≡ round_left link slots.now round.old }
 {
     for slot in 0..slots.len() {

@@ -3,18 +3,13 @@ use Rattle.std.proofs.Common.{◌≡◌, ℕ, ◌*◌, ◌<◌, ◌≤◌, ◌^�
 use Rattle.std.proofs.lemmas.Bool.{and_parts, leb-true}
 use Rattle.std.specs.Prelude.{nat_le}
 use Rattle.std.proofs.Math.Nat.{mul-le-mul}
-use Rattle.swap_base.specs.Sizes.{Sizes, IsWithin, is_within, first_beyond}
-use Rattle.swap_base.specs.Lending.{lender_limits}
+use Rattle.swap_base.specs.Sizes.{Sizes}
 use Rattle.swap_base.specs.declared.geometry.LenderSpec.{LenderSpec}
-use Rattle.swap_lender.specs.Core.{IsLending}
 use Rattle.std.specs.Prelude.{All, map}
 use Rattle.std.proofs.lemmas.List.{length-map}
 use Rattle.std.proofs.lemmas.List.Elements.{All-nil, All-cons, All-map}
 use Rattle.swap_link.specs.Channel.{Channel}
-use Rattle.swap_link.specs.Harbor.{lending_for, new_channel, IsFresh}
-
-within : (low high n : ℕ) → is_within low high n ≡ true → (low ≤ n) × (n ≤ high)
-within low high n e = let parts = and_parts (nat_le low n) (nat_le n high) e in (leb-true low n parts.0, leb-true n high parts.1)
+use Rattle.swap_link.specs.Harbor.{new_channel, IsFresh}
 
 -- every channel is new
 

@@ -3,9 +3,8 @@ use Rattle.std.proofs.Common.{◌≡◌, ℕ, ◌<◌, true, List, length}
 use Rattle.std.specs.Prelude.{All}
 use Rattle.swap_base.specs.Sizes.{Sizes}
 use Rattle.swap_wire.specs.Fabric.{Parcel, carries_page, FabricCall, Send}
-use Rattle.swap_choice.specs.Slots.{has}
 use Rattle.swap_lender.specs.Lender.{Lender}
-use Rattle.swap_link.specs.Channel.{Channel, send_after}
+use Rattle.swap_link.specs.Channel.{Channel}
 use Rattle.swap_link.specs.Fits.{IsSound}
 use Rattle.swap_link.specs.Harbor.{Harbor, new_channel, lender_of, ask, Moves}
 use Rattle.swap_base.specs.declared.geometry.LenderSpec.{LenderSpec}

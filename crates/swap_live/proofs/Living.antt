@@ -16,10 +16,6 @@ use Rattle.swap_hosted.specs.Hosted.{HostedCompletes}
 use Rattle.swap_live.specs.declared.LendEnd.TheVariants as end
 use Rattle.swap_live.specs.Live.{Command, Dealt, AskedNothing, EndsAsLending, EndsAsPlaying, EndsOver, LiveEnds, PlaysComplete}
 
-pub keeps_same : (known : Option (List ℕ)) → Keeps known known
-keeps_same None = tt
-keeps_same (Some bytes) = refl
-
 module _ {D F E : Type 0} (disk : DiskMeaning D) (net : FabricMeaning F) (o : Play) (source out : Stream) (host : Dealt D F E) where
   no_memory :
       (path : Option (List ℕ)) (tcp : Option (List Address)) → TookNothing out → AskedNothing host

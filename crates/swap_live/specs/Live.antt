@@ -23,6 +23,7 @@ use Rattle.swap_live.specs.declared.live.LiveCommand.TheVariants as live
 use Rattle.swap_live.specs.Lending.{Hosting, HostFailed, GaveNothing, LendEnds, hosting}
 use Rattle.swap_show.specs.Clause.{ShowEnds}
 use Rattle.swap_hosted.specs.Hosted.{Deals, Unasked, HostedEnds, disks_of, nets_of, address_count}
+use Rattle.swap_base.specs.declared.TheConstants.{MOST_LENDERS}
 
 -- what words ask for: to lend, or to play
 pub data Command : Type 0 where
@@ -43,7 +44,7 @@ command_of (word ∷ words) =
 -- its numbers keep their limits
 abbrev pub KeepsLimits : LiveCommand → Type 0
 KeepsLimits (live.Lend options) = keeps_limits options ≡ true
-KeepsLimits (live.Play options) = IfSome options.tcp (λ lenders. length lenders.items ≤ 8)
+KeepsLimits (live.Play options) = IfSome options.tcp (λ lenders. length lenders.items ≤ MOST_LENDERS)
 
 -- how the program ends where lending does
 abbrev pub ending_of : LendEnd → Ending

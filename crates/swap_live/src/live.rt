@@ -3,6 +3,7 @@ ghost use Rattle.swap_options.specs.Lend.{keeps_limits};
 ghost use Rattle.swap_options.specs.Play.{play_asked};
 ghost use Rattle.swap_show.specs.Clause.{read_of, written_to};
 ghost use Rattle.swap_live.specs.Live.{command_is, command_of, host_dealt, ending_of, KeepsLimits, EndsAsLending, EndsAsPlaying, LiveEnds, LiveEndsWith, LendsComplete, PlaysComplete};
+ghost use Rattle.swap_base.specs.declared.TheConstants.{MOST_LENDERS};
 
 use crate::{LendEnd, Offer, lend};
 use std::alloc::Global;
@@ -110,7 +111,7 @@ where
     H::Disk: Send,
     H::Net: Send,
     G: Gate,
-    requires lenders { IfSome options.now.tcp (λ lenders. length lenders.items ≤ 8) }
+    requires lenders { IfSome options.now.tcp (λ lenders. length lenders.items ≤ MOST_LENDERS) }
     ensures ends { EndsAsPlaying H.Disk.DiskPort H.Net.Fabric (play_asked options.now)
         (read_of S.Source source.old source.new) (written_to K.Sink out.old out.new)
         (host_dealt H.Host host.old host.new) result }

@@ -7,7 +7,7 @@ use std::net::{Net, SocketAddr, TcpListener, TcpStream};
 use std::sync::{Arc, Wait};
 use std::thread;
 use std::thread::Threads;
-use swap_base::Geometry;
+use swap_base::{Geometry, MOST_SLOTS};
 use swap_ends::{Bell, End, SharedBell};
 use swap_wire::FrameBuf;
 
@@ -17,9 +17,6 @@ pub enum NotOpened {
     Failed,
     NoMemory,
 }
-
-/// How many slots a lender has at most; it may ask for the rates of each.
-const SLOTS: usize = 64;
 
 fn pair<T: Drop>(alloc: Global, room: usize) -> Result<(End<T>, End<T>), NotOpened>
     requires { 0 < room }
@@ -115,7 +112,7 @@ where
 }
 
 /// The queues and threads of one lender, without a link. In each direction there is a buffer for
-/// each request of a window, each slot and one more.
+/// each request of a window, each slot, of which a lender may ask the rates, and one more.
 pub(crate) fn open_post<R>(
     rt: R,
     alloc: Global,
@@ -127,7 +124,7 @@ where
 {
     geometry.limits();
     let page_bytes = geometry.page_bytes();
-    let room = geometry.window() as usize + SLOTS + 1;
+    let room = geometry.window() as usize + MOST_SLOTS as usize + 1;
     let (orders, to_do) = pair(alloc, room + 2)?;
     let (mut frames, spare) = pair(alloc, room)?;
     let (arrivals, came) = pair(alloc, room + 1)?;

@@ -7,14 +7,14 @@ use Rattle.swap_base.specs.Sizes.{Sizes}
 use Rattle.swap_wire.specs.Input.{Input}
 use Rattle.swap_wire.specs.Fabric.{FabricOf}
 use Rattle.swap_disk.specs.lemmas.Follows as drives
-use Rattle.swap_slabs.specs.declared.TheConstants.{MOST_LENDERS}
+use Rattle.swap_base.specs.declared.TheConstants.{MOST_LENDERS}
 use Rattle.swap_link.specs.Channel.{Channel}
 use Rattle.swap_link.specs.Harbor as harbor
 use Rattle.swap_link.specs.Harbor.{new_channel}
 use Rattle.swap_joint.specs.Owned.{IsLent}
 use Rattle.swap_world.specs.Runs.{IsInput}
 use Rattle.swap_world.specs.World.{World, start, reach, next}
-use Rattle.swap_world.proofs.Memory.{drive_meaning, IsSound, sound_known, next_sound, next_step, reach_sound, starts_sound}
+use Rattle.swap_world.proofs.WorldInMemoryStaysSound.{drive_meaning, IsSound, sound_known, next_sound, next_step, reach_sound, starts_sound}
 use Rattle.swap_world.specs.Laws.{AreInputs}
 use Rattle.swap_newest.specs.Laws.{AlwaysLent}
 use Rattle.swap_newest.proofs.Runs.{Joined, event_joined, joined_lent, starts_joined}

@@ -15,11 +15,11 @@ use Rattle.swap_table.specs.Device.{Device, of_device, device_at_start, disk_tak
 use Rattle.swap_table.specs.Happens.{happens}
 use Rattle.swap_table.specs.Promises.{FollowsItsMoves}
 use Rattle.swap_table.specs.declared.DiskStep.{DiskStep}
-use Rattle.swap_table.proofs.Going.{Goes-along, Goes-asks, Goes-implies, beside}
-use Rattle.swap_table.proofs.Walks as walk
-use Rattle.swap_table.proofs.Comings.{names_there}
-use Rattle.swap_table.proofs.Keeps as keep
-use Rattle.swap_table.proofs.EachCall.{there, anyone, any, hands_any}
+use Rattle.swap_table.proofs.MovesKeepInvariants.{Goes-along, Goes-asks, Goes-implies, beside}
+use Rattle.swap_table.proofs.EventsGoByMoves as walk
+use Rattle.swap_table.proofs.EventsComeToTheirEnds.{names_there}
+use Rattle.swap_table.proofs.MovesKeepAgreement as keep
+use Rattle.swap_table.proofs.CallsKeepAgreement.{there, anyone, any, hands_any}
 use Rattle.swap_base.specs.declared.DiskWhich.TheVariants as which
 use Rattle.swap_joint.specs.Lenders.{AreSound}
 use Rattle.swap_joint.specs.Owned.{IsLent}
@@ -39,16 +39,16 @@ use Rattle.swap_joint.proofs.Allowing as allowed
 use Rattle.swap_joint.proofs.Leaving as left
 use Rattle.swap_joint.proofs.Leaving.{new_left}
 use Rattle.swap_joint.proofs.Fair.{given_fair}
-use Rattle.swap_joint.proofs.Served.{or_parts}
 use Rattle.swap_joint.proofs.Newest.{joined_is_newest, joined_have_slots}
 use Rattle.swap_world.specs.Runs.{IsRun, begin, effect, without, polled}
 use Rattle.swap_world.specs.Laws.{Began}
 use Rattle.swap_world.specs.World.{IsStep, IsEvent}
-use Rattle.swap_world.proofs.Memory.{harbor_promises}
+use Rattle.swap_world.proofs.WorldInMemoryStaysSound.{harbor_promises}
 use Rattle.swap_world.specs.Rounds.{Plan, Stop, Make, round_plan, AlongPlan}
-use Rattle.swap_world.proofs.Parts.{bare, AreParts, round_parts, splits, Splits, by_program, by_plan}
-use Rattle.swap_world.proofs.Steps.{Known, known_range, step_known, run_known}
+use Rattle.swap_world.proofs.RoundsKeepPlans.{bare, AreParts, round_parts, splits, Splits, by_program, by_plan}
+use Rattle.swap_world.proofs.EventsKeepWhatHolds.{Known, known_range, step_known, run_known}
 use Rattle.swap_newest.specs.Laws.{Holds, HoldsAfterEach}
+use Rattle.swap_base.proofs.Bools.{or_parts}
 
 -- the lenders are sound; each link that is up is joined with its lender, its messages may be taken in turn, and what is
 -- under way to the lender may be sent, as it may on a link that was lost

@@ -6,7 +6,7 @@ use Rattle.swap_wire.specs.declared.Seen.{Seen}
 use Rattle.swap_wire.specs.Input.{Input, IsInRange}
 use Rattle.swap_wire.specs.declared.Event.{Event}
 use Rattle.swap_disk.specs.declared.port.DiskPort.{Ghosts as DiskMeaning}
-use Rattle.swap_slabs.specs.declared.TheConstants.{MOST_LENDERS}
+use Rattle.swap_base.specs.declared.TheConstants.{MOST_LENDERS}
 use Rattle.swap_link.specs.Harbor as harbor
 use Rattle.swap_link.specs.Harbor.{Harbor}
 use Rattle.swap_table.specs.Device.{Device, device_at_start}

@@ -7,7 +7,7 @@ use Rattle.clap.specs.declared.error.kind.ErrorKind.TheVariants as kind
 use Rattle.swap_options.specs.declared.lend.LendOptions.{LendOptions}
 use Rattle.swap_options.specs.Commands.{IsAtFault, unless_at_fault}
 use Rattle.swap_options.specs.Lend.{lend_command, lend_faults, lend_rows, lend_options, within_limits, options_in}
-use Rattle.swap_options.specs.Play.{Play, play_command, play_faults, play_rows, play_options}
+use Rattle.swap_options.specs.Play.{play_command, play_faults, play_rows, play_options}
 use Rattle.swap_options.specs.Play as play
 
 lend-free : is_simple_and_free lend_command ≡ true

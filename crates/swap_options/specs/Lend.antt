@@ -10,6 +10,8 @@ use Rattle.swap_sock.specs.Addresses.{at_most, address_in}
 use Rattle.swap_sock.specs.declared.address.Address.{Address}
 use Rattle.swap_options.specs.declared.lend.LendOptions.{LendOptions}
 use Rattle.swap_options.specs.Commands.{option_rule, with_default, bare_command, unless_at_fault}
+use Rattle.swap_base.specs.declared.TheConstants.{MOST_LENT_BYTES, MOST_SLOTS}
+use Rattle.swap_options.specs.declared.TheConstants.{MOST_SERVED}
 
 -- the command behind `lend`
 abbrev pub lend_command : App
@@ -81,13 +83,13 @@ options_in rows =
 -- the limits of a lender, of a device's pages, of what all slots hold and of the links
 abbrev pub keeps_limits : LendOptions → Bool
 keeps_limits o =
-    is_within 1 64 o.spec.slots
-    && nat_le o.spec.headroom 64
-    && nat_le o.spec.extra 64
+    is_within 1 MOST_SLOTS o.spec.slots
+    && nat_le o.spec.headroom MOST_SLOTS
+    && nat_le o.spec.extra MOST_SLOTS
     && list_any (λ n. o.page_bytes == n) page_lengths
     && is_within 1 65_536 o.pages_per_slab
-    && nat_le (o.spec.slots * o.pages_per_slab * o.page_bytes) 536_870_912
-    && nat_le o.links 64
+    && nat_le (o.spec.slots * o.pages_per_slab * o.page_bytes) MOST_LENT_BYTES
+    && nat_le o.links MOST_SERVED
 
 abbrev pub within_limits : Option LendOptions → Option LendOptions
 within_limits None = None

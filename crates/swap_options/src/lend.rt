@@ -3,10 +3,11 @@ ghost use Rattle.clap.specs.Words.{app_of, rows_of, found_of};
 ghost use Rattle.swap_sock.specs.Addresses.{address_in};
 ghost use Rattle.swap_options.specs.Lend.{lend_command, number_of, number_at, spec_in, options_in, options_of, keeps_limits, lend_faults, lend_rows, lend_options};
 
+use crate::MOST_SERVED;
 use crate::parsing::{OptionsRefused, bare_command, defaulted, option, parsed, text_at};
 use clap::{ArgMatches, Command};
 use std::alloc::{AllocError, Global};
-use swap_base::LenderSpec;
+use swap_base::{LenderSpec, MOST_LENT_BYTES, MOST_SLOTS};
 use swap_io::number;
 use swap_sock::Address;
 
@@ -147,9 +148,9 @@ fn keeps_limits(options: &LendOptions) -> bool
 {
     let spec = options.spec;
     1 <= spec.slots
-        && spec.slots <= 64
-        && spec.headroom <= 64
-        && spec.extra <= 64
+        && spec.slots <= MOST_SLOTS
+        && spec.headroom <= MOST_SLOTS
+        && spec.extra <= MOST_SLOTS
         && matches!(
             options.page_bytes,
             8 | 16 | 32 | 64 | 128 | 256 | 512 | 1024 | 2048 | 4096
@@ -157,6 +158,6 @@ fn keeps_limits(options: &LendOptions) -> bool
         && 1 <= options.pages_per_slab
         && options.pages_per_slab <= 65_536
         && u64::from(spec.slots * options.pages_per_slab) * u64::from(options.page_bytes)
-            <= 536_870_912
-        && options.links <= 64
+            <= MOST_LENT_BYTES
+        && options.links <= MOST_SERVED
 }

@@ -14,6 +14,9 @@ pub use lend::{LendOptions, read_lend};
 pub use parsing::OptionsRefused;
 pub use play::{PlayOptions, read_play};
 
+/// How many links are served at most.
+pub const MOST_SERVED: u32 = 64;
+
 /// What keeps the limits may be lent: a lender may be made of it, and all its slots' bytes can be
 /// counted.
 pub fn limits_let_lend()

@@ -3,10 +3,12 @@ ghost use Rattle.std.specs.List.{slice_split};
 ghost use Rattle.clap.specs.Words.{app_of, rows_of, found_of};
 ghost use Rattle.swap_io.specs.Words.{number};
 ghost use Rattle.swap_options.specs.Play.{play_command, play_faults, play_rows, play_options, play_asked, comma, addresses_of, addresses_in, addresses_given, options_in};
+ghost use Rattle.swap_base.specs.declared.TheConstants.{MOST_LENDERS};
 
 use crate::parsing::{OptionsRefused, bare_command, defaulted, option, parsed, text_at};
 use clap::{ArgMatches, Command};
 use std::alloc::{AllocError, Global};
+use swap_base::MOST_LENDERS;
 use swap_io::number;
 use swap_sock::Address;
 
@@ -30,7 +32,7 @@ pub fn read_play<'a>(alloc: Global, words: &'a [&'a str]) -> Result<PlayOptions<
     ensures lenders { IfOk result
         (λ options.
         IfSome options.tcp
-        (λ lenders. (1 ≤ length lenders.items) × (length lenders.items ≤ 8))) }
+        (λ lenders. (1 ≤ length lenders.items) × (length lenders.items ≤ MOST_LENDERS))) }
     ensures usage { IfErr result
         (λ why. why ≡ OptionsRefused.Usage
         → play_options (map (λ word. word.now) words.now) ≡ None) }
@@ -49,7 +51,7 @@ fn options_in<'a>(
     ensures lenders { IfOk result
         (λ options.
         IfSome options.tcp
-        (λ lenders. (1 ≤ length lenders.items) × (length lenders.items ≤ 8))) }
+        (λ lenders. (1 ≤ length lenders.items) × (length lenders.items ≤ MOST_LENDERS))) }
     ensures usage { IfErr result
         (λ why. why ≡ OptionsRefused.Usage → options_in (rows_of (found_of matches.now)) ≡ None) }
 {
@@ -104,7 +106,8 @@ fn addresses_given(
         (λ given. addresses_given (option_map (λ text. text.now) text.entry)
         ≡ Some (option_map (λ list. list.items) given)) }
     ensures few { IfOk result
-        (λ given. IfSome given (λ list. (1 ≤ length list.items) × (length list.items ≤ 8))) }
+        (λ given. IfSome given (λ list. (1 ≤ length list.items)
+        × (length list.items ≤ MOST_LENDERS))) }
     ensures usage { IfErr result
         (λ why. why ≡ OptionsRefused.Usage
         → addresses_given (option_map (λ text. text.now) text.entry) ≡ None) }
@@ -121,14 +124,15 @@ fn addresses_given(
 /// The addresses, 1 to 8 of them, that commas part.
 fn addresses_in(alloc: Global, text: &str) -> Result<Vec<Address>, OptionsRefused>
     ensures list { IfOk result (λ list. addresses_in text.now ≡ Some list.items) }
-    ensures few { IfOk result (λ list. (1 ≤ length list.items) × (length list.items ≤ 8)) }
+    ensures few { IfOk result (λ list. (1 ≤ length list.items)
+        × (length list.items ≤ MOST_LENDERS)) }
     ensures usage { IfErr result
         (λ why. why ≡ OptionsRefused.Usage → addresses_in text.now ≡ None) }
 {
     let Ok(parts) = parts_of(alloc, text) else {
         return Err(OptionsRefused::NoMemory);
     };
-    if parts.len() > 8 {
+    if parts.len() > MOST_LENDERS as usize {
         return Err(OptionsRefused::Usage);
     }
     addresses_of(alloc, &parts)

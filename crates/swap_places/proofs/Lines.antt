@@ -2,10 +2,7 @@
 use Rattle.std.proofs.Common.{◌≡◌, ◌≢◌, ℕ, zero, suc, ◌+◌, ◌<◌, ◌≤◌, Bool, true, false, ◌||◌, ◌==◌, List, [], ◌∷◌, ◌++◌, length, sym, ap, refl, ◌∙◌, subst, arith, ⊎_elim, eq-eqb, ne_eqb, slice_get, Some, None}
 use Rattle.std.proofs.lemmas.Bool.{cases_eq, cases_Bool, cond-true, cond-false, eqb-false}
 use Rattle.swap_places.specs.Line.{EntersOne, LeavesOne, KeepsOnce, number_behind, stands, without_number, IsNoneOf, AreOnce, AreBelow}
-
-or_true : (b : Bool) → (b || true) ≡ true
-or_true true = refl
-or_true false = refl
+use Rattle.swap_base.proofs.Bools.{or_true}
 
 -- ---- a number stands in a list, or is none of it
 

@@ -52,7 +52,8 @@ pub record CarriesAll (ch : Channel) (l : Lender) (ms : List Made) : Type 0 wher
 abbrev pub OnlyAnEndIsLost : Type 0
 OnlyAnEndIsLost =
     (h : Harbor) (l : Lender) (n : Link) (cs : List FabricCall) → l.0 < length h.channels → NoneConnects l cs
-    → CarriesAll (channel_of (lenders_after (harbor_after_connect h l n) cs) l) l (calls_made (harbor_after_connect h l n) cs)
+    → CarriesAll (channel_of (lenders_after (harbor_after_connect h l n) cs) l) l
+    (calls_made (harbor_after_connect h l n) cs)
 
 -- a lender that answers a message made of it, with the page of the first under way, what its table says
 pub record IsServed (ch now : Channel) (m : Msg) (said : Option Msg) (went : ℕ) : Type 0 where

@@ -6,10 +6,11 @@ use Rattle.std.specs.List.{find, join_with_byte}
 use Rattle.std.specs.Option.{unwrap_or, option_map}
 use Rattle.std.specs.Str.{bytes_eq}
 use Rattle.std.proofs.lemmas.List.{length-take}
-use Rattle.swap_io.specs.Words.{lengths, repeat_piece, shortest_piece, shortest, hex}
+use Rattle.swap_io.specs.Words.{lengths, repeat_piece, shortest_piece, shortest}
 use Rattle.swap_record.specs.declared.Entry.{Entry}
 use Rattle.swap_record.specs.History.{Row}
 use Rattle.swap_record.specs.Text.{spaced_after}
+use Rattle.swap_io.proofs.Shortest.{length-hex}
 
 pub joined : (word : List ℕ) (words : List (List ℕ)) → join_with_byte 32 (word ∷ words) ≡ word ++ spaced_after words
 joined word [] = sym (append-nil word)
@@ -18,10 +19,6 @@ joined word (next ∷ words) = ap (λ rest. word ++ 32 ∷ rest) (joined next wo
 pub spaced-append : (xs ys : List (List ℕ)) → spaced_after (xs ++ ys) ≡ spaced_after xs ++ spaced_after ys
 spaced-append [] ys = refl
 spaced-append (x ∷ xs) ys = ap (λ rest. 32 ∷ rest) (ap (λ rest. x ++ rest) (spaced-append xs ys) ∙ sym (append_assoc x (spaced_after xs) (spaced_after ys)))
-
-pub length-hex : (bytes : List ℕ) → length (hex bytes) ≡ 2 * length bytes
-length-hex [] = refl
-length-hex (b ∷ rest) = omega (arith, length-hex rest)
 
 found_within :
     (page : List ℕ) (n : ℕ) (b : Bool) (o : Option (List ℕ)) → length (unwrap_or o page) ≤ length page

@@ -5,7 +5,7 @@ use Rattle.std.specs.declared.vec.Vec.{Vec}
 use Rattle.std.specs.declared.alloc.Global.{Global}
 use Rattle.swap_base.specs.declared.Caller.{Caller}
 use Rattle.swap_record.specs.declared.Entry.{Entry}
-use Rattle.swap_record.specs.declared.TheConstants.{MOST_CALLERS, MOST_ENTRIES}
+use Rattle.swap_record.specs.declared.TheConstants.{MOST_COUNTED, MOST_ENTRIES}
 use Rattle.swap_record.specs.History.{History, Row, count_of}
 use Rattle.swap_record.specs.RecordView.{HasNumbers}
 
@@ -20,7 +20,7 @@ history_in page_bytes entries bytes = reverse (rows_in page_bytes entries bytes)
 
 -- the counts are those of the history
 abbrev pub AreCounts : List ℕ → History → Type 0
-AreCounts counts H = (caller : Caller) → caller.0 < MOST_CALLERS → slice_index counts caller.0 ≡ count_of caller H
+AreCounts counts H = (caller : Caller) → caller.0 < MOST_COUNTED → slice_index counts caller.0 ≡ count_of caller H
 
 -- the block has each entry's page, and there is room for what was reserved
 pub record IsKept (page_bytes : ℕ) (entries : Vec Entry Global) (bytes : Vec ℕ Global) (counts : List ℕ) (spare : ℕ)

@@ -2,7 +2,7 @@ ghost use Rattle.std.specs.Prelude.{◌≡◌, ◌+◌, ◌-◌, ◌<◌, ◌≤
 ghost use Rattle.swap_record.specs.History.{Row, next_name, row_named};
 ghost use Rattle.swap_record.specs.RecordView.{IsBook, push_after, first_noted};
 
-use super::{Entry, MOST_CALLERS, MOST_ENTRIES, Op};
+use super::{Entry, MOST_COUNTED, MOST_ENTRIES, Op};
 use std::alloc::Global;
 use std::marker::Model;
 use swap_base::{CallKind, Caller, EntryNo, Origin, Page};
@@ -20,7 +20,7 @@ pub struct Record {
     page_bytes: usize,
     entries: Vec<Entry>,
     bytes: Vec<u8>,
-    counts: [u32; MOST_CALLERS],
+    counts: [u32; MOST_COUNTED],
     spare: u32,
     noted: Option<u32>,
 }
@@ -55,7 +55,7 @@ impl Record {
             page_bytes: page_bytes as usize,
             entries: Vec::new(alloc),
             bytes: Vec::new(alloc),
-            counts: [0; MOST_CALLERS],
+            counts: [0; MOST_COUNTED],
             spare: 0,
             noted: None,
         }
@@ -171,7 +171,7 @@ impl Record {
 
     /// A page-out, with the bytes handed in.
     pub fn push_out(&mut self, caller: Caller, page: Page, bytes: &[u8]) -> EntryNo
-        requires caller { caller.0 < MOST_CALLERS }
+        requires caller { caller.0 < MOST_COUNTED }
         requires room { 0 < self.old.spare }
         requires bytes { length bytes.now ≡ self.old.page_bytes }
         ensures after { self.new ≡ push_after self.old caller page Op.PageOut bytes.now }
@@ -189,10 +189,11 @@ impl Record {
         origin: Origin,
         bytes: &[u8],
     ) -> EntryNo
-        requires caller { caller.0 < MOST_CALLERS }
+        requires caller { caller.0 < MOST_COUNTED }
         requires room { 0 < self.old.spare }
         requires bytes { length bytes.now ≡ self.old.page_bytes }
-        ensures after { self.new ≡ push_after self.old caller page (Op.PageIn named origin) bytes.now }
+        ensures after { self.new
+            ≡ push_after self.old caller page (Op.PageIn named origin) bytes.now }
         ensures name { result ≡ next_name self.old.history }
     {
         self.push(caller, page, Op::PageIn { named, origin }, bytes)
@@ -208,7 +209,7 @@ impl Record {
         at: u64,
         bytes: &[u8],
     ) -> EntryNo
-        requires caller { caller.0 < MOST_CALLERS }
+        requires caller { caller.0 < MOST_COUNTED }
         requires room { 0 < self.old.spare }
         requires bytes { length bytes.now ≡ self.old.page_bytes }
         ensures after { self.new
@@ -219,7 +220,7 @@ impl Record {
     }
 
     fn push(&mut self, caller: Caller, page: Page, op: Op, bytes: &[u8]) -> EntryNo
-        requires caller { caller.0 < MOST_CALLERS }
+        requires caller { caller.0 < MOST_COUNTED }
         requires room { 0 < self.old.spare }
         requires bytes { length bytes.now ≡ self.old.page_bytes }
         ensures after { self.new ≡ push_after self.old caller page op bytes.now }

@@ -6,17 +6,14 @@ use Rattle.std.proofs.lemmas.List.Elements.{All-contains, All-from_recursion}
 use Rattle.std.proofs.lemmas.List.Quantifiers.{position-Some}
 use Rattle.swap_base.specs.declared.Slab.{Slab}
 use Rattle.swap_base.specs.declared.Lender.{Lender}
-use Rattle.swap_base.specs.declared.Lease.{Lease}
-use Rattle.swap_slabs.specs.declared.SlabState.{SlabState}
-use Rattle.swap_slabs.specs.declared.SlabState.TheVariants.{Local}
-use Rattle.swap_slabs.specs.declared.TheConstants.{MOST_LENDERS}
+use Rattle.swap_base.specs.declared.TheConstants.{MOST_LENDERS}
 use Rattle.swap_slabs.specs.Slabs as slabs
 use Rattle.swap_rings.specs.Rings.{LinkState}
 use Rattle.swap_choice.specs.declared.lenders.Asked.{Asked}
 use Rattle.swap_choice.specs.declared.lenders.Asked.TheVariants.{Nobody, One, Two}
 use Rattle.swap_choice.specs.Asked as choice
 use Rattle.swap_choice.proofs.PicksLemmas.{asked_members, asked_different}
-use Rattle.swap_remote.specs.Remote.{Remote, up_from, fresh_lenders, other_lenders, only_mapped, mapped_by}
+use Rattle.swap_remote.specs.Remote.{Remote, up_from, fresh_lenders, other_lenders}
 use Rattle.swap_remote.specs.Kept.{AreAsked}
 
 -- what is true of each lender that meets a test is true of each that is listed

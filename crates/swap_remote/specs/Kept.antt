@@ -4,7 +4,7 @@ use Rattle.swap_base.specs.declared.Lender.{Lender}
 use Rattle.swap_base.specs.Sizes.{Sizes, pages_of}
 use Rattle.swap_slabs.specs.declared.SlabState.{SlabState}
 use Rattle.swap_slabs.specs.declared.SlabState.TheVariants.{Asking}
-use Rattle.swap_slabs.specs.declared.TheConstants.{MOST_LENDERS}
+use Rattle.swap_base.specs.declared.TheConstants.{MOST_LENDERS}
 use Rattle.swap_slabs.specs.Slabs.{is_local, pair_of}
 use Rattle.swap_choice.specs.declared.lenders.Asked.{Asked}
 use Rattle.swap_choice.specs.declared.lenders.Asked.TheVariants.{Nobody, One, Two}

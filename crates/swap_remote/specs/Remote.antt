@@ -10,7 +10,7 @@ use Rattle.swap_slabs.specs.Slabs as slabs
 use Rattle.swap_slabs.specs.declared.Reply.TheVariants as reply
 use Rattle.swap_slabs.specs.declared.SlabState.{SlabState}
 use Rattle.swap_slabs.specs.declared.SlabState.TheVariants.{Local, Asking, Borrowing, Mapped, Draining}
-use Rattle.swap_slabs.specs.declared.TheConstants.{MOST_LENDERS}
+use Rattle.swap_base.specs.declared.TheConstants.{MOST_LENDERS}
 use Rattle.swap_rings.specs.Rings as rings
 use Rattle.swap_rings.specs.Rings.{LinkState}
 use Rattle.swap_rings.specs.declared.Request.{Request}

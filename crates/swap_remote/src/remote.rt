@@ -3,7 +3,7 @@ ghost use Rattle.swap_base.specs.Sizes.{pages_of, slab_of, place_of};
 ghost use Rattle.swap_slabs.specs.Slabs as slabs;
 ghost use Rattle.swap_slabs.specs.Kept.{IsSlabs, IsNew};
 ghost use Rattle.swap_choice.specs.Asked as choice;
-ghost use Rattle.swap_slabs.specs.declared.TheConstants.{MOST_LENDERS, MOST_FLYING};
+ghost use Rattle.swap_base.specs.declared.TheConstants.{MOST_LENDERS, MOST_WINDOW};
 ghost use Rattle.swap_rings.specs.Rings as rings;
 ghost use Rattle.swap_remote.specs.Remote.{remote_at_start, slab_for, state_for, mapping, open_at, target, up_from, fresh_lenders, other_lenders, has_page, names_page, changed_after, sent_for, query_sent, told_after, gone_after, borrow_sent, lent_after, refused_after, settled_for, with_page_if, written_after, mapped_by, evicted_after, left_from, lost_after, raised_after};
 ghost use Rattle.swap_remote.specs.Kept.{MayAsk, AreAsked};
@@ -11,11 +11,11 @@ ghost use Rattle.swap_remote.specs.Kept.{MayAsk, AreAsked};
 use arrayvec::ArrayVec;
 use std::alloc::Global;
 use std::marker::Model;
-use swap_base::{Geometry, Lease, Lender, NoMemory, Page, Slab};
+use swap_base::{Geometry, Lease, Lender, MOST_LENDERS, NoMemory, Page, Slab};
 use swap_bits::{PageBits, is_a_set};
 use swap_choice::{Asked, two_lenders};
 use swap_rings::{Request, Rings};
-use swap_slabs::{Chosen, MOST_LENDERS, Reply, SlabState, Slabs};
+use swap_slabs::{Chosen, Reply, SlabState, Slabs};
 
 /// The pages that remote memory has, the states of the slabs, and the links. All memory is taken at
 /// `make`.
@@ -145,7 +145,8 @@ fn send_home(geometry: &Geometry, states: &mut Slabs, bits: &mut PageBits, lende
 impl Remote {
     /// No link is up, no slab mapped, no bit set. No other call of `Remote` takes memory.
     pub fn make(alloc: Global, geometry: Geometry) -> Result<Remote, NoMemory>
-        ensures { IfOk result (λ r. r ≡ record { sizes = geometry; remote = remote_at_start geometry }) }
+        ensures { IfOk result (λ r. r
+            ≡ record { sizes = geometry; remote = remote_at_start geometry }) }
     {
         Ok(Remote {
             geometry,
@@ -268,7 +269,8 @@ impl Remote {
     /// that hold none.
     pub fn to_ask(&self, word: u64) -> Asked
         ensures asked { result
-            ≡ choice.two_asked word (fresh_lenders self.now.remote) (other_lenders self.now.remote) }
+            ≡ choice.two_asked word (fresh_lenders self.now.remote)
+            (other_lenders self.now.remote) }
         ensures lenders { AreAsked result }
     {
         let askable = lenders_up(&self.rings, &self.slabs);
@@ -304,7 +306,7 @@ impl Remote {
         requires mapped { IsTrue
             (slabs.is_mapped (state_for self.old.sizes self.old.remote.slabs page)) }
         requires flying { slabs.flying_of (state_for self.old.sizes self.old.remote.slabs page)
-            < MOST_FLYING }
+            < MOST_WINDOW }
         requires room { length (rings.ring_of self.old.remote.links lender)
             < self.old.sizes.window }
         ensures { self.new
@@ -352,7 +354,8 @@ impl Remote {
     pub fn gone(&mut self, lender: Lender, slab: Slab) -> Option<Chosen>
         requires slab { slab.0 < self.old.sizes.slabs }
         requires asks { IsTrue (slabs.asks lender (slabs.state_of self.old.remote.slabs slab)) }
-        ensures tables { self.new ≡ record self.old { remote = gone_after self.old.remote lender slab } }
+        ensures tables { self.new
+            ≡ record self.old { remote = gone_after self.old.remote lender slab } }
         ensures choice { result
             ≡ slabs.answer_choice (slabs.state_of self.old.remote.slabs slab) lender Reply.Gone }
     {
@@ -379,7 +382,8 @@ impl Remote {
         requires borrowing { slabs.state_of self.old.remote.slabs slab
             ≡ SlabState.Borrowing lender }
         requires lease { slabs.by_lease self.old.remote.slabs lender lease ≡ None }
-        ensures { self.new ≡ record self.old { remote = lent_after self.old.remote lender slab lease } }
+        ensures { self.new
+            ≡ record self.old { remote = lent_after self.old.remote lender slab lease } }
     {
         self.slabs.lent(slab, lease);
         self.rings.answer(lender);
@@ -391,7 +395,8 @@ impl Remote {
         requires lender { lender.0 < MOST_LENDERS }
         requires borrowing { slabs.state_of self.old.remote.slabs slab
             ≡ SlabState.Borrowing lender }
-        ensures { self.new ≡ record self.old { remote = refused_after self.old.remote lender slab } }
+        ensures { self.new
+            ≡ record self.old { remote = refused_after self.old.remote lender slab } }
     {
         self.slabs.refused(slab);
         self.rings.answer(lender);

@@ -7,9 +7,6 @@ mod rings;
 pub use rings::Rings;
 use swap_base::{Caller, EntryNo, Page, Slab};
 
-/// How many requests may be under way on a link.
-pub const MOST_UNDER_WAY: u32 = 64;
-
 /// A request to a lender that an answer is waited for.
 #[derive(Clone, Copy, Debug, PartialEq, Eq)]
 pub enum Request {

@@ -1,10 +1,11 @@
 ghost use Rattle.std.specs.Prelude.{◌≡◌, ◌<◌, IfOk, length};
 ghost use Rattle.swap_rings.specs.Rings.{down, link_at_start, oldest, sent_on, answered_on, may_send};
 
-use crate::{MOST_UNDER_WAY, Request};
+use crate::Request;
 use std::alloc::{AllocError, Global};
 use std::collections::VecDeque;
 use std::marker::Model;
+use swap_base::MOST_WINDOW;
 
 /// One link, with room for the longest ring.
 #[derive(Drop)]
@@ -17,13 +18,13 @@ impl Model for Link {
     ghost use Rattle.std.specs.Prelude.{◌≤◌, length};
     ghost use Rattle.std.specs.VecDeque.{deque_capacity};
     ghost use Rattle.swap_rings.specs.Rings.{LinkState};
-    ghost use Rattle.swap_rings.specs.declared.TheConstants.{MOST_UNDER_WAY};
+    ghost use Rattle.swap_base.specs.declared.TheConstants.{MOST_WINDOW};
 
     ghost Value = { LinkState };
 
     ghost view = { λ l. record { up = l.up; ring = l.ring.items } };
 
-    ghost invariant = { λ l. MOST_UNDER_WAY ≤ deque_capacity l.ring };
+    ghost invariant = { λ l. MOST_WINDOW ≤ deque_capacity l.ring };
 }
 
 impl Link {
@@ -33,7 +34,7 @@ impl Link {
     {
         Ok(Link {
             up: false,
-            ring: VecDeque::with_capacity(alloc, MOST_UNDER_WAY as usize)?,
+            ring: VecDeque::with_capacity(alloc, MOST_WINDOW as usize)?,
         })
     }
 
@@ -58,7 +59,7 @@ impl Link {
     }
 
     pub(crate) fn send(&mut self, request: Request)
-        requires { length self.old.ring < MOST_UNDER_WAY }
+        requires { length self.old.ring < MOST_WINDOW }
         ensures { self.new ≡ sent_on self.old request }
     {
         self.ring.push_back_reserved(request);

@@ -20,13 +20,13 @@ impl Model for Rings {
     ghost use Rattle.std.specs.Prelude.{◌≤◌};
     ghost use Rattle.swap_rings.specs.Rings as specs;
     ghost use Rattle.swap_rings.specs.Rings.{AreWithin};
-    ghost use Rattle.swap_rings.specs.declared.TheConstants.{MOST_UNDER_WAY};
+    ghost use Rattle.swap_base.specs.declared.TheConstants.{MOST_WINDOW};
 
     ghost Value = { specs.Rings };
 
     ghost view = { λ r. record { window = r.window; links = r.links.items } };
 
-    ghost invariant = { λ r. (r.window ≤ MOST_UNDER_WAY) × AreWithin r.window r.links.items };
+    ghost invariant = { λ r. (r.window ≤ MOST_WINDOW) × AreWithin r.window r.links.items };
 }
 
 fn make_links(alloc: Global, lenders: u32) -> Result<Vec<Link>, NoMemory>

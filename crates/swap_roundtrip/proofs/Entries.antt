@@ -14,7 +14,7 @@ use Rattle.swap_wire.specs.declared.Seen.{Seen}
 use Rattle.swap_record.specs.declared.Op.{Op}
 use Rattle.swap_record.specs.declared.Op.TheVariants as op
 use Rattle.swap_record.specs.History.{History, next_name, with_row}
-use Rattle.swap_queue.specs.Queue.{Queue, Copy}
+use Rattle.swap_queue.specs.Queue.{Copy}
 use Rattle.swap_queue.specs.Queue as queue
 use Rattle.swap_disk.specs.Disk.{Taken}
 use Rattle.swap_base.specs.declared.DiskWhich.{DiskWhich}
@@ -29,9 +29,9 @@ use Rattle.swap_table.specs.Fits.{IsFair}
 use Rattle.swap_table.specs.Happens.{see_disk}
 use Rattle.swap_table.specs.Moves.{full, unread}
 use Rattle.swap_table.specs.Comes.{Comes, begins_out, goes_on_out, begins_in, goes_on_in, refuses, rests, accepts, gives_page, fails, keeps_page, reads, starts_write, takes_back, links, brings}
-use Rattle.swap_table.proofs.Lists.{All-get_or}
+use Rattle.swap_base.proofs.Lists.{All-get_or}
 use Rattle.swap_world.specs.Runs.{entry_seen, Adds, nothing, one}
-use Rattle.swap_world.proofs.Counted.{linked_same, rest_says, link_says, wait_says}
+use Rattle.swap_world.proofs.CountsStayTrue.{linked_same, rest_says, link_says, wait_says}
 use Rattle.swap_transcript.specs.Told.{Shown}
 use Rattle.swap_transcript.specs.Results.{agrees}
 use Rattle.swap_transcript.specs.Transcripts.{caller_or_first}

@@ -13,19 +13,19 @@ use Rattle.swap_wire.specs.declared.Seen.{Seen}
 use Rattle.swap_wire.specs.Fabric.{FabricOf}
 use Rattle.swap_disk.specs.MemDiskView as drive
 use Rattle.swap_link.specs.Harbor as harbor
-use Rattle.swap_slabs.specs.declared.TheConstants.{MOST_LENDERS}
+use Rattle.swap_base.specs.declared.TheConstants.{MOST_LENDERS}
 use Rattle.swap_calls.specs.Calls.{idle_call}
 use Rattle.swap_table.specs.Device.{Device}
 use Rattle.swap_table.specs.Comes.{ComesTo}
 use Rattle.swap_table.specs.Happens.{happens}
 use Rattle.swap_table.proofs.Programs.{Leads-Along}
-use Rattle.swap_table.proofs.Lists.{count_by-cons}
+use Rattle.swap_base.proofs.Lists.{count_by-cons}
 use Rattle.swap_world.specs.World.{World, Next, next, next_by, reach, seens, history}
 use Rattle.swap_world.specs.Runs.{IsInput, IsPaged, GoesOn, busy_callers, is_busy_call, is_new_call}
 use Rattle.swap_world.specs.Laws.{AreInputs, AlwaysLegal, HistoriesGoOn}
-use Rattle.swap_world.proofs.Memory.{IsSound, starts_sound, next_sound, next_step, sound_fits}
-use Rattle.swap_world.proofs.Steps.{step_comes}
-use Rattle.swap_world.proofs.Parts.{event_adds, event_grows}
+use Rattle.swap_world.proofs.WorldInMemoryStaysSound.{IsSound, starts_sound, next_sound, next_step, sound_fits}
+use Rattle.swap_world.proofs.EventsKeepWhatHolds.{step_comes}
+use Rattle.swap_world.proofs.RoundsKeepPlans.{event_adds, event_grows}
 use Rattle.swap_script.specs.Lines.{with_spaces, with_line_end}
 use Rattle.swap_script.specs.Laws.{EventsInRange, PagesAreWhole, HandsInAPage}
 use Rattle.swap_script.specs.Reading.{calls_of, calls_in}
@@ -44,6 +44,7 @@ use Rattle.swap_roundtrip.proofs.Shapes.{Shape, FlightsWithin, flights_within, o
 use Rattle.swap_roundtrip.proofs.Entries.{Tells, CallsWithin, calls_within, adds_none, comes_tells}
 use Rattle.swap_roundtrip.proofs.Owed.{owes_none, may_stand, sized}
 use Rattle.swap_roundtrip.proofs.Lines.{LineBack, line_back, unmarked, pair_with}
+use Rattle.swap_script.specs.declared.TheConstants.{EVENT_LIMIT}
 
 -- an event of a sound world tells of the entry that it adds, and what is seen is of its kind
 pub record TellsOfIt (s : Sizes) (e : Event) (x : Seen) (before now : History) : Type 0 where
@@ -115,7 +116,7 @@ module _ (s : Sizes) (n : ℕ) where
           }
 
 -- calls are counted alike
-new_call : (e : Event) → is_new_call e ≡ calls_in e
+pub new_call : (e : Event) → is_new_call e ≡ calls_in e
 new_call (event.PageOut c p) = refl
 new_call (event.PageIn c p) = refl
 new_call (event.Finish c) = refl
@@ -145,7 +146,7 @@ pub record RunBack (s : Sizes) (above : Above) (w : World) (is : List Input) (F 
 module _ (s : Sizes) (n most : ℕ) (limits : AreInLimits s) (print : LinesArePrinted) (on : HistoriesGoOn) (few : most * s.page_bytes ≤ 1_073_741_824) where
   pub run_back : (is : List Input) (w : World) (above : Above) (F : History) → F ≡ history (reach w is) → IsSound s n w → AllByRecursion (IsInput s n) is
       → NumbersFit w is
-      → above.entries ≡ length (history w) → above.events + length is ≤ 4_194_304 → length (history w) + busy_callers w.device + calls_of is ≤ most
+      → above.entries ≡ length (history w) → above.events + length is ≤ EVENT_LIMIT → length (history w) + busy_callers w.device + calls_of is ≤ most
       → RunBack s above w is F
   run_back [] w above F e sound inputs fit entries events room = record { pairs = []; follow = tt; judges = refl; prints = refl }
   run_back (i ∷ is) w above F e sound inputs fit entries events room =

@@ -18,7 +18,7 @@ use Rattle.swap_wire.specs.Fabric.{FabricCall, FabricAnswer}
 use Rattle.swap_queue.specs.Queue as queue
 use Rattle.swap_queue.specs.Queue.{Copy}
 use Rattle.swap_calls.specs.Calls.{state_of, is_idle}
-use Rattle.swap_disk.specs.MemDiskView.{MemDiskView, port_of}
+use Rattle.swap_disk.specs.MemDiskView.{MemDiskView}
 use Rattle.swap_disk.specs.MemDiskView as drive
 use Rattle.swap_disk.specs.Disk as disk
 use Rattle.swap_disk.specs.Disk.{Flight, Finished, Taken, Write, Read, is_flight_of, finish_flight, in_flight}
@@ -38,7 +38,7 @@ use Rattle.swap_table.specs.declared.DiskStep.TheVariants as ends
 use Rattle.swap_table.specs.declared.Placed.{Placed}
 use Rattle.swap_table.specs.declared.LinkStep.{LinkStep}
 use Rattle.swap_table.specs.declared.LinkStep.TheVariants as link
-use Rattle.swap_table.proofs.Agree.{found}
+use Rattle.swap_table.proofs.HistoryAgreement.{found}
 use Rattle.swap_table.proofs.Programs.{Leads-answering}
 
 -- the results of each kind of event, of a device with so many pages

@@ -4,7 +4,6 @@ use Rattle.std.specs.Io.KnownBytes.{Appends, append_known}
 use Rattle.std.proofs.KnownBytes.{Appends-kept}
 use Rattle.swap_io.specs.Causes.{WasReadWhole}
 use Rattle.swap_io.specs.Gathered.{Gathered, gathered_bytes}
-use Rattle.swap_record.specs.declared.Verdict.{Verdict}
 use Rattle.swap_record.specs.declared.Verdict.TheVariants as verdict
 use Rattle.swap_script.specs.declared.ScriptRefused.{ScriptRefused}
 use Rattle.swap_script.specs.declared.TheConstants.{TEXT_LIMIT}
@@ -15,8 +14,8 @@ use Rattle.swap_transcript.specs.Verdicts.{Answers}
 use Rattle.swap_run.specs.declared.Ending.{Ending}
 use Rattle.swap_run.specs.declared.Ending.TheVariants as ending
 use Rattle.swap_run.specs.Judging.{verdict_line}
-use Rattle.swap_run.specs.Clause.{Stream, stream, TookNothing, Judged, CheckEnds}
-use Rattle.swap_run.specs.Checks.{ending_of, TextJudged, SourceJudged, VerdictEnds}
+use Rattle.swap_run.specs.Clause.{Stream, stream}
+use Rattle.swap_run.specs.Checks.{TextJudged, SourceJudged, VerdictEnds}
 use Rattle.swap_run.specs.Blocks.{IsFresh, HandsOn}
 use Rattle.swap_run.proofs.BlockEnds.{out_front, out_all, out_nothing, all_is_front}
 

@@ -4,22 +4,20 @@ use Rattle.std.specs.Io.KnownBytes.{Keeps, append_known}
 use Rattle.std.proofs.KnownBytes.{Appends-kept}
 use Rattle.std.proofs.lemmas.Bool.{leb-true}
 use Rattle.swap_io.specs.Causes.{Rose}
-use Rattle.swap_io.specs.Words.{number as number_of}
 use Rattle.swap_io.specs.Gathered.{Gathered, gathered_bytes}
 use Rattle.swap_record.specs.declared.Op.{Op}
 use Rattle.swap_record.specs.declared.Op.TheVariants as op
 use Rattle.swap_record.specs.History.{History, Row}
 use Rattle.std.specs.Prelude.{codes}
-use Rattle.swap_script.specs.Lines.{is_word}
-use Rattle.swap_table.proofs.Lists.{count_by-cons, one_if}
+use Rattle.swap_base.proofs.Lists.{count_by-cons, one_if}
 use Rattle.swap_drill.specs.Summary.{is_fault, entries_that}
 use Rattle.swap_drill.specs.Text.{drill_text}
 use Rattle.swap_run.specs.declared.Command.{Command}
-use Rattle.swap_run.specs.declared.Command.TheVariants.{RunScript, CheckTranscript, RunDrill}
+use Rattle.swap_run.specs.declared.Command.TheVariants.{RunDrill}
 use Rattle.swap_run.specs.declared.Ending.{Ending}
 use Rattle.swap_run.specs.declared.Ending.TheVariants as ending
 use Rattle.swap_run.specs.Run.{is_failed, has_failed}
-use Rattle.swap_run.specs.Clause.{Stream, stream, drill_of, command_of, MayRun, RanDrill, DrillEnds, DrillsComplete, Ends}
+use Rattle.swap_run.specs.Clause.{Stream, stream, RanDrill, DrillEnds, DrillsComplete, Ends}
 use Rattle.swap_run.specs.Blocks.{IsFresh, HandsOn}
 use Rattle.swap_run.proofs.BlockEnds.{out_front, out_all, out_nothing, all_is_front}
 

@@ -2,7 +2,7 @@
 use Rattle.std.proofs.Common.{◌≡◌, ℕ, ◌≤◌, true, false, List, ◌++◌, length, refl, sym, ap, ◌∙◌, subst, is_err, OnErr, OnOk, inl, inr, Option, None, Some, Result, Ok, Err}
 use Rattle.std.specs.Io.KnownBytes.{Appends, Keeps}
 use Rattle.swap_io.specs.Causes.{AppendsFront, HasCause, WasReadWhole}
-use Rattle.swap_slabs.specs.declared.TheConstants.{MOST_LENDERS}
+use Rattle.swap_base.specs.declared.TheConstants.{MOST_LENDERS}
 use Rattle.swap_world.specs.Laws.{AreInputs, AlwaysLegal, EachCallOnce, EntriesAreSeen}
 use Rattle.swap_newest.specs.Laws.{AlwaysLent}
 use Rattle.swap_world.specs.World.{World, start, reach, history}
@@ -14,10 +14,9 @@ use Rattle.swap_script.specs.Transcript.{end_line}
 use Rattle.swap_roundtrip.specs.Numbers.{NumbersFit}
 use Rattle.swap_roundtrip.specs.Back.{ScriptsAreReadBack}
 use Rattle.swap_roundtrip.proofs.Runs.{are_inputs}
-use Rattle.swap_run.specs.declared.Command.{Command}
 use Rattle.swap_run.specs.declared.Ending.{Ending}
 use Rattle.swap_run.specs.declared.Ending.TheVariants as ending
-use Rattle.swap_run.specs.Clause.{Ends, Stream, Told, TextEnds, ScriptEnds}
+use Rattle.swap_run.specs.Clause.{Stream, Told, TextEnds, ScriptEnds}
 use Rattle.swap_run.specs.Printing.{headers, lines_from}
 use Rattle.swap_run.specs.Run.{transcript_of, history_of, ScriptsKeepTheHeadline}
 

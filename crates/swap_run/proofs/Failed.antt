@@ -7,7 +7,7 @@ use Rattle.std.specs.List.{list_any}
 use Rattle.swap_record.specs.declared.Entry.{Entry}
 use Rattle.swap_record.specs.History.{History, Row, row_named}
 use Rattle.swap_run.specs.Run.{is_failed, is_failed_row, has_failed}
-use Rattle.swap_table.proofs.Lists.{not_eqb}
+use Rattle.swap_base.proofs.Lists.{not_eqb}
 
 -- the entry of a name is that many places from the oldest
 named_at : (H : History) (i : ℕ) (n : ℕ) (row : Row) → n + 1 + i ≡ length H → row_named H n ≡ Some (get_or H i row)

@@ -26,13 +26,15 @@ use Rattle.swap_device.specs.State.{KeepsRoom}
 use Rattle.swap_world.specs.Laws.{StepsAreNext, HistoriesGoOn}
 use Rattle.swap_table.specs.Happens.{happens}
 use Rattle.swap_world.specs.World.{World, Next, IsEvent, next, next_by, next_of, reach, seens, history}
-use Rattle.swap_world.specs.Runs.{WorldView, IsLogged, Adds, nothing, one, GoesOn, StandsIn, GrowsByCalls, is_new_call, has_effect, one_less_if}
+use Rattle.swap_world.specs.Runs.{WorldView, IsLogged, Adds, nothing, one, GoesOn, StandsIn, GrowsByCalls, has_effect, one_less_if}
 use Rattle.swap_script.specs.Reading.{Script, calls_of, calls_in, page_after, first_event, without_first, is_out}
 use Rattle.swap_script.specs.Laws.{LinesStay}
 use Rattle.swap_script.specs.Transcript.{HasEntry, line}
 use Rattle.swap_roundtrip.specs.Numbers.{LineFits, NumbersFit}
 use Rattle.swap_run.specs.Run.{lines_of}
 use Rattle.swap_run.specs.Printing.{world_in, lines_from, HasRoomFor, Printing}
+use Rattle.swap_roundtrip.proofs.Runs.{new_call}
+use Rattle.swap_world.proofs.CountsStayTrue.{adds_go_on}
 
 -- what a sink took, and then took more of
 pub appends_after : (a b c : Option (List ℕ)) (xs ys : List ℕ) → Appends a b xs → Appends b c ys → Appends a c (xs ++ ys)
@@ -170,23 +172,6 @@ lines_same stay H more (p ∷ pairs) all =
 
 lines_more : (H : History) (pairs : List (Event × Seen)) (p : Event × Seen) → lines_of H (pairs ++ p ∷ []) ≡ lines_of H pairs ++ line H p
 lines_more H pairs p = flat_map-append (line H) pairs (p ∷ []) ∙ ap (λ l. lines_of H pairs ++ l) (flat_map-cons (line H) p [] ∙ append-nil (line H p))
-
--- the calls that are left
-new_call : (e : Event) → is_new_call e ≡ calls_in e
-new_call (event.PageOut c p) = refl
-new_call (event.PageIn c p) = refl
-new_call (event.Finish c) = refl
-new_call event.Start = refl
-new_call (event.Disk w ok) = refl
-new_call (event.Tick w) = refl
-new_call (event.Map s l) = refl
-new_call (event.Connect l) = refl
-new_call (event.Give l) = refl
-new_call (event.Take l) = refl
-new_call (event.Cut l a b) = refl
-new_call (event.Crash l) = refl
-new_call (event.Host l u w) = refl
-new_call (event.Round w) = refl
 
 one_less : (b : Bool) (n m : ℕ) → n + 1 ≤ m → n ≤ one_less_if b m
 one_less true n m h = omega arith
@@ -327,11 +312,6 @@ err_by (Err e) P Q f h = f h
 pub ok_by : {T E : Type 0} (r : Result T E) (P Q : Type 0) → (P → Q) → OnOk r P → OnOk r Q
 ok_by (Ok x) P Q f h = f h
 ok_by (Err e) P Q f h = tt
-
--- what an event adds goes on from the history, and an entry that is seen of it stands there
-adds_go_on : (d : Device) (i : Input) (s : Seen) (H : History) → Adds d i s H → GoesOn d.history H
-adds_go_on d i s H (nothing seen_none same) = ([], same)
-adds_go_on d i s H (one row seen_one same answers) = (row ∷ [], same)
 
 adds_stand : (d : Device) (i : Input) (s : Seen) (H : History) → Adds d i s H → StandsIn H s
 adds_stand d i s H (nothing seen_none same) =

@@ -9,7 +9,7 @@ use Rattle.swap_wire.specs.declared.Seen.{Seen}
 use Rattle.swap_record.specs.declared.Op.{Op}
 use Rattle.swap_record.specs.declared.Op.TheVariants as op
 use Rattle.swap_record.specs.History.{Row}
-use Rattle.swap_table.proofs.Lists.{count_by-cons}
+use Rattle.swap_base.proofs.Lists.{count_by-cons}
 use Rattle.swap_world.specs.Failures.{is_write_failed, is_read_failed, failed_writes_in, failed_reads_in, HasItsCause, HoldsEntry, HoldsEntriesSeen}
 use Rattle.swap_world.specs.Runs.{entry_seen}
 use Rattle.swap_run.specs.Run.{is_failed, has_failed}

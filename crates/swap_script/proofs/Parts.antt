@@ -20,6 +20,7 @@ use Rattle.swap_script.specs.Reading.{Reads, AllRead, is_in, is_operators, is_ca
 use Rattle.swap_script.specs.Laws.{IsOfTrace}
 use Rattle.swap_script.specs.Spelled.{line_in, first_caller, is_caller}
 use Rattle.swap_io.specs.Words.{number}
+use Rattle.swap_base.proofs.Bools.{not_true}
 
 if_in : (b : Bool) (s : Sizes) (line : Line) (rest : List Input)
     → cond b (input_of s line ∷ rest) rest ≡ cons_option (option_map (input_of s) (cond b (Some line) None)) rest
@@ -158,10 +159,6 @@ calls_elsewhere d (Some c) word words (Some line) is e = out_of_part (part.Calls
 pub calls_elsewhere_of : (d : Caller) (words : List (List ℕ)) → is_caller d (first_caller words) ≡ false → line_in (part.CallsOf d) (trace_line words) ≡ None
 calls_elsewhere_of d [] is = refl
 calls_elsewhere_of d (word ∷ words) is = calls_elsewhere d (caller_word word) word words _ is refl
-
-not_true : (b : Bool) → not b ≡ true → b ≡ false
-not_true true e = cc
-not_true false e = refl
 
 pub elsewhere_calls : (g : Grammar) (tcp : Option ℕ) (p : Part) (d : Caller) (words : List (List ℕ)) (b : Bool) → p ≡ part.CallsOf d → g ≡ grammar.Trace tcp
     → b ≡ is_caller d (first_caller words) → not b ≡ true → line_in p (line_of g words) ≡ None

@@ -4,12 +4,7 @@ use Rattle.std.proofs.lemmas.Bool.{and_parts, leb-true}
 use Rattle.std.specs.List.{list_any}
 use Rattle.swap_base.specs.Sizes.{page_lengths}
 use Rattle.swap_io.specs.Words.{piece_of, pairs, lengths, is_piece, repeat_piece, fill_page, pattern}
-use Rattle.swap_io.proofs.Pieces.{divides, length-times}
-
-length-pairs : (word : List ℕ) → length (pairs word) ≡ length word / 2
-length-pairs [] = refl
-length-pairs (a ∷ []) = refl
-length-pairs (a ∷ b ∷ rest) = omega (arith, length-pairs rest)
+use Rattle.swap_io.proofs.Pieces.{divides, length-times, length-pairs}
 
 is_some-filled :
     (size : ℕ) (piece : List ℕ) (b hex : Bool) → is_piece size piece ≡ b → is_some (cond hex (Some piece) None) ≡ true

@@ -17,8 +17,9 @@ use Rattle.swap_script.specs.Lines.{words_of, kept_lines, is_word}
 use Rattle.swap_script.specs.Forms.{sizes_words, spec_words}
 use Rattle.swap_script.specs.Reading.{Script, Front, front_from, reading, text_events, text_lines, end_of, geometry_line, sizes_within, field_fault, spec_within, lender_line, lender_rest, lending_tests, lends_within, lent_bytes, first_fault, nothing_above, inputs_of, value_unless, fault_at, IsWithinLimits, MayLend, ◌>>=◌}
 use Rattle.swap_script.proofs.Read.{passes}
+use Rattle.swap_base.specs.declared.TheConstants.{MOST_LENT_BYTES}
 
-kept_sizes : (o : Option Field) (x s : Sizes) → field_fault (value_unless o x) ≡ Ok s → (o ≡ None) × (x ≡ s)
+pub kept_sizes : (o : Option Field) (x s : Sizes) → field_fault (value_unless o x) ≡ Ok s → (o ≡ None) × (x ≡ s)
 kept_sizes None x s e = (refl, cc)
 kept_sizes (Some field) x s e = cc
 
@@ -75,7 +76,7 @@ one_more_lends s others spec may limits e =
     record {
       count = leb-true (length specs) 8 count.0;
       limits = All-append IsWithinLimits others (spec ∷ []) may.limits (All-cons IsWithinLimits spec [] limits (All-nil IsWithinLimits));
-      lent = leb-true (lent_bytes s specs) 536_870_912 lent.0;
+      lent = leb-true (lent_bytes s specs) MOST_LENT_BYTES lent.0;
     }
 
 unless_none : {A : Type 0} (o : Option Why) (x y : A) → value_unless o x ≡ Ok y → (o ≡ None) × (x ≡ y)

@@ -181,7 +181,8 @@ pub fn fault_of(
     requires within { above.events ≤ EVENT_LIMIT }
     requires hex { is_out line.event ≡ true → is_some (piece_of line.hex.now) ≡ true }
     ensures { result
-        ≡ first_beyond (tests grammar geometry.now lenders (above_of above) (spelled_line line.entry)) }
+        ≡ first_beyond (tests grammar geometry.now lenders (above_of above)
+        (spelled_line line.entry)) }
 {
     if !are_addressed(grammar, lenders) {
         return Some(Why::Lenders);

@@ -6,15 +6,13 @@ ghost use Rattle.swap_script.specs.Forms.{spec_words};
 ghost use Rattle.swap_base.specs.Sizes.{first_beyond};
 ghost use Rattle.swap_script.specs.Reading.{lender_line, lender_rest, lending_tests, slots_of, spec_within, IsWithinLimits, MayLend};
 ghost use Rattle.swap_script.specs.Spelled.{spec_of};
+ghost use Rattle.swap_base.specs.declared.TheConstants.{MOST_LENDERS, MOST_SLOTS};
 
 use super::Why;
 use super::forms::{is_word, small};
 use super::text::Words;
 use std::marker::Model;
-use swap_base::{Geometry, LenderSpec};
-
-/// How many bytes all lenders may lend, at most.
-const LENT_BYTES: u64 = 536_870_912;
+use swap_base::{Geometry, LenderSpec, MOST_LENDERS, MOST_LENT_BYTES};
 
 /// The words behind the first of a lender line, if a line is one.
 pub fn lender_rest<'t>(line: &'t [u8]) -> Option<Words<'t>>
@@ -54,13 +52,10 @@ fn spec_words(words: Words<'_>) -> Option<(u32, u32, u32)>
     Some((slots, headroom, extra))
 }
 
-/// The most lenders that a text may have.
-const MOST_LENDERS: u32 = 8;
-
 /// The lenders of a text, in the order of their lines, and how many slots they have together.
 #[derive(Drop)]
 pub struct Lenders {
-    specs: [LenderSpec; 8],
+    specs: [LenderSpec; MOST_LENDERS as usize],
     count: u32,
     slots: u64,
 }
@@ -68,14 +63,15 @@ pub struct Lenders {
 impl Model for Lenders {
     ghost use Rattle.std.specs.Prelude.{◌≡◌, ◌≤◌, ◌*◌, List, length, take};
     ghost use Rattle.swap_base.specs.declared.geometry.LenderSpec.{LenderSpec};
+    ghost use Rattle.swap_base.specs.declared.TheConstants.{MOST_LENDERS, MOST_SLOTS};
     ghost use Rattle.swap_script.specs.Reading.{slots_of};
 
     ghost Value = { List LenderSpec };
 
     ghost view = { λ l. take l.count l.specs };
 
-    ghost invariant = { λ l. (length l.specs ≡ 8) × (l.count ≤ 8)
-        × (l.slots ≡ slots_of (take l.count l.specs)) × (l.slots ≤ 64 * l.count) };
+    ghost invariant = { λ l. (length l.specs ≡ MOST_LENDERS) × (l.count ≤ MOST_LENDERS)
+        × (l.slots ≡ slots_of (take l.count l.specs)) × (l.slots ≤ MOST_SLOTS * l.count) };
 }
 
 impl Lenders {
@@ -88,7 +84,7 @@ impl Lenders {
             extra: 0,
         };
         Lenders {
-            specs: [spec; 8],
+            specs: [spec; MOST_LENDERS as usize],
             count: 0,
             slots: 0,
         }
@@ -106,7 +102,7 @@ impl Lenders {
 
     pub fn count(&self) -> u32
         ensures count { result ≡ length self.now }
-        ensures within { result ≤ 8 }
+        ensures within { result ≤ MOST_LENDERS }
     {
         self.count
     }
@@ -122,14 +118,14 @@ impl Lenders {
     fn slots_with(&self, spec: &LenderSpec) -> u64
         requires { IsWithinLimits spec.now }
         ensures slots { result ≡ slots_of (self.now ++ spec.now ∷ []) }
-        ensures within { result ≤ 64 * length self.now + 64 }
+        ensures within { result ≤ MOST_SLOTS * length self.now + MOST_SLOTS }
     {
         self.slots + u64::from(spec.slots)
     }
 
     /// These lenders and one more.
     pub fn with(mut self, spec: LenderSpec) -> Lenders
-        requires count { length self < 8 }
+        requires count { length self < MOST_LENDERS }
         requires limits { IsWithinLimits spec }
         ensures { result ≡ self ++ spec ∷ [] }
     {
@@ -150,7 +146,7 @@ fn lending_fault(geometry: &Geometry, others: &Lenders, spec: &LenderSpec) -> Op
     }
     geometry.limits();
     let slab_bytes = u64::from(geometry.pages_per_slab()) * u64::from(geometry.page_bytes());
-    if others.slots_with(spec) * slab_bytes > LENT_BYTES {
+    if others.slots_with(spec) * slab_bytes > MOST_LENT_BYTES {
         return Some(Why::Lent);
     }
     None

@@ -4,6 +4,7 @@ ghost use Rattle.swap_choice.specs.Slots.{has, slots};
 ghost use Rattle.swap_script.specs.Lines.{words_behind};
 ghost use Rattle.swap_record.specs.Text.{entry_words};
 ghost use Rattle.swap_script.specs.Transcript.{header, lender_header, line, HasEntry, seen_words, sent_words, msg_name, msg_rest, msg_words, reply_words, slots_behind, evicted_words, second_words, gave_words, end_line, refusal, ok_or_bad, event_name, disk_words, event_rest, via_words, why_word, field_word};
+ghost use Rattle.swap_io.specs.declared.TheConstants.{LINE_LENGTH};
 
 use super::{ScriptRefused, Why};
 use swap_base::{DiskWhich, EntryNo, Field, Geometry, Lender, LenderSpec, Slab, Via};
@@ -14,7 +15,7 @@ use swap_wire::{Event, Msg, Seen};
 
 /// Appends a space and a word.
 fn word(out: &mut LineBuf, word: &[u8])
-    requires { length out.old + length word.now < 10_000 }
+    requires { length out.old + length word.now < LINE_LENGTH }
     ensures { out.new ≡ out.old ++ 32 ∷ word.now }
 {
     out.text(b" ");
@@ -23,7 +24,7 @@ fn word(out: &mut LineBuf, word: &[u8])
 
 /// Appends a space and a number.
 fn number(out: &mut LineBuf, n: u64)
-    requires { length out.old + 21 ≤ 10_000 }
+    requires { length out.old + 21 ≤ LINE_LENGTH }
     ensures text { out.new ≡ out.old ++ 32 ∷ decimal n }
     ensures length { length out.new ≤ length out.old + 21 }
 {
@@ -32,7 +33,7 @@ fn number(out: &mut LineBuf, n: u64)
 }
 
 fn two_numbers(out: &mut LineBuf, a: u64, b: u64)
-    requires { length out.old + 42 ≤ 10_000 }
+    requires { length out.old + 42 ≤ LINE_LENGTH }
     ensures text { out.new ≡ out.old ++ words_behind (decimal a ∷ decimal b ∷ []) }
     ensures length { length out.new ≤ length out.old + 42 }
 {
@@ -41,7 +42,7 @@ fn two_numbers(out: &mut LineBuf, a: u64, b: u64)
 }
 
 fn three_numbers(out: &mut LineBuf, a: u64, b: u64, c: u64)
-    requires { length out.old + 63 ≤ 10_000 }
+    requires { length out.old + 63 ≤ LINE_LENGTH }
     ensures text { out.new ≡ out.old ++ words_behind (decimal a ∷ decimal b ∷ decimal c ∷ []) }
     ensures length { length out.new ≤ length out.old + 63 }
 {
@@ -342,7 +343,8 @@ fn reply_words(reply: &Option<Msg>, out: &mut LineBuf)
 /// Appends a slot, if a set has it.
 fn slot_word(set: u64, slot: u32, out: &mut LineBuf)
     requires { length out.old ≤ 9_000 }
-    ensures text { out.new ≡ out.old ++ words_behind (if has set slot then decimal slot ∷ [] else []) }
+    ensures text { out.new
+        ≡ out.old ++ words_behind (if has set slot then decimal slot ∷ [] else []) }
     ensures length { length out.new ≤ length out.old + 21 }
 {
     if has_slot(set, slot) {

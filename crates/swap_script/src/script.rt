@@ -6,6 +6,7 @@ ghost use Rattle.swap_script.specs.Lines.{words_of};
 ghost use Rattle.swap_script.specs.Forms.{line_of};
 ghost use Rattle.swap_script.specs.Spelled.{spelled_line, line_in};
 ghost use Rattle.swap_script.specs.Reading.{script, reading, front_from, text_events, end_of, first_fault, nothing_above, inputs_of, input_of, calls_of, lent_bytes, is_in, is_call_of, is_operators, script_part, IsWithinLimits, MayLend, Reads, first_event, page_after, without_first};
+ghost use Rattle.swap_base.specs.declared.TheConstants.{MOST_LENDERS, MOST_LENT_BYTES};
 
 use super::faults::{Counts, are_addressed, fault_of, is_out};
 use super::forms::{Line, begins_with, geometry_line, is_call, line_of};
@@ -83,7 +84,8 @@ fn is_elsewhere(grammar: Grammar, part: Part, line: &[u8]) -> bool
 
 /// The event of a line, if the line has the form of one and its event is in a part.
 fn line_in<'t>(grammar: Grammar, part: Part, line: &'t [u8]) -> Option<Line<'t>>
-    ensures line { option_map spelled_line result ≡ line_in part (line_of grammar (words_of line.now)) }
+    ensures line { option_map spelled_line result
+        ≡ line_in part (line_of grammar (words_of line.now)) }
 {
     if is_elsewhere(grammar, part, line) {
         return None;
@@ -102,7 +104,8 @@ impl<'t> Walk<'t> {
         ensures sizes { self.new.sizes ≡ self.old.sizes }
         ensures lenders { self.new.lenders ≡ self.old.lenders }
         ensures next { MatchOption result ((self.old.inputs ≡ []) × (self.new.inputs ≡ []))
-            (λ line. self.old.inputs ≡ input_of self.old.sizes (spelled_line line) ∷ self.new.inputs) }
+            (λ line. self.old.inputs
+            ≡ input_of self.old.sizes (spelled_line line) ∷ self.new.inputs) }
         ensures reads { IfSome result
             (λ line. Reads self.old.sizes (length self.old.lenders) (Some (spelled_line line))) }
     {
@@ -174,7 +177,7 @@ impl<'t> Script<'t> {
     /// How many lenders the script has.
     pub fn lenders(&self) -> u32
         ensures count { result ≡ length self.now.lenders }
-        ensures within { result ≤ 8 }
+        ensures within { result ≤ MOST_LENDERS }
     {
         self.lenders.count()
     }
@@ -185,7 +188,7 @@ impl<'t> Script<'t> {
         requires { i < length self.now.lenders }
         ensures spec { slice_get self.now.lenders i ≡ Some result }
         ensures limits { IsWithinLimits result }
-        ensures lent { lent_bytes self.now.sizes self.now.lenders ≤ 536_870_912 }
+        ensures lent { lent_bytes self.now.sizes self.now.lenders ≤ MOST_LENT_BYTES }
     {
         self.lenders.get(i)
     }

@@ -19,9 +19,7 @@ use Rattle.swap_node.specs.declared.node.Ear.{Ear}
 use Rattle.swap_serve.specs.Hearing.{Hearing, IsBegun, IsHearing, IsHeard, GoesOn}
 use Rattle.swap_serve.specs.Steps.{Hears, Fills, RunsDry, Reads}
 use Rattle.swap_serve.proofs.Frames.{sent_last, frames_last, hopeless_more}
-
-again : (n f : ℕ) → count_up (count_up n + f) ≡ count_up (n + f)
-again n f = omega arith
+use Rattle.swap_wire.proofs.Streaming.{again, fed_alive}
 
 -- bytes that were read, and then more
 pub read_more : (a b c : Option (List ℕ)) (bytes more : List ℕ) → WasRead a b bytes → WasRead b c more → WasRead a c (bytes ++ more)
@@ -39,9 +37,6 @@ pub read_none : (a b : Option (List ℕ)) → Keeps a b → WasRead a b []
 read_none None b p = tt
 read_none (Some x) None p = absurd p
 read_none (Some x) (Some y) p = sym p
-
-fed_alive : (d : DecoderView) (bytes : List ℕ) → d.bad ≡ false → feed_after d bytes ≡ record d { rest = d.rest ++ take (room d) bytes }
-fed_alive d bytes e = cond-false d.bad d (record d { rest = d.rest ++ take (room d) bytes }) e
 
 -- what is fed is kept, and the rest is still ahead
 fed_goes : (d : DecoderView) (bytes : List ℕ) → d.bad ≡ false → (d.rest ++ bytes) ++ [] ≡ (feed_after d bytes).rest ++ drop (bytes_taken d bytes) bytes

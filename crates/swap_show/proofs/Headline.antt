@@ -7,7 +7,7 @@ use Rattle.swap_base.specs.Sizes.{Sizes}
 use Rattle.swap_base.specs.declared.geometry.LenderSpec.{LenderSpec}
 use Rattle.swap_wire.specs.declared.Event.{Event}
 use Rattle.swap_wire.specs.declared.Seen.{Seen}
-use Rattle.swap_slabs.specs.declared.TheConstants.{MOST_LENDERS}
+use Rattle.swap_base.specs.declared.TheConstants.{MOST_LENDERS}
 use Rattle.swap_disk.specs.MemDiskView as drive
 use Rattle.swap_disk.specs.MemDiskView.{MemDiskView, new_drive, port_of}
 use Rattle.swap_link.specs.Channel.{Channel}
@@ -22,8 +22,8 @@ use Rattle.swap_world.specs.Laws as world
 use Rattle.swap_world.specs.Laws.{Began}
 use Rattle.swap_world.specs.Runs.{WorldView, IsRun, begin, made_of}
 use Rattle.swap_world.specs.World.{new_harbor}
-use Rattle.swap_world.proofs.Memory.{drive_meaning, harbor_meaning}
-use Rattle.swap_world.proofs.Runs.{all_faithful}
+use Rattle.swap_world.proofs.WorldInMemoryStaysSound.{drive_meaning, harbor_meaning}
+use Rattle.swap_world.proofs.HoldsAfterRuns.{all_faithful}
 use Rattle.swap_newest.specs.Laws as newest
 use Rattle.swap_board.specs.Acts.{Act, IsActed, lines_of}
 use Rattle.swap_play.specs.Running.{RunsTo, ActsAreRuns}

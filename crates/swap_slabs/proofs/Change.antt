@@ -11,7 +11,7 @@ use Rattle.swap_base.specs.declared.Lease.{Lease}
 use Rattle.swap_slabs.specs.declared.SlabState.{SlabState}
 use Rattle.swap_slabs.specs.declared.SlabState.TheVariants.{Local, Asking, Borrowing, Mapped, Draining}
 use Rattle.swap_slabs.specs.declared.row.Leased.{Leased}
-use Rattle.swap_slabs.specs.declared.TheConstants.{MOST_LENDERS}
+use Rattle.swap_base.specs.declared.TheConstants.{MOST_LENDERS}
 use Rattle.swap_slabs.specs.Slabs.{state_of, is_at, has_lease_at, has_lease, is_mapped}
 use Rattle.swap_slabs.specs.Kept.{StateFits, IsSlabs}
 use Rattle.swap_places.specs.Line.{stands}

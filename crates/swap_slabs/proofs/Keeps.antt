@@ -8,7 +8,7 @@ use Rattle.swap_slabs.specs.declared.Reply.{Reply}
 use Rattle.swap_slabs.specs.declared.Pair.{Pair}
 use Rattle.swap_slabs.specs.declared.SlabState.{SlabState}
 use Rattle.swap_slabs.specs.declared.SlabState.TheVariants.{Local, Asking, Borrowing, Mapped, Draining}
-use Rattle.swap_slabs.specs.declared.TheConstants.{MOST_LENDERS, MOST_FLYING}
+use Rattle.swap_base.specs.declared.TheConstants.{MOST_LENDERS, MOST_WINDOW}
 use Rattle.swap_slabs.specs.Slabs.{state_of, with_state, is_borrowing, waits, with_reply, answered_state, after_answer, after_lent, after_begin, after_settled, after_evict, drain_to, flying_of, leased_of}
 use Rattle.swap_slabs.specs.Kept.{StateFits, IsSlabs, IsNew, SetsState, AllLocalKeeps, AskKeeps, AnswerKeeps, BorrowKeeps, LentKeeps, RefusedKeeps, BeginKeeps, SettledKeeps, EvictKeeps, LostKeeps}
 use Rattle.swap_slabs.proofs.Moves.{slabs_none, slabs_same, lent_slabs, replied_fits}
@@ -68,7 +68,7 @@ module _ (states : List SlabState) (slab : Slab) (h : IsSlabs states) (lt : slab
   lent_case k (Mapped o j n) e b new = absurd (false≢true b)
   lent_case k (Draining o j n) e b new = absurd (false≢true b)
 
-  begin_case : (s : SlabState) → state_of states slab ≡ s → flying_of s < MOST_FLYING → IsSlabs (with_state states slab (after_begin s))
+  begin_case : (s : SlabState) → state_of states slab ≡ s → flying_of s < MOST_WINDOW → IsSlabs (with_state states slab (after_begin s))
   begin_case Local e less = keep Local e
   begin_case (Asking pair) e less = keep (Asking pair) e
   begin_case (Borrowing o) e less = keep (Borrowing o) e
@@ -76,7 +76,7 @@ module _ (states : List SlabState) (slab : Slab) (h : IsSlabs states) (lt : slab
   begin_case (Draining o k n) e less = keep (Draining o k n) e
 
   drained_keeps :
-      (o : Lender) (k : Lease) (n : ℕ) → leased_of (state_of states slab) ≡ Some (o, k) → o.0 < MOST_LENDERS → n ≤ MOST_FLYING
+      (o : Lender) (k : Lease) (n : ℕ) → leased_of (state_of states slab) ≡ Some (o, k) → o.0 < MOST_LENDERS → n ≤ MOST_WINDOW
       → IsSlabs (with_state states slab (drain_to o k n))
   drained_keeps o k n e within le =
       ⊎_elim

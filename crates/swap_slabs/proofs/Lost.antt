@@ -10,7 +10,7 @@ use Rattle.swap_base.specs.declared.Lender.{Lender}
 use Rattle.swap_base.specs.declared.Lease.{Lease}
 use Rattle.swap_slabs.specs.declared.SlabState.{SlabState}
 use Rattle.swap_slabs.specs.declared.SlabState.TheVariants.{Local}
-use Rattle.swap_slabs.specs.declared.TheConstants.{MOST_LENDERS}
+use Rattle.swap_base.specs.declared.TheConstants.{MOST_LENDERS}
 use Rattle.swap_slabs.specs.Slabs.{state_of, is_mapped, is_at, has_lease_at, has_lease, after_lost, lost_after, all_local}
 use Rattle.swap_slabs.specs.Kept.{StateFits, IsSlabs}
 use Rattle.swap_slabs.specs.Rows.{RowView, new_row, one_if, borrows_from, RowFits, Fits}

@@ -14,7 +14,7 @@ use Rattle.swap_slabs.specs.declared.Pair.{Pair}
 use Rattle.swap_slabs.specs.declared.SlabState.{SlabState}
 use Rattle.swap_slabs.specs.declared.SlabState.TheVariants.{Local, Asking, Borrowing, Mapped, Draining}
 use Rattle.swap_slabs.specs.declared.row.Leased.{Leased}
-use Rattle.swap_slabs.specs.declared.TheConstants.{MOST_LENDERS, MOST_FLYING}
+use Rattle.swap_base.specs.declared.TheConstants.{MOST_LENDERS, MOST_WINDOW}
 use Rattle.swap_slabs.specs.Slabs.{state_of, with_state, is_local, is_mapped, lender_of, leased_of, is_lender, is_leased_at, is_lease, is_at, has_lease_at, has_lease, flying_of, with_reply, waits, by_lease}
 use Rattle.swap_slabs.specs.Kept.{IsSecond, StateFits, IsSlabs}
 use Rattle.swap_slabs.specs.Rows.{RowView, has_number, is_entry, without_lease, row_of, one_if, Puts, SetsBorrowing, borrows_from, RowFits, Fits}
@@ -339,7 +339,7 @@ module _ (states : List SlabState) (slab : Slab) (table : List RowView) (m m' : 
 
 -- a slab that is leased is of a lender in range, with as many flying as may be
 pub leased_range :
-    (state : SlabState) (l : Lender) (k : Lease) → StateFits state → leased_of state ≡ Some (l, k) → (l.0 < MOST_LENDERS) × (flying_of state ≤ MOST_FLYING)
+    (state : SlabState) (l : Lender) (k : Lease) → StateFits state → leased_of state ≡ Some (l, k) → (l.0 < MOST_LENDERS) × (flying_of state ≤ MOST_WINDOW)
 leased_range Local l k fits e = cc
 leased_range (Asking pair) l k fits e = cc
 leased_range (Borrowing lender) l k fits e = cc

@@ -13,7 +13,7 @@ use Rattle.swap_slabs.specs.declared.SlabState.{SlabState}
 use Rattle.swap_slabs.specs.declared.SlabState.TheVariants.{Local}
 use Rattle.swap_slabs.specs.declared.row.Leased.{Leased}
 use Rattle.swap_slabs.specs.Slabs.{state_of}
-use Rattle.swap_slabs.specs.declared.TheConstants.{MOST_LENDERS}
+use Rattle.swap_base.specs.declared.TheConstants.{MOST_LENDERS}
 use Rattle.swap_slabs.specs.Rows.{RowView, new_row, has_number, without_lease, slab_in, number_of, Ascend, IsPlace, row_of, Fits}
 
 pub row_read :

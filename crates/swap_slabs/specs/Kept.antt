@@ -6,7 +6,7 @@ use Rattle.swap_base.specs.declared.Lease.{Lease}
 use Rattle.swap_slabs.specs.declared.Reply.{Reply}
 use Rattle.swap_slabs.specs.declared.SlabState.{SlabState}
 use Rattle.swap_slabs.specs.declared.SlabState.TheVariants.{Local, Asking, Borrowing, Mapped, Draining}
-use Rattle.swap_slabs.specs.declared.TheConstants.{MOST_LENDERS, MOST_FLYING}
+use Rattle.swap_base.specs.declared.TheConstants.{MOST_LENDERS, MOST_WINDOW}
 use Rattle.swap_slabs.specs.Slabs.{all_local, state_of, with_state, has_lease, is_borrowing, asks, waits, flying_of, asked_after, answered_after, borrowed_after, lent_after, refused_after, begun_after, settled_after, evicted_after, lost_after, by_lease}
 
 -- a second lender is another one, and where there is none no reply of it is waited for
@@ -20,8 +20,8 @@ abbrev pub StateFits : SlabState → Type 0
 StateFits Local = Unit {0}
 StateFits (Asking pair) = (pair.first.0 < MOST_LENDERS) × IsSecond pair.first pair.second × (waits pair ≡ true)
 StateFits (Borrowing lender) = lender.0 < MOST_LENDERS
-StateFits (Mapped lender lease flying) = (lender.0 < MOST_LENDERS) × (flying ≤ MOST_FLYING)
-StateFits (Draining lender lease flying) = (lender.0 < MOST_LENDERS) × (1 ≤ flying) × (flying ≤ MOST_FLYING)
+StateFits (Mapped lender lease flying) = (lender.0 < MOST_LENDERS) × (flying ≤ MOST_WINDOW)
+StateFits (Draining lender lease flying) = (lender.0 < MOST_LENDERS) × (1 ≤ flying) × (flying ≤ MOST_WINDOW)
 
 -- and a lease of a lender is held by at most one slab that is mapped or drains
 pub record IsSlabs (states : List SlabState) : Type 0 where
@@ -78,7 +78,7 @@ RefusedKeeps =
 abbrev pub BeginKeeps : Type 0
 BeginKeeps =
     (states : List SlabState) (slab : Slab) → IsSlabs states → slab.0 < length states
-    → flying_of (state_of states slab) < MOST_FLYING → IsSlabs (begun_after states slab)
+    → flying_of (state_of states slab) < MOST_WINDOW → IsSlabs (begun_after states slab)
 
 abbrev pub SettledKeeps : Type 0
 SettledKeeps =

@@ -8,7 +8,7 @@ use Rattle.swap_base.specs.declared.Lease.{Lease}
 use Rattle.swap_places.specs.Line.{stands}
 use Rattle.swap_slabs.specs.declared.SlabState.{SlabState}
 use Rattle.swap_slabs.specs.declared.row.Leased.{Leased}
-use Rattle.swap_slabs.specs.declared.TheConstants.{MOST_LENDERS}
+use Rattle.swap_base.specs.declared.TheConstants.{MOST_LENDERS}
 use Rattle.swap_slabs.specs.Slabs.{state_of, is_at, has_lease_at, has_lease, mapped_count}
 use Rattle.swap_slabs.specs.Kept.{IsSlabs}
 

@@ -9,12 +9,6 @@ mod slabs;
 pub use slabs::Slabs;
 use swap_base::{Lease, Lender};
 
-/// How many lenders there may be.
-pub const MOST_LENDERS: u32 = 8;
-
-/// How many requests may fly for a slab.
-pub const MOST_FLYING: u32 = 64;
-
 /// What is known of a lender that was asked.
 #[derive(Clone, Copy, Debug, PartialEq, Eq)]
 pub enum Reply {

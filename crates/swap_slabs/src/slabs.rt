@@ -4,10 +4,10 @@ ghost use Rattle.swap_slabs.specs.Kept.{IsSlabs, IsSecond, IsNew};
 ghost use Rattle.swap_slabs.specs.Rows.{new_row, one_if};
 
 use crate::row::{Leased, Row};
-use crate::{Chosen, MOST_FLYING, MOST_LENDERS, Pair, Reply, SlabState};
+use crate::{Chosen, Pair, Reply, SlabState};
 use std::alloc::Global;
 use std::marker::Model;
-use swap_base::{Geometry, Lease, Lender, NoMemory, Slab};
+use swap_base::{Geometry, Lease, Lender, MOST_LENDERS, MOST_WINDOW, NoMemory, Slab};
 
 /// The states of the slabs, seen as their list. All memory is taken at `make`.
 #[derive(Drop)]
@@ -235,7 +235,7 @@ impl Slabs {
     pub fn begin(&mut self, slab: Slab)
         requires slab { slab.0 < length self.old }
         requires state { IsTrue (is_mapped (state_of self.old slab)) }
-        requires flying { flying_of (state_of self.old slab) < MOST_FLYING }
+        requires flying { flying_of (state_of self.old slab) < MOST_WINDOW }
         ensures { self.new ≡ begun_after self.old slab }
     {
         let SlabState::Mapped {

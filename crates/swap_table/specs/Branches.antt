@@ -1,8 +1,7 @@
 -- Branches of the device's table that no script reaches, over a fabric that is a list of answers.
-use Rattle.std.specs.Prelude.{◌≡◌, ℕ, Bool, true, false, List, [], ◌∷◌, ◌++◌, map, replicate, Option, None, Some}
+use Rattle.std.specs.Prelude.{◌≡◌, ℕ, Bool, true, false, List, [], ◌∷◌, ◌++◌, map, replicate, None, Some}
 use Rattle.swap_base.specs.declared.Page.{Page}
 use Rattle.swap_base.specs.declared.Caller.{Caller}
-use Rattle.swap_base.specs.declared.EntryNo.{EntryNo}
 use Rattle.swap_base.specs.declared.Slab.{Slab}
 use Rattle.swap_base.specs.declared.Lender.{Lender}
 use Rattle.swap_base.specs.declared.Lease.{Lease}
@@ -24,7 +23,7 @@ use Rattle.swap_slabs.specs.Slabs.{state_of}
 use Rattle.swap_slabs.specs.declared.SlabState.{SlabState}
 use Rattle.swap_slabs.specs.declared.SlabState.TheVariants.{Local, Borrowing, Mapped, Draining}
 use Rattle.swap_rings.specs.Rings.{is_up}
-use Rattle.swap_table.specs.Ports.{Prog, run}
+use Rattle.swap_table.specs.Ports.{run}
 use Rattle.swap_table.specs.Device.{Device, device_at_start}
 use Rattle.swap_table.specs.Happens.{happens}
 

@@ -33,7 +33,7 @@ use Rattle.swap_slabs.specs.Slabs as slabs
 use Rattle.swap_slabs.specs.declared.Reply.TheVariants as reply
 use Rattle.swap_slabs.specs.declared.Chosen.{Chosen}
 use Rattle.swap_slabs.specs.declared.Chosen.TheVariants as chosen
-use Rattle.swap_slabs.specs.declared.TheConstants.{MOST_LENDERS}
+use Rattle.swap_base.specs.declared.TheConstants.{MOST_LENDERS}
 use Rattle.swap_activity.specs.Rates.{Activity}
 use Rattle.swap_rates.specs.Table as rates
 use Rattle.swap_choice.specs.declared.lenders.Asked.{Asked}
@@ -60,8 +60,9 @@ use Rattle.swap_table.specs.declared.DiskStep.TheVariants as disk
 use Rattle.swap_table.specs.declared.Placed.{Placed}
 use Rattle.swap_table.specs.declared.LinkStep.{LinkStep}
 use Rattle.swap_table.specs.declared.LinkStep.TheVariants as link
-use Rattle.swap_table.specs.declared.TheConstants.{MOST_LINKS, WIRE_VERSION}
+use Rattle.swap_table.specs.declared.TheConstants.{MOST_LINKS}
 use Rattle.swap_table.specs.Ports.{Prog, Ret, AskDisk, AskFabric, answering, and_then}
+use Rattle.swap_wire.specs.declared.TheConstants.{WIRE_VERSION}
 
 -- The newest entry of a page is the history's last page-out of it, and isn't kept beside the history.
 pub record Device : Type 0 where

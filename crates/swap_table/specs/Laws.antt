@@ -9,7 +9,7 @@ use Rattle.swap_base.specs.Sizes.{Sizes, pages_of}
 use Rattle.swap_disk.specs.declared.port.DiskPort.{Ghosts as DiskMeaning}
 use Rattle.swap_wire.specs.declared.fabric.Fabric.{Ghosts as FabricMeaning}
 use Rattle.swap_calls.specs.Calls.{state_of, is_idle}
-use Rattle.swap_slabs.specs.declared.TheConstants.{MOST_LENDERS}
+use Rattle.swap_base.specs.declared.TheConstants.{MOST_LENDERS}
 use Rattle.swap_table.specs.Ports.{Prog, Leads}
 use Rattle.swap_table.specs.Device.{Device, of_device, device_at_start, out, read, finish, disk_start, disk_take, disk_finish, link_take, tick, map, connect, give_to, cut, crash, host}
 use Rattle.swap_table.specs.Fits.{Fits, IsBlank}

@@ -12,9 +12,6 @@ use swap_wire::{Fabric, Msg};
 /// How many links may be made.
 pub const MOST_LINKS: u32 = 4_294_967_295;
 
-/// The version of the messages that a device speaks.
-pub const WIRE_VERSION: u32 = 1;
-
 /// What a page-out's first step answers.
 #[derive(Clone, Copy, Debug, PartialEq, Eq)]
 pub enum OutStep {

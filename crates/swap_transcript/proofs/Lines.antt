@@ -14,7 +14,7 @@ use Rattle.swap_script.specs.Lines.{words_of, is_word}
 use Rattle.swap_script.specs.Reading.{◌>>=◌, fault_at, caller_of, has_caller, has_page}
 use Rattle.swap_transcript.specs.Readers.{Words}
 use Rattle.swap_transcript.specs.Told.{page_word}
-use Rattle.swap_transcript.specs.Transcripts.{Pair, Above, Judged, pair_of, check_pair, count_pair, end_rest, end_number, counts, ended_at, pair_before, pairs_from, with_pair, judging, tests, entries_in, tells_page}
+use Rattle.swap_transcript.specs.Transcripts.{Pair, Above, pair_of, check_pair, count_pair, end_number, counts, ended_at, pair_before, pairs_from, tests, entries_in, tells_page}
 use Rattle.swap_script.specs.declared.TheConstants.{CALL_BYTES, EVENT_LIMIT}
 
 -- a line that isn't the end's

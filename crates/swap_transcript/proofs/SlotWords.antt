@@ -7,12 +7,13 @@ use Rattle.std.proofs.lemmas.Bool.{cases_eq, eq-eqb, ne_eqb, and_parts, and_from
 use Rattle.std.proofs.lemmas.Nat.{or_lt, pow_below}
 use Rattle.std.proofs.lemmas.Nat.Bits.{bit_at-zero, bit_at-lt, same_from_bits_below}
 use Rattle.swap_choice.specs.Slots.{has, slots}
-use Rattle.swap_choice.proofs.Ranks.{has-fold}
+use Rattle.swap_choice.proofs.Ranks.{has-or, bit_from_has}
 use Rattle.swap_script.specs.Forms.{small_number}
 use Rattle.swap_transcript.specs.Readers.{Words}
 use Rattle.swap_transcript.specs.Gave.{slots_from, slots_of}
 use Rattle.swap_transcript.proofs.Front.{bind_some, bound, small-only, small-back}
 use Rattle.swap_transcript.proofs.EntryBack.{cond_then}
+use Rattle.swap_base.proofs.Bools.{or_true}
 
 -- the slots of a set from one on, so many of them
 abbrev upwards : ℕ → ℕ → ℕ → List ℕ
@@ -35,18 +36,11 @@ or_false : (b : Bool) → (b || false) ≡ b
 or_false true = refl
 or_false false = refl
 
-or_true : (b : Bool) → (b || true) ≡ true
-or_true true = refl
-or_true false = refl
-
-has_more : (set slot i : ℕ) → has (bit_or set (2 ^ slot)) i ≡ (has set i || eqb i slot)
-has_more set slot i = has-fold (slot ∷ []) set i ∙ ap (λ b. has set i || b) (or_false (eqb i slot))
-
 has_other : (set slot i : ℕ) → i ≢ slot → has (bit_or set (2 ^ slot)) i ≡ has set i
-has_other set slot i other = has_more set slot i ∙ ap (λ b. has set i || b) (ne_eqb i slot other) ∙ or_false (has set i)
+has_other set slot i other = has-or set slot i ∙ ap (λ b. has set i || b) (ne_eqb i slot other) ∙ or_false (has set i)
 
 has_this : (set slot : ℕ) → has (bit_or set (2 ^ slot)) slot ≡ true
-has_this set slot = has_more set slot slot ∙ ap (λ b. has set slot || b) (eq-eqb slot slot refl) ∙ or_true (has set slot)
+has_this set slot = has-or set slot slot ∙ ap (λ b. has set slot || b) (eq-eqb slot slot refl) ∙ or_true (has set slot)
 
 -- the first that is there
 first_upwards :
@@ -95,17 +89,8 @@ slots_from-only (word ∷ words) least set r l empty e =
       small = λ a. later.small (or_lt 64 set (2 ^ slot) a (pow_below slot 64 high));
     }
 
--- numbers below 2 ^ 64 with the same slots are one
-bit_of : (x y : ℕ) → x < 2 → y < 2 → eqb x 1 ≡ eqb y 1 → x ≡ y
-bit_of zero zero a b e = refl
-bit_of zero (suc zero) a b e = cc
-bit_of (suc zero) zero a b e = cc
-bit_of (suc zero) (suc zero) a b e = refl
-bit_of (suc (suc x)) y a b e = absurd (omega arith)
-bit_of x (suc (suc y)) a b e = absurd (omega arith)
-
 same_slots : (a b : ℕ) → a < 2 ^ 64 → b < 2 ^ 64 → Agree a b 64 → a ≡ b
-same_slots a b la lb h = same_from_bits_below 64 a b la lb (λ i l. bit_of (bit_at a i) (bit_at b i) (bit_at-lt a i) (bit_at-lt b i) (h i l))
+same_slots a b la lb h = same_from_bits_below 64 a b la lb (λ i l. bit_from_has (bit_at a i) (bit_at b i) (bit_at-lt a i) (bit_at-lt b i) (h i l))
 
 agree_more : (set part least i : ℕ) → has set least ≡ true → i < least + 1 → Agree part set least → has (bit_or part (2 ^ least)) i ≡ has set i
 agree_more set part least i is l agree =

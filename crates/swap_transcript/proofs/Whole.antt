@@ -25,6 +25,7 @@ use Rattle.swap_transcript.specs.Laws.{sizes_rest, spec_rest, geometry_words, le
 use Rattle.swap_script.proofs.Read.{passes}
 use Rattle.swap_transcript.proofs.Front.{bind_some, bound, small-only, small-back}
 use Rattle.swap_transcript.proofs.ResultWords.{pair_of-only}
+use Rattle.swap_script.proofs.Scripts.{kept_sizes}
 
 pub bind_ok : {A B E : Type 0} (r : Result A E) (f : A → Result B E) (y : B) → (r >>= f) ≡ Ok y → (x : A) × (r ≡ Ok x) × (f x ≡ Ok y)
 bind_ok (Ok x) f y e = (x, refl, e)
@@ -116,15 +117,10 @@ sizes_words-back s h =
     s.hot
     (small-back s.hot (omega (arith, h.hot.1)))
 
--- the geometry's line
-fielded_ok : (o : Option Field) (x s : Sizes) → field_fault (value_unless o x) ≡ Ok s → (o ≡ None) × (x ≡ s)
-fielded_ok None x s e = (refl, cc)
-fielded_ok (Some f) x s e = cc
-
 sizes_if : (words : Words) (s : Sizes) (o : Option Sizes) → sizes_words words ≡ o → sizes_within o ≡ Ok s → AreInLimits s × (words ≡ sizes_rest s)
 sizes_if words s None is e = cc
 sizes_if words s (Some x) is e =
-    let ok = fielded_ok (first_beyond (limits x)) x s e in
+    let ok = kept_sizes (first_beyond (limits x)) x s e in
     (sym (ap (λ y. first_beyond (limits y)) ok.1) ∙ ok.0, sizes_words-only words s (is ∙ ap (λ y. Some y) ok.1))
 
 geometry_if :

@@ -326,7 +326,8 @@ fn host_seen(first: &[u8], words: Words<'_>) -> Option<Seen>
 
 /// A result of one word, or the dash.
 fn word_or_nothing(name: &[u8], seen: Seen, first: &[u8], words: Words<'_>) -> Option<Seen>
-    ensures { result ≡ by_row (row name.now (bare_result seen) ∷ nothing_rows) first.now words.entry }
+    ensures { result
+        ≡ by_row (row name.now (bare_result seen) ∷ nothing_rows) first.now words.entry }
 {
     if is_word(first, name) {
         bare(seen, words)

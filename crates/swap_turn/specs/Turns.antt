@@ -1,5 +1,6 @@
 -- The rule of the lock of turns, and what each step tells.
 use Rattle.std.specs.Prelude.{◌≡◌, ◌≢◌, ◌⊎◌, ℕ, zero, suc, ◌+◌, ◌-◌, ◌<◌, ◌≤◌, true, false, nat_le, if◌then◌else◌, List, [], ◌∷◌, ◌++◌, map, length, take, Option, Some, All}
+use Rattle.swap_turn.specs.declared.TheConstants.{MOST_SEATS}
 use mathlib.Core.Option.{some, none}
 use mathlib.Core.Option as maybe
 use lib.ListN.{get_elem?}
@@ -119,7 +120,7 @@ module _ {T : Type 0} (history : T → History) where
     pub words_are : s.words ≡ ticket ∷ serving ∷ length log ∷ made ∷ []
     pub homes_are : s.homes ≡ home ∷ []
     pub serving_low : serving ≤ 9223372036854775808
-    pub made_low : made ≤ 64
+    pub made_low : made ≤ MOST_SEATS
     -- the tickets that seats hold are those from `serving` on, each once
     pub tickets_are :
         (h : ℕ → ℕ) → total (λ v. weigh h (tickets v)) s.views + weigh_below h serving ≡ weigh_below h ticket

@@ -12,6 +12,9 @@ mod view;
 pub use lock::{Pass, Turn, TurnLock};
 pub use view::{Opening, Stage, Told, Turning, View};
 
+/// How many passes a lock may have.
+pub const MOST_SEATS: u32 = 64;
+
 /// What a turn may add to the history.
 pub fn laws()
     ensures nothing { NothingAdded }

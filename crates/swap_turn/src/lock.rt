@@ -4,6 +4,7 @@ ghost use Rattle.swap_record.specs.History.{Row};
 ghost use Rattle.swap_turn.specs.Turns.{entries_of, IsEarlier, resting_seat, posed_seat, ticket_of, Extends, first_view, numbers_from};
 ghost use Rattle.swap_turn.specs.PassView.{pass_at_start, IsFreeOf, StandsFor, after_turn};
 ghost use Rattle.swap_turn.specs.declared.view.Stage.TheVariants.{Drawn, Serving};
+ghost use Rattle.swap_turn.specs.declared.TheConstants.{MOST_SEATS};
 
 use crate::bells::{Bells, NEAR};
 use crate::plays::{Draw, Look, NextNumber, Note, PassOn, TakeIn};
@@ -106,7 +107,7 @@ impl<T: Told + Drop, A: Allocator> TurnLock<T, A> {
     ) -> Result<(TurnLock<T, A>, Vec<Pass, A>), AllocError>
     where
         A: Clone,
-        requires seats { (1 ≤ seats) × (seats ≤ 64) }
+        requires seats { (1 ≤ seats) × (seats ≤ MOST_SEATS) }
         requires callers { All (λ (row : Row). row.entry.caller.0 < seats) (T.history value) }
         ensures seats { IfOk result (λ r. r.0.seats ≡ seats) }
         ensures passes { IfOk result

@@ -13,7 +13,7 @@ use Rattle.swap_wire.specs.declared.frames.Judged.TheVariants.{Whole, Partial, H
 use Rattle.swap_wire.specs.Frames.{form, form_of, kind, frame, NumbersFit, IsBytes, IsFrame, IsWhole, IsPartial, IsHopeless, longest}
 use Rattle.swap_wire.specs.Heads.{whole_length, judge_head, message, fields_in, page_of}
 use Rattle.swap_wire.specs.Decoding.{DecoderView, room, bytes_taken, feed_after, count_up, answered_after, Waits}
-use Rattle.swap_wire.specs.Streams.{Step, Fed, Asked, decoder_after, Happens, Runs, end_of, stream, messages_given, frames_of, AreSent, Splits, SaysBad}
+use Rattle.swap_wire.specs.Streams.{Step, Fed, Asked, decoder_after, Happens, Runs, end_of, stream, messages_given, frames_of, AreSent, Splits}
 use Rattle.swap_wire.specs.Laws.{BadStays}
 use Rattle.swap_wire.proofs.Bytes.{IsBytes-zeros}
 use Rattle.swap_wire.proofs.Fields.{pages_below, fields_short}
@@ -25,7 +25,7 @@ use Rattle.swap_wire.proofs.Judging.{whole_is, partial_is, hopeless_is, Front}
 fed_bad : (d : DecoderView) (bytes : List ℕ) → d.bad ≡ true → feed_after d bytes ≡ d
 fed_bad d bytes e = cond-true d.bad d (record d { rest = d.rest ++ take (room d) bytes }) e
 
-fed_alive : (d : DecoderView) (bytes : List ℕ) → d.bad ≡ false → feed_after d bytes ≡ record d { rest = d.rest ++ take (room d) bytes }
+pub fed_alive : (d : DecoderView) (bytes : List ℕ) → d.bad ≡ false → feed_after d bytes ≡ record d { rest = d.rest ++ take (room d) bytes }
 fed_alive d bytes e = cond-false d.bad d (record d { rest = d.rest ++ take (room d) bytes }) e
 
 bad_again : (d : DecoderView) → d.bad ≡ true → record d { bad = true } ≡ d
@@ -106,7 +106,7 @@ pair_is g h p q = ap (λ (m : Msg). (m, g.1)) p ∙ ap (λ (page : List ℕ). (h
 cons_is : {A : Type 0} (x y : A) (xs ys : List A) → x ≡ y → xs ≡ ys → x ∷ xs ≡ y ∷ ys
 cons_is x y xs ys p q = cc
 
-again : (n f : ℕ) → count_up (count_up n + f) ≡ count_up (n + f)
+pub again : (n f : ℕ) → count_up (count_up n + f) ≡ count_up (n + f)
 again n f = omega arith
 
 whole_front : (side : Side) (page_bytes : ℕ) (bytes : List ℕ) (k : Kind) → Front side page_bytes bytes k → IsWhole side page_bytes bytes

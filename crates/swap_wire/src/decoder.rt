@@ -98,7 +98,8 @@ impl Decoder {
     pub fn next(&mut self, page: &mut [u8]) -> Next
         requires { length page.old ≡ self.old.page_bytes }
         ensures answer { Answers self.old result (page_in self.old result page.new) }
-        ensures after { self.new ≡ answered_after self.old result (page_in self.old result page.new) }
+        ensures after { self.new
+            ≡ answered_after self.old result (page_in self.old result page.new) }
         ensures page { page.new ≡ page_in self.old result page.new
             ++ drop (length (page_in self.old result page.new)) page.old }
         ensures got { GivesTheOneInFront self.old result }
@@ -114,7 +115,8 @@ impl Decoder {
         requires { length page.old ≡ self.old.page_bytes }
         ensures told { result ≡ next_told self.old }
         ensures left { self.new ≡ left_after self.old }
-        ensures page { page.new ≡ bytes_shown self.old ++ drop (length (bytes_shown self.old)) page.old }
+        ensures page { page.new
+            ≡ bytes_shown self.old ++ drop (length (bytes_shown self.old)) page.old }
         ensures page_bytes { self.old.page_bytes ≤ 4096 }
         ensures bytes { self.old.bad ≡ false → IsBytes self.old.rest }
         ensures bad { self.old.bad ≡ true

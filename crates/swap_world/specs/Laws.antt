@@ -11,7 +11,7 @@ use Rattle.swap_record.specs.History.{IsOrdered, IsLegal}
 use Rattle.swap_disk.specs.declared.port.DiskPort.{Ghosts as DiskMeaning}
 use Rattle.swap_disk.specs.MemDiskView as drive
 use Rattle.swap_disk.specs.MemDiskView.{MemDiskView}
-use Rattle.swap_slabs.specs.declared.TheConstants.{MOST_LENDERS}
+use Rattle.swap_base.specs.declared.TheConstants.{MOST_LENDERS}
 use Rattle.swap_link.specs.Harbor as harbor
 use Rattle.swap_link.specs.Harbor.{Harbor}
 use Rattle.swap_table.specs.Device.{Device, device_at_start}

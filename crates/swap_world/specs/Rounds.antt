@@ -1,6 +1,5 @@
 -- A Round is a plan of other events, each of which goes by what was seen before it.
 use Rattle.std.specs.Prelude.{◌≡◌, ℕ, zero, suc, ◌+◌, Bool, true, false, if◌then◌else◌, List, []}
-use Rattle.swap_base.specs.declared.Lender.{Lender}
 use Rattle.swap_base.specs.Sizes.{Sizes}
 use Rattle.swap_disk.specs.Port.{DiskCall, DiskAnswer}
 use Rattle.swap_wire.specs.Fabric.{FabricCall, FabricAnswer}

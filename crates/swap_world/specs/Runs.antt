@@ -14,7 +14,7 @@ use Rattle.swap_disk.specs.Disk.{Taken}
 use Rattle.swap_wire.specs.Fabric.{FabricCall, FabricAnswer}
 use Rattle.swap_disk.specs.declared.port.DiskPort.{Ghosts as DiskMeaning}
 use Rattle.swap_wire.specs.declared.fabric.Fabric.{Ghosts as FabricMeaning}
-use Rattle.swap_slabs.specs.declared.TheConstants.{MOST_LENDERS}
+use Rattle.swap_base.specs.declared.TheConstants.{MOST_LENDERS}
 use Rattle.swap_disk.specs.Port.{DiskCall, DiskAnswer, TakeDone}
 use Rattle.swap_base.specs.declared.Caller.{Caller}
 use Rattle.swap_calls.specs.Calls.{Call, is_idle, state_of, call_of}

@@ -4,7 +4,7 @@ ghost use Rattle.swap_calls.specs.Calls.{is_idle, state_of};
 ghost use Rattle.swap_table.specs.Happens.{happens};
 ghost use Rattle.swap_device.specs.State.{KeepsRoom, Went};
 ghost use Rattle.swap_wire.specs.Input.{IsInRange};
-ghost use Rattle.swap_slabs.specs.declared.TheConstants.{MOST_LENDERS};
+ghost use Rattle.swap_base.specs.declared.TheConstants.{MOST_LENDERS};
 ghost use Rattle.swap_world.specs.Runs.{has_effect, HasSpare, GivesPage, Steps};
 
 use crate::rounds::round;

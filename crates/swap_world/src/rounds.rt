@@ -2,7 +2,7 @@
 ghost use Rattle.std.specs.Prelude.{◌≡◌, ◌+◌, ◌*◌, ◌<◌, ◌≤◌, []};
 ghost use Rattle.swap_table.specs.Device.{of_device};
 ghost use Rattle.swap_device.specs.State.{KeepsRoom};
-ghost use Rattle.swap_slabs.specs.declared.TheConstants.{MOST_LENDERS};
+ghost use Rattle.swap_base.specs.declared.TheConstants.{MOST_LENDERS};
 ghost use Rattle.swap_world.specs.Rounds.{plan_again, each_lender, Plan, Continues};
 ghost use Rattle.swap_world.specs.Runs.{Steps};
 

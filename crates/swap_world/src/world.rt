@@ -6,17 +6,17 @@ ghost use Rattle.swap_table.specs.Device.{of_device, device_at_start};
 ghost use Rattle.swap_table.specs.Happens.{see_out, see_in, see_step, see_start, see_disk, see_tick, see_map, see_link, see_gave, see_cut, see_crash, see_host, see_take};
 ghost use Rattle.swap_table.specs.Fits.{IsBlank};
 ghost use Rattle.swap_device.specs.State.{KeepsRoom};
-ghost use Rattle.swap_slabs.specs.declared.TheConstants.{MOST_LENDERS};
+ghost use Rattle.swap_base.specs.declared.TheConstants.{MOST_LENDERS};
 ghost use Rattle.swap_world.specs.Runs.{has_effect, event_of, logged_if, logged_polled, IsReached, IsPolled, HasSpare, Steps, Adds, IsLogged, GivesPage, StaysIdle, GrowsByCalls};
+ghost use Rattle.swap_record.specs.declared.TheConstants.{MOST_ENTRIES};
 
 use crate::events::happen;
 use std::alloc::Global;
 use std::marker::Model;
-use swap_base::{DiskWhich, EntryNo, Geometry, Link, NoMemory, Page};
+use swap_base::{DiskWhich, EntryNo, Geometry, Link, MOST_LENDERS, NoMemory, Page};
 use swap_device::DeviceCore;
 use swap_disk::DiskPort;
 use swap_record::ReserveRefused;
-use swap_slabs::MOST_LENDERS;
 use swap_table::{DiskStep, InStep, LinkStep, OutStep, Placed, Step, ports_promise};
 use swap_wire::{Event, Fabric, Gave, Hosted, Seen};
 
@@ -57,7 +57,7 @@ impl<D: DiskPort, F: Fabric> World<D, F> {
         ensures spare { OnOk result (self.new.core.spare ≡ max self.old.core.spare calls) }
         ensures log_spare { OnOk result (events ≤ self.new.log_spare) }
         ensures too_many { (result ≡ Err ReserveRefused.TooMany)
-            ↔ (4_194_304 < length self.old.core.device.history + calls) }
+            ↔ (MOST_ENTRIES < length self.old.core.device.history + calls) }
     {
         self.device.reserve(calls)?;
         if self.log.reserve(events).is_err() {

@@ -6,7 +6,6 @@ use Rattle.swap_base.specs.declared.Lender.{Lender}
 use Rattle.swap_wire.specs.declared.Msg.{Msg}
 use Rattle.swap_wire.specs.Fabric.{Parcel, parcel_of, carries_page, Handed, Brought, NothingCame, LinkLost, FabricCall, Take, FabricAnswer}
 use Rattle.swap_link.specs.Harbor as harbor
-use Rattle.swap_link.specs.Harbor.{Harbor}
 use Rattle.swap_link.specs.lemmas.HarborLaws as laws
 use Rattle.swap_hostile.specs.Lying.{Lying, of_lying, lie, lie_told, Moves}
 

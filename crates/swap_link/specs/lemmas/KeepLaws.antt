@@ -47,7 +47,7 @@ pub left-append :
 left-append k i [] p was = refl
 left-append k i (q ∷ ps) p was = left-append k i ps p (left_by k i q.msg q.page was)
 
-left-kept :
+pub left-kept :
     (k : Lease) (i : ℕ) (m : Msg) (page : List ℕ) (was : Option (List ℕ)) → replaces k i m ≡ false
     → left_by k i m page was ≡ was
 left-kept k i (msg.Write lease place) page was e = cond-false ((lease.0 == k.0) && (place == i)) (Some page) was e

@@ -128,7 +128,7 @@ free-has : (n : Link) (k : Lease) (s : SlotState) → is_free s ≡ true → has
 free-has n k Free e = refl
 free-has n k (Held other slab lease evicting) e = cc
 
-lowest-has :
+pub lowest-has :
     (slots : List SlotState) (n : Link) (k : Lease)
     → has_lease n k (get_or slots (first_where is_free slots) Free) ≡ false
 lowest-has slots n k = elim (cases_lt (first_where is_free slots) (length slots)) [

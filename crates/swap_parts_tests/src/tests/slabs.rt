@@ -3,8 +3,8 @@ ghost use Rattle.swap_slabs.specs.Slabs.{is_local, is_borrowing, is_mapped, flyi
 
 use std::process::Abort;
 use std::test::Fail;
-use swap_base::{Geometry, Lease, Lender, Slab};
-use swap_slabs::{Chosen, MOST_FLYING, MOST_LENDERS, Pair, Reply, SlabState, Slabs};
+use swap_base::{Geometry, Lease, Lender, MOST_LENDERS, MOST_WINDOW, Slab};
+use swap_slabs::{Chosen, Pair, Reply, SlabState, Slabs};
 
 fn is_local(state: SlabState) -> bool
     ensures { result ≡ is_local state }
@@ -157,7 +157,7 @@ fn begin(rt: &impl Abort, slabs: &mut Slabs, slab: Slab)
 {
     let state = slabs.state(slab);
     assert!(rt; is_mapped(state));
-    assert!(rt; flying_of(state) < MOST_FLYING);
+    assert!(rt; flying_of(state) < MOST_WINDOW);
     slabs.begin(slab);
 }
 
@@ -337,7 +337,7 @@ fn sixty_four_requests_fly(rt: HostRuntime) -> Result<(), Fail> {
     assert!(rt; sizes.slabs() == 4);
     borrow(&rt, &mut slabs, Slab(3), 0);
     lent(&rt, &mut slabs, Slab(3), 5);
-    for _ in 0..MOST_FLYING {
+    for _ in 0..MOST_WINDOW {
         begin(&rt, &mut slabs, Slab(3));
     }
     assert!(rt; slabs.state(Slab(3)) == mapped(0, 5, 64));

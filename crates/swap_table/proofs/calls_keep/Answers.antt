@@ -1,4 +1,4 @@
-use Rattle.swap_table.proofs.EachCall.{each_call_keeps, new_agrees}
+use Rattle.swap_table.proofs.CallsKeepAgreement.{each_call_keeps, new_agrees}
 use Rattle.swap_table.proofs.calls_keep.Goals as goal
 
 pub returns-clause-each : goal.returns-clause-each

@@ -1,4 +1,4 @@
-use Rattle.swap_world.proofs.Since as since
+use Rattle.swap_world.proofs.ReadsHaveTheirCause as since
 use Rattle.swap_world.proofs.again_has_cause.Goals as goal
 
 pub returns : goal.returns

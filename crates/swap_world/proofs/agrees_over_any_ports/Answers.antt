@@ -1,4 +1,4 @@
-use Rattle.swap_world.proofs.Runs.{agrees}
+use Rattle.swap_world.proofs.HoldsAfterRuns.{agrees}
 use Rattle.swap_world.proofs.agrees_over_any_ports.Goals as goal
 
 pub returns : goal.returns

@@ -1,4 +1,4 @@
-use Rattle.swap_world.proofs.Runs.{always_agrees}
+use Rattle.swap_world.proofs.HoldsAfterRuns.{always_agrees}
 use Rattle.swap_world.proofs.always_agrees.Goals as goal
 
 pub returns : goal.returns

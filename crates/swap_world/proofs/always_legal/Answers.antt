@@ -1,4 +1,4 @@
-use Rattle.swap_world.proofs.Runs.{always_legal}
+use Rattle.swap_world.proofs.HoldsAfterRuns.{always_legal}
 use Rattle.swap_world.proofs.always_legal.Goals as goal
 
 pub returns : goal.returns

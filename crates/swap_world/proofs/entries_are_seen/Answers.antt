@@ -1,4 +1,4 @@
-use Rattle.swap_world.proofs.Runs.{entries_are_seen}
+use Rattle.swap_world.proofs.HoldsAfterRuns.{entries_are_seen}
 use Rattle.swap_world.proofs.entries_are_seen.Goals as goal
 
 pub returns : goal.returns

@@ -13,9 +13,9 @@ use Rattle.swap_world.specs.World.{World, Next, Planned, without_parts, next, ne
 use Rattle.swap_world.specs.Rounds.{Plan, Stop, Make, round_plan, AlongPlan, StepOf}
 use Rattle.swap_wire.specs.declared.Event.{Event}
 use Rattle.swap_wire.specs.declared.Event.TheVariants as event
-use Rattle.swap_world.proofs.Parts.{event_adds}
+use Rattle.swap_world.proofs.RoundsKeepPlans.{event_adds}
 use Rattle.swap_world.specs.Runs.{GoesOn}
-use Rattle.swap_world.proofs.Counted.{adds_go_on}
+use Rattle.swap_world.proofs.CountsStayTrue.{adds_go_on}
 use Rattle.swap_world.proofs.histories_go_on.Goals as goal
 
 -- what a program computes goes along it

@@ -1,4 +1,4 @@
-use Rattle.swap_world.proofs.Runs.{holds}
+use Rattle.swap_world.proofs.HoldsAfterRuns.{holds}
 use Rattle.swap_world.proofs.over_any_ports.Goals as goal
 
 pub returns : goal.returns

@@ -1,4 +1,4 @@
-use Rattle.swap_world.proofs.Runs as runs
+use Rattle.swap_world.proofs.HoldsAfterRuns as runs
 use Rattle.swap_world.proofs.steps_are_next.Goals as goal
 
 pub returns : goal.returns

@@ -1,7 +1,5 @@
 use Rattle.std.proofs.Common.{rules, ◌≡◌, ◌∙◌, ap, sym, None, Some}
-use Rattle.swap_base.specs.Sizes.{Sizes}
 use Rattle.swap_disk.specs.Port.{TellsOldest}
-use Rattle.swap_world.specs.Runs.{WorldView}
 use Rattle.swap_board.specs.Works.{known_operation}
 use Rattle.swap_board.proofs.Working.{ended_some, ended_none}
 use Rattle.swap_board.proofs.works.end_oldest.Goals as goal

@@ -1,6 +1,5 @@
 use Rattle.std.proofs.Common.{rules, ◌≡◌, ◌∙◌, ap, sym, length}
 use Rattle.swap_board.specs.Works.{moved_between}
-use Rattle.swap_board.specs.declared.works.Moved.{Moved}
 use Rattle.swap_board.proofs.Working.{makes_as}
 use Rattle.swap_board.proofs.works.make.Goals as goal
 

@@ -1,7 +1,7 @@
 use Rattle.std.proofs.Common.{◌≡◌, ◌+◌, ◌-◌, ◌∷◌, ap, sym, ◌∙◌, subst, arith}
 use Rattle.rand_pcg.specs.Pcg.{pcg32}
 use Rattle.swap_trace.specs.Draws.{draws}
-use Rattle.swap_table.proofs.Lists.{one_if}
+use Rattle.swap_base.proofs.Lists.{one_if}
 use Rattle.swap_drill.specs.Drill.{after, connects}
 use Rattle.swap_drill.specs.Steps.{world_in}
 use Rattle.swap_drill.specs.Summary.{IsUnderWay, is_busy}

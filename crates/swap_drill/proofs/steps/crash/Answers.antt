@@ -1,7 +1,7 @@
 use Rattle.std.proofs.Common.{◌%◌, ◌/◌, ◌==◌, [], ◌∷◌}
 use Rattle.std.proofs.lemmas.Bool.{eq-eqb}
 use Rattle.swap_wire.specs.declared.Event.TheVariants as event
-use Rattle.swap_table.proofs.Lists.{not_eqb}
+use Rattle.swap_base.proofs.Lists.{not_eqb}
 use Rattle.swap_drill.specs.Drill.{plain_input, lender}
 use Rattle.swap_drill.specs.Steps.{world_in}
 use Rattle.swap_drill.proofs.Afters.{and_then, after_if, after_unless}

@@ -1,5 +1,5 @@
 use Rattle.std.proofs.Common.{◌%◌, ◌==◌}
-use Rattle.swap_table.proofs.Lists.{not_eqb}
+use Rattle.swap_base.proofs.Lists.{not_eqb}
 use Rattle.swap_drill.specs.Steps.{world_in}
 use Rattle.swap_drill.proofs.Afters.{after_unless}
 use Rattle.swap_drill.proofs.steps.use_host.Goals as goal

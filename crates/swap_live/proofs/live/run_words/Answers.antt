@@ -2,8 +2,9 @@ use Rattle.std.proofs.Common.{◌∙◌, Some, map, refl, ap}
 use Rattle.swap_options.specs.Play.{play_asked}
 use Rattle.swap_live.specs.declared.live.LiveCommand.{LiveCommand}
 use Rattle.swap_live.specs.Live.{command_is, command_of}
-use Rattle.swap_live.proofs.Living.{keeps_same, lent, played, wanted}
+use Rattle.swap_live.proofs.Living.{lent, played, wanted}
 use Rattle.swap_live.proofs.live.run_words.Goals as goal
+use Rattle.swap_run.proofs.Ends.{keeps_same}
 
 pub returns-in-Ok-Lend : goal.returns-in-Ok-Lend
 returns-in-Ok-Lend g c =

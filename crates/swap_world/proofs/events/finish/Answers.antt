@@ -2,7 +2,7 @@ use Rattle.std.proofs.Common.{◌≡◌, false, rules}
 use Rattle.swap_table.specs.Ports.{Prog, Along}
 use Rattle.swap_table.specs.Device as device
 use Rattle.swap_table.specs.Device.{Device}
-use Rattle.swap_table.proofs.Lists.{chosen}
+use Rattle.swap_base.proofs.Lists.{chosen}
 use Rattle.swap_table.proofs.Programs.{Along-answering}
 use Rattle.swap_calls.specs.Calls.{is_idle, state_of}
 use Rattle.swap_wire.specs.declared.Seen.{Seen}

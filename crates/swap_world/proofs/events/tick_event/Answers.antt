@@ -1,7 +1,7 @@
 use Rattle.swap_table.specs.Device as device
 use Rattle.swap_table.specs.Happens.{see_tick}
 use Rattle.swap_table.proofs.Programs.{Along-answering}
-use Rattle.swap_world.proofs.Parts.{tick_acts}
+use Rattle.swap_world.proofs.RoundsKeepPlans.{tick_acts}
 use Rattle.swap_world.proofs.events.tick_event.Goals as goal
 
 pub returns-clause-step : goal.returns-clause-step

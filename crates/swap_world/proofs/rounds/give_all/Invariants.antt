@@ -2,7 +2,7 @@ use Rattle.std.proofs.Common.{◌-◌, ◌≡◌, ◌≤◌, ℕ}
 use Rattle.swap_wire.specs.declared.Event.TheVariants as event
 use Rattle.swap_table.specs.Device.{of_device}
 use Rattle.swap_device.specs.State.{KeepsRoom}
-use Rattle.swap_world.proofs.Parts.{GoesOn}
+use Rattle.swap_world.proofs.RoundsKeepPlans.{GoesOn}
 use Rattle.swap_world.proofs.rounds.give_all.Given as goal
 
 abbrev pub invariant-messages : goal.invariant-messages

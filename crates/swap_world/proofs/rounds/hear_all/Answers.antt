@@ -1,5 +1,5 @@
 use Rattle.std.proofs.Common.{◌≡◌, ◌≤◌, ◌<◌, ◌+◌, ◌*◌, ◌∙◌, arith, rules}
-use Rattle.swap_world.proofs.Parts.{lender_heard}
+use Rattle.swap_world.proofs.RoundsKeepPlans.{lender_heard}
 use Rattle.swap_world.proofs.rounds.hear_all.Goals as goal
 
 pub each-preserved : goal.each-preserved

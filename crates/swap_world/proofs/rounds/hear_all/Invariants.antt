@@ -1,7 +1,7 @@
 use Rattle.std.proofs.Common.{◌*◌, ◌≡◌, ◌≤◌, ℕ}
 use Rattle.swap_table.specs.Device.{of_device}
 use Rattle.swap_device.specs.State.{KeepsRoom}
-use Rattle.swap_world.proofs.Parts.{HeardOn}
+use Rattle.swap_world.proofs.RoundsKeepPlans.{HeardOn}
 use Rattle.swap_world.proofs.rounds.hear_all.Given as goal
 
 abbrev pub invariant-each : goal.invariant-each

@@ -4,7 +4,7 @@ use Rattle.swap_wire.specs.Fabric.{FabricOf}
 use Rattle.swap_wire.specs.declared.Event.TheVariants as event
 use Rattle.swap_table.specs.Device.{of_device}
 use Rattle.swap_world.specs.Rounds.{most_messages}
-use Rattle.swap_world.proofs.Parts.{step_of, round_steps}
+use Rattle.swap_world.proofs.RoundsKeepPlans.{step_of, round_steps}
 use Rattle.swap_world.proofs.rounds.round.Goals as goal
 
 pub hear_all-first-requires-clause-lenders : goal.hear_all-first-requires-clause-lenders

@@ -1,7 +1,7 @@
 use Rattle.std.proofs.Common.{◌≡◌, ◌≤◌, ◌<◌, ◌+◌, ◌∙◌, true, false, refl, arith, rules}
 use Rattle.swap_wire.specs.declared.Event.TheVariants as event
 use Rattle.swap_world.specs.Rounds.{has_effect}
-use Rattle.swap_world.proofs.Parts.{loop_goes, loop_breaks, loop_ends, step_of}
+use Rattle.swap_world.proofs.RoundsKeepPlans.{loop_goes, loop_breaks, loop_ends, step_of}
 use Rattle.swap_world.proofs.rounds.take_all.Goals as goal
 
 pub messages-preserved : goal.messages-preserved

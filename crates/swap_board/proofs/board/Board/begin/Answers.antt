@@ -3,7 +3,7 @@ use Rattle.rand_pcg.specs.Lcg.{Lcg}
 use Rattle.swap_wire.specs.Input.{Input, IsInRange}
 use Rattle.swap_wire.specs.Fabric.{FabricOf}
 use Rattle.swap_table.specs.Device.{Device, of_device}
-use Rattle.swap_board.specs.Boards.{BoardView, IsBoard}
+use Rattle.swap_board.specs.Boards.{IsBoard}
 use Rattle.swap_board.specs.Works.{Paced}
 use Rattle.swap_board.proofs.Boards.{board_same, board_begun, makes_begun, begins, call_adds}
 use Rattle.swap_board.proofs.Telling.{event_told}

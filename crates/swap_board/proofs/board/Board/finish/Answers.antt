@@ -1,11 +1,9 @@
 use Rattle.std.proofs.Common.{rules, arith, ◌≡◌, ◌<◌, ◌≤◌, ◌+◌, ◌∙◌, ap, sym, refl, subst, [], ◌∷◌, false, ℕ, length}
 use Rattle.swap_base.specs.Sizes.{Sizes}
-use Rattle.swap_wire.specs.Input.{Input, IsInRange}
+use Rattle.swap_wire.specs.Input.{Input}
 use Rattle.swap_wire.specs.Fabric.{FabricOf}
 use Rattle.swap_wire.specs.declared.Event.TheVariants as event
-use Rattle.swap_table.specs.Device.{Device}
 use Rattle.swap_board.specs.Acts.{Makes, Made, Player}
-use Rattle.swap_board.specs.Boards.{BoardView}
 use Rattle.swap_board.specs.Works.{IsSame}
 use Rattle.swap_board.proofs.Acts.{makes_after}
 use Rattle.swap_board.proofs.Boards.{board_same, board_finished, finish_adds}

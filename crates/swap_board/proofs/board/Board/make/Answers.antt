@@ -1,9 +1,5 @@
 use Rattle.std.proofs.Common.{rules, arith, ◌≡◌, ◌≤◌, ◌∙◌, ap, sym, subst, refl, [], ℕ, List, length, Some, Option}
 use Rattle.std.specs.Vec.{vec_capacity}
-use Rattle.swap_wire.specs.declared.Event.{Event}
-use Rattle.swap_base.specs.Sizes.{Sizes}
-use Rattle.swap_world.specs.Runs.{WorldView}
-use Rattle.swap_table.specs.Device.{Device}
 use Rattle.swap_board.specs.Boards.{Named, IsBoard, seed_of, AreOperators}
 use Rattle.swap_board.specs.Works.{IsSame}
 use Rattle.swap_board.proofs.Boards.{board_made}

@@ -2,10 +2,9 @@ use Rattle.std.proofs.Common.{rules, arith, ◌≡◌, ◌≢◌, ◌<◌, ◌�
 use Rattle.swap_wire.specs.Fabric.{FabricOf}
 use Rattle.swap_wire.specs.declared.Event.{Event}
 use Rattle.swap_table.specs.Device.{Device}
-use Rattle.swap_board.specs.Acts.{Operator, IsOperators, since_after}
+use Rattle.swap_board.specs.Acts.{Operator, IsOperators}
 use Rattle.swap_board.specs.Boards.{IsBoard, IsOperatorsOf}
 use Rattle.swap_board.specs.Works.{IsSame, MakesOne}
-use Rattle.swap_board.specs.declared.works.Moved.{Moved}
 use Rattle.swap_board.specs.declared.works.Moved.TheVariants as moved
 use Rattle.swap_board.proofs.Boards.{board_same, board_operated, all_at, made_none, made_one, operates_as}
 use Rattle.swap_board.proofs.board.Board.operate.Goals as goal

@@ -1,8 +1,9 @@
 use Rattle.std.proofs.Common.{sym, ◌∙◌}
 use Rattle.swap_device.proofs.Goes.{may_go}
-use Rattle.swap_device.proofs.Free.{read_free, source_target}
+use Rattle.swap_device.proofs.Free.{read_free}
 use Rattle.swap_device.proofs.Ready.{agree_ready}
 use Rattle.swap_device.proofs.machine.Machine.route.Goals as goal
+use Rattle.swap_table.proofs.EventsGoByMoves.{source_target}
 
 pub read_at-requires-clause-free : goal.read_at-requires-clause-free
 read_at-requires-clause-free g c = read_free _ _ _ _ _ c.requires.agree.0.disk c.requires.may_read

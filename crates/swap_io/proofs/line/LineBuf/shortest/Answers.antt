@@ -3,12 +3,13 @@ use Rattle.std.proofs.lemmas.List.{take_all}
 use Rattle.swap_io.specs.Words.{hex}
 use Rattle.swap_io.proofs.Shortest.{hex_more, hex_room}
 use Rattle.swap_io.proofs.line.LineBuf.shortest.Goals as goal
+use Rattle.swap_io.specs.declared.TheConstants.{LINE_LENGTH}
 
 pub text-requires : goal.text-requires
 text-requires c =
     let piece = take c.shortest_len.result c.args.page.now in
-    let fits : length c.args.self.now + length (hex piece) ≤ 10000 = rw c.shortest_len.ensures.piece c.requires in
-    rw c.loop-byte.invariant (hex_room c.args.self.now piece c.loop-byte.byte-index 10000 (omega arith) fits)
+    let fits : length c.args.self.now + length (hex piece) ≤ LINE_LENGTH = rw c.shortest_len.ensures.piece c.requires in
+    rw c.loop-byte.invariant (hex_room c.args.self.now piece c.loop-byte.byte-index LINE_LENGTH (omega arith) fits)
 
 pub loop-byte-preserved : goal.loop-byte-preserved
 loop-byte-preserved c =

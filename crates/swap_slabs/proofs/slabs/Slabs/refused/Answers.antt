@@ -2,7 +2,7 @@ use Rattle.std.proofs.Common.{◌≡◌, ◌<◌, true, false, List, length, sym
 use Rattle.swap_places.specs.Line.{stands}
 use Rattle.swap_slabs.specs.declared.SlabState.{SlabState}
 use Rattle.swap_slabs.specs.declared.SlabState.TheVariants.{Borrowing}
-use Rattle.swap_slabs.specs.declared.TheConstants.{MOST_LENDERS}
+use Rattle.swap_base.specs.declared.TheConstants.{MOST_LENDERS}
 use Rattle.swap_slabs.specs.Slabs.{state_of}
 use Rattle.swap_slabs.specs.Kept.{StateFits}
 use Rattle.swap_slabs.specs.Rows.{RowView, SetsBorrowing}

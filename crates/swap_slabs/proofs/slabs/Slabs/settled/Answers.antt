@@ -1,7 +1,7 @@
 use Rattle.std.proofs.Common.{◌≡◌, ◌-◌, ◌<◌, ◌≤◌, List, length, sym, ap, ◌∙◌, subst, arith}
 use Rattle.swap_slabs.specs.declared.SlabState.{SlabState}
 use Rattle.swap_slabs.specs.declared.SlabState.TheVariants.{Mapped}
-use Rattle.swap_slabs.specs.declared.TheConstants.{MOST_LENDERS, MOST_FLYING}
+use Rattle.swap_base.specs.declared.TheConstants.{MOST_LENDERS, MOST_WINDOW}
 use Rattle.swap_slabs.specs.Slabs.{state_of, is_mapped, lender_of, leased_of}
 use Rattle.swap_slabs.specs.Kept.{StateFits}
 use Rattle.swap_slabs.specs.Rows.{one_if}
@@ -15,7 +15,7 @@ invariant_of-self c =
     subst (λ (l : List SlabState). c.args.slab.0 < length l) (sym c.self.view_is) c.requires.slab in
     let was : state_of c.self.inside.states.items c.args.slab ≡ Mapped c.in-Mapped.lender c.in-Mapped.lease c.in-Mapped.flying =
     state_read c.self.inside.states.items c.args.slab c.index.result.now lt c.index.ensures ∙ c.in-Mapped.is in
-    let range : (c.in-Mapped.lender.0 < MOST_LENDERS) × (c.in-Mapped.flying ≤ MOST_FLYING) = subst StateFits was (c.self.invariant.slabs.fits c.args.slab) in
+    let range : (c.in-Mapped.lender.0 < MOST_LENDERS) × (c.in-Mapped.flying ≤ MOST_WINDOW) = subst StateFits was (c.self.invariant.slabs.fits c.args.slab) in
     fits_kept c.self.inside.states.items c.args.slab
     (Mapped c.in-Mapped.lender c.in-Mapped.lease (c.in-Mapped.flying - 1)) c.self.inside.rows.items c.self.inside.mapped c.self.inside.mapped lt
     c.self.invariant

@@ -1,5 +1,5 @@
 use Rattle.std.proofs.Common.{refl}
-use Rattle.swap_world.proofs.Reached.{reached_new}
+use Rattle.swap_world.proofs.ReachedGoesOn.{reached_new}
 use Rattle.swap_world.proofs.world.World.make.Goals as goal
 
 pub invariant_of-result : goal.invariant_of-result

@@ -1,5 +1,5 @@
 use Rattle.std.proofs.Common.{arith, ap, sym, ◌∙◌, ◌≡◌, ◌-◌, length, vec_capacity}
-use Rattle.swap_world.proofs.Reached.{reached_counts, reached_polled, is_polled, polled_of}
+use Rattle.swap_world.proofs.ReachedGoesOn.{reached_counts, reached_polled, is_polled, polled_of}
 use Rattle.swap_wire.specs.Fabric.{FabricOf}
 use Rattle.swap_table.specs.Device.{Device}
 use Rattle.swap_table.specs.declared.DiskStep.{DiskStep}

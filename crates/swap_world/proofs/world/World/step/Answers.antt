@@ -2,8 +2,8 @@ use Rattle.std.proofs.Common.{arith, ap, sym, ◌∙◌, ◌≡◌, ◌-◌, len
 use Rattle.swap_wire.specs.Input.{Input}
 use Rattle.swap_wire.specs.Fabric.{FabricOf}
 use Rattle.swap_table.specs.Device.{of_device}
-use Rattle.swap_world.proofs.Parts.{event_adds, event_grows, event_stays}
-use Rattle.swap_world.proofs.Reached.{reached_counts, reached_step, reached_of, reached_idle}
+use Rattle.swap_world.proofs.RoundsKeepPlans.{event_adds, event_grows, event_stays}
+use Rattle.swap_world.proofs.ReachedGoesOn.{reached_counts, reached_step, reached_of, reached_idle}
 use Rattle.swap_world.proofs.world.World.step.Goals as goal
 
 pub happen-seen-requires-clause-writes : goal.happen-seen-requires-clause-writes
